@@ -1,9 +1,9 @@
 //! What the turns of a run tell of one handler.
 
 use sc_explain_waiting::{Asked, asked_by};
+use sc_handler::Log;
 use sc_model::Cause;
 use sc_region::{Errand, Job, Value, Want};
-use sc_request::Log;
 
 /// A turn of a handler: what it had to do, and what that came to.
 #[derive(Clone, Copy)]

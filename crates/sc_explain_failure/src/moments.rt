@@ -8,10 +8,9 @@ use sc_explain_waiting::{
     Asked, RunSource, asked_by, push_attributes, push_callers, push_false_clause, push_name,
     push_operation_values, push_request, push_stand,
 };
-use sc_handler::{Log, Settlement};
+use sc_handler::Log;
 use sc_model::{Cause, Status};
 use sc_region::BrokenInvariant;
-use sc_request::Log;
 use sc_world::World;
 use std::alloc::{AllocError, Global};
 

@@ -10,19 +10,20 @@ use Rattle.sc_model.specs.Handlers as machine
 use Rattle.sc_model.specs.Runs.{opening, run}
 use Rattle.sc_model.proofs.Joins.{run_append}
 use Rattle.sc_code.specs.declared.program.Image.{Image}
+<<<<<<< HEAD
+=======
+use Rattle.sc_region.specs.declared.job.Want.TheVariants as want
+use Rattle.sc_handler.specs.declared.settlement.Settlement.{Settlement}
+use Rattle.sc_handler.specs.Handlers.{State}
+>>>>>>> h-c
 use Rattle.sc_request.specs.Cores.{log_of, state_of}
 use Rattle.sc_request.specs.Laws.{PicksWhereTurns}
-use Rattle.sc_request.specs.Logs.{Plays, pick_for}
-use Rattle.sc_play.specs.Regions.{PlainRegion, new_region}
-use Rattle.sc_worklog.specs.Replaying.{AreMade, IsMade}
-use Rattle.sc_world.specs.Turning.{Runs}
-use Rattle.sc_world.specs.Worlds.{PlainWorld, max_handlers, new_regions, opened}
-use Rattle.sc_world.proofs.SettledPicks.{picks_job, set_other, set_same, settled_out, settled_state}
-use Rattle.sc_world.proofs.MoreTurns.{picks_again, runs_join}
-use Rattle.sc_world.proofs.AtOnce.{after, all_turns, region}
-use Rattle.sc_plant.specs.Due.{AreBelow, PlaysTo}
-use Rattle.sc_plant.specs.Left.{AreMadeBy}
-use Rattle.sc_plant.specs.Recorded.{settlements_for, turns_of}
+use Rattle.sc_world.specs.Turning.{MakeTurns, Runs}
+use Rattle.sc_world.specs.Worlds.{PlainWorld, opened}
+use Rattle.sc_search.proofs.LineTurns.{runs-more}
+use Rattle.sc_plant.specs.Left.{RunsAreOneThreads}
+use Rattle.sc_plant.specs.OneThread.{EndsIn}
+use Rattle.sc_plant.specs.Recorded.{turns_of}
 use Rattle.sc_refines_world.specs.Refining.{WorldRunsAsMachine}
 use Rattle.sc_refines_world.proofs.RoundTurns.{WorldsStand, turns_where}
 use Rattle.sc_headline.specs.Headline.{HaveTurns}

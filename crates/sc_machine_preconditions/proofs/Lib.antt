@@ -1,5 +1,4 @@
 pub mod Lists
-pub mod PendingAnswers
 pub mod OthersAsked
 pub mod OthersFollow
 pub mod OthersLocal
@@ -9,19 +8,15 @@ pub mod OthersStack
 pub mod OthersTake
 pub mod OthersWorlds
 pub mod OwnAsks
-pub mod ClauseCalls
 pub mod OwnClauses
 pub mod OwnEntries
 pub mod OwnFollows
 pub mod OwnKept
 pub mod OwnMore
 pub mod OwnMoves
-pub mod PlainCalls
 pub mod OwnPlain
-pub mod PureCallers
 pub mod OwnPure
 pub mod OwnWorlds
-pub mod BoundExpressions
 pub mod PointsBound
 pub mod PointsClauses
 pub mod PointsEntries

@@ -1,7 +1,7 @@
 -- The turn of a handler of which no frame evaluates: so it is after it, but for a routine that is entered.
 use Rattle.std.proofs.Common.{ℕ, ◌≡◌, ◌⊎◌, ◌<◌, ◌==◌, ◌&&◌, ◌||◌, not, Bool, true, false, List, [], ◌∷◌, ◌++◌, Option, Some, None, refl, sym, ap, subst, ◌∙◌, inl, inr, arith}
-use Rattle.std.proofs.lemmas.Bool.{ne_eqb}
-use Rattle.std.specs.Prelude.{nat_lt}
+use Rattle.std.proofs.lemmas.Bool.{eq-eqb, ne_eqb}
+use Rattle.std.specs.Prelude.{if◌then◌else◌, is_some, length, nat_lt}
 use Rattle.std.specs.Option.{option_and_then, option_map}
 use Rattle.sc_tree.specs.Plain as tree
 use Rattle.sc_tree.specs.Plain.{System, Clause, FeatureKind}
@@ -9,19 +9,26 @@ use Rattle.sc_class.specs.Tables.Features.{DeclaredFeature}
 use Rattle.sc_proctype.specs.declared.entity_type.EntityType.{EntityType}
 use Rattle.sc_rules.specs.Names.{RoutineName}
 use Rattle.sc_rules.specs.Types.{declared_type}
+use Rattle.sc_lockpass.specs.Rights.{held}
 use Rattle.sc_waitcond.specs.Reservations.{reserve_fails}
+use Rattle.sc_waitcond.specs.declared.session.Release.{Release}
 use Rattle.sc_waitcond.specs.declared.session.Release.TheVariants as release_at
+use Rattle.sc_model.specs.declared.cause.Cause.{Cause}
 use Rattle.sc_model.specs.declared.cause.Cause.TheVariants as cause
-use Rattle.sc_model.specs.Values.{Value, Operand, values_of}
-use Rattle.sc_model.specs.Environments.{Binding, binding_named}
+use Rattle.sc_model.specs.Limits.{max_frames, max_queue}
+use Rattle.sc_model.specs.Values.{Reference, Value, Attached, Operand, operand, values_of}
+use Rattle.sc_model.specs.Environments.{Binding, binding_named, formals_bound}
 use Rattle.sc_model.specs.Objects.{Object, object_numbered, fresh_object}
 use Rattle.sc_model.specs.Invariants.{meets_invariant}
-use Rattle.sc_model.specs.Routines.{version_of, routine_named, routine_of}
+use Rattle.sc_model.specs.Routines.{Routine, version_of, routine_named, routine_of}
 use Rattle.sc_model.specs.Steps.{Act, Prints, Until, Creates, CreatesHandler, Enters, Requests, Starts, Refuses, Opens, Leaves, Exits, Fails, Step, Goes, Does}
 use Rattle.sc_model.specs.Moves.{moves}
 use Rattle.sc_model.specs.Handlers.{Errand, Calls, Makes, Request, Answer, Reply, Failed, Refused, Origin, Called, Requested, Stage, Runs, Reserves, ReservesBlock, InCall, Awaits, Frame, Handler, World, point_of, frame_at, put, with_stack}
 use Rattle.sc_model.specs.Sessions.{standing_in, reserve, release}
-use Rattle.sc_model.specs.Entries.{entry_needs, block_needs, may_reserve, reserves_if}
+use Rattle.sc_model.specs.Answers.{finish}
+use Rattle.sc_model.specs.Failures.{fails_with}
+use Rattle.sc_model.specs.Entries.{entry, enters_bound, enters, entry_needs, block_needs, may_reserve, reserves_if}
+use Rattle.sc_model.specs.Asking.{passes, send, awaits_if, request_by, is_callback, asks, request, with_handler, posts_creation, passes_or_releases, created}
 use Rattle.sc_model.specs.Preconditions.{is_creation, object_meets, counted_refusal, refuses}
 use Rattle.sc_model.specs.Exits.{is_unset_value, is_unset, is_untested, handed_as, handed_at, handed, leaves_to, exits, leaves_block}
 use Rattle.sc_model.specs.Takes.{replies, takes_kind, takes_version, takes_creation, with_new_object, takes_errand, takes, takes_next, released_if, takes_answer}
@@ -31,9 +38,41 @@ use Rattle.sc_refines_core.specs.Calm.{name_of}
 use Rattle.sc_refines_core.specs.Entries.{HasStarted, RefusesNone}
 use Rattle.sc_machine_rights.proofs.links.Looks.{m_put-own}
 use Rattle.sc_refines_core.proofs.CalmSteps.{moves_calm}
-use Rattle.sc_machine_preconditions.proofs.OwnWorlds.{IsNoReply, IsLike, like_put}
+use Rattle.sc_machine_preconditions.specs.Following.{AreBound}
+use Rattle.sc_machine_preconditions.proofs.OwnWorlds.{IsNoReply, IsLike, like_put, like_release, like_finish, like_passes, like_send, like_new, fallen_stack}
 use Rattle.sc_machine_preconditions.proofs.OwnKept.{IsPlain, AllPlain, plain_kept}
-use Rattle.sc_machine_preconditions.proofs.PlainCalls.{IsCalm, created_good, either, enters_good, fails_good, finish_good, like_good, own_good, plain, release_good, reply_none, request_good, runs_started, stack_good, stays}
+
+-- The routine is entered, for a call or a request.
+pub record IsEntry (s : System) (f : Frame) : Type 0 where
+  pub current : Reference
+  pub routine : Routine
+  pub origin : Origin
+  pub bindings : List Binding
+  pub name : List ℕ
+  pub is_named : routine_named s current.class name ≡ Some routine
+  pub are_bound : AreBound s routine bindings
+  pub frame_is : f ≡ entry current routine origin bindings
+
+-- No frame evaluates, but the topmost one may be entered.
+pub data IsCalm (s : System) (pure : RoutineName → Bool) (a : Option Answer) : List Frame → Type 0 where
+  plain : {st : List Frame} → AllPlain pure a st → IsCalm s pure a st
+  entered : {f : Frame} {below : List Frame} → IsEntry s f → AllPlain pure a below → IsCalm s pure a (f ∷ below)
+
+pub calm_kept : (s : System) (pure : RoutineName → Bool) (a b : Option Answer) (st : List Frame) →
+    (IsNoReply a → IsNoReply b) → IsCalm s pure a st →
+    IsCalm s pure b st
+calm_kept s pure a b st n (plain z) = plain (plain_kept pure a b st n z)
+calm_kept s pure a b _ n (entered {f} {below} e z) = entered e (plain_kept pure a b below n z)
+
+-- it does something else than to wait
+runs_started : (pure : RoutineName → Bool) (a : Option Answer) (f : Frame) → is_awaiting f.stage ≡ false →
+    IsPlain pure a f → HasStarted f.tasks
+runs_started pure a f e (inl i, p) = i
+runs_started pure a f e (inr i, p) = let both : true ≡ false = sym i.0 ∙ e in cc
+
+pub reply_none : (v : Option Value) (A : Type 0) → IsNoReply (Some (Reply v)) → A
+reply_none v A (inl e) = cc
+reply_none v A (inr e) = cc
 
 module _ (s : System) (pure : RoutineName → Bool) (h : ℕ) where
   abbrev Good : World → Type 0
@@ -42,17 +81,136 @@ module _ (s : System) (pure : RoutineName → Bool) (h : ℕ) where
   abbrev Plain : World → List Frame → Type 0
   Plain v st = AllPlain pure (v.handlers h).answer st
 
+  either : (b : Bool) (x y : World) → Good x → Good y → Good (if b then x else y)
+  either true x y t u = t
+  either false x y t u = u
+
+  pub stays : (v : World) (st : List Frame) → (v.handlers h).stack ≡ st → Plain v st → Good v
+  stays v st at is = subst (IsCalm s pure (v.handlers h).answer) (sym at) (plain is)
+
+  own_good : (x : Handler) (v : World) → IsCalm s pure x.answer x.stack → Good (put h x v)
+  own_good x v is = subst (λ (b : Bool). IsCalm s pure (if b then x else v.handlers h).answer
+      (if b then x else v.handlers h).stack) (sym (eq-eqb h h refl)) is
+
+  pub like_good : (v u : World) → IsLike h v u → Good v → Good u
+  like_good v u l t = subst (IsCalm s pure (u.handlers h).answer) (sym l.stack_is)
+      (calm_kept s pure (v.handlers h).answer (u.handlers h).answer (v.handlers h).stack l.no_reply t)
+
+  pub fails_good : (why : Cause) (taken : List Request) (v : World) → Good (fails_with h why taken v)
+  fails_good why taken v = stays (fails_with h why taken v) [] (fallen_stack h why taken v) tt
+
+  pub stack_good : (st : List Frame) (v : World) → IsCalm s pure (v.handlers h).answer st → Good (with_stack h st v)
+  stack_good st v is = own_good (record (v.handlers h) { stack = st }) v is
+
+  pub release_good : (how : Release) (ks : List ℕ) (v : World) → Good v → Good (release how ks v)
+  release_good how ks v t = like_good v (release how ks v) (like_release h how ks v) t
+
+  pub finish_good : (r : Request) (a : Answer) (v : World) → Good v → Good (finish r a v)
+  finish_good r a v t = like_good v (finish r a v) (like_finish h r a v) t
+
+  -- ---- a routine is entered
+
+  pub enters_good : (me : Reference) (x : List ℕ) (o : Option Routine) (c : Origin) (below : List Frame)
+      (taken : List Request) (vs : List Value) (v : World) →
+      ((r : Routine) → o ≡ Some r → routine_named s me.class x ≡ Some r) → Plain v below →
+      Good (enters s h me o c below taken vs v)
+  enters_good me x None c below taken vs v named is = fails_good cause.BadCode taken v
+  enters_good me x (Some r) c below taken vs v named is =
+      bound (formals_bound s r.text.formals 0 r.text.formals vs) refl
+    where
+      bound : (b : Option (List Binding)) → formals_bound s r.text.formals 0 r.text.formals vs ≡ b →
+          Good (enters_bound h me r c below taken b v)
+      bound None e = fails_good cause.BadCode taken v
+      bound (Some bs) e = either (nat_lt (length below) max_frames) _ _
+          (stack_good (entry me r c bs ∷ below) v (entered (record {
+            current = me;
+            routine = r;
+            origin = c;
+            bindings = bs;
+            name = x;
+            is_named = named r refl;
+            are_bound = (vs, e);
+            frame_is = refl;
+          }) is))
+          (fails_good cause.StackFull taken v)
+
+  -- ---- another handler is asked
+
+  awaits_plain : (a : Option Answer) (b : Bool) (k : ℕ) (gives : Option EntityType) (c : Bool) (f : Frame) →
+      HasStarted f.tasks → (pure (name_of f.routine) ≡ true → ⊥) →
+      IsPlain pure a (awaits_if b k gives c f)
+  awaits_plain a true k gives c f i p = (inl i, p)
+  awaits_plain a false k gives c f i p = (inl i, p)
+
+  asks_good : (r : Reference) (x : List ℕ) (us : List Operand) (gives : Option EntityType) (passing waits : Bool)
+      (f : Frame) (below : List Frame) (v : World) →
+      HasStarted f.tasks → (pure (name_of f.routine) ≡ true → ⊥) → Plain v below →
+      Good (asks h r x us gives passing waits f below v)
+  asks_good r x us gives passing waits f below v i p more =
+      let req : Request = request_by h r (Calls x) us waits passing v in
+      let at : World = with_stack h (awaits_if waits r.handler gives false f ∷ below) v in
+      let sent : World = send (is_callback h r.handler v) r.handler req at in
+      like_good sent (passes passing h r.handler sent) (like_passes h passing h r.handler sent)
+      (like_good at sent (like_send h (is_callback h r.handler v) r.handler req at)
+      (stack_good (awaits_if waits r.handler gives false f ∷ below) v
+      (plain (awaits_plain (v.handlers h).answer waits r.handler gives false f i p, more))))
+
+  request_good : (r : Reference) (x : List ℕ) (us : List Operand) (gives : Option EntityType) (passing : Bool)
+      (f : Frame) (below : List Frame) (v : World) →
+      HasStarted f.tasks → (pure (name_of f.routine) ≡ true → ⊥) → Plain v below →
+      Good (request h r x us gives passing f below v)
+  request_good r x us gives passing f below v i p more =
+      either (not (held v.rights h r.handler)) _ _ (fails_good cause.NotHeld [] v)
+      (either (is_some (v.handlers r.handler).failure) _ _ (fails_good cause.SupplierFailed [] v)
+      (either (not (is_callback h r.handler v) && not (nat_lt (length (v.handlers r.handler).queue) max_queue)) _ _
+      (fails_good cause.QueueFull [] v)
+      (asks_good r x us gives passing (passing || is_some gives || is_callback h r.handler v) f below v i p more)))
+
+  created_good : (r : Reference) (procedure : Option (List ℕ)) (us : List Operand) (t : EntityType) (passing : Bool)
+      (f : Frame) (below : List Frame) (v : World) →
+      (h == r.handler) ≡ false → HasStarted f.tasks → (pure (name_of f.routine) ≡ true → ⊥) → Plain v below →
+      Good (created h r procedure us t passing f below v)
+  created_good r procedure us t passing f below v other i p more = by passing
+    where
+      more_there : AllPlain pure ((with_handler r.handler h v).handlers h).answer below
+      more_there = plain_kept pure (v.handlers h).answer ((with_handler r.handler h v).handlers h).answer below
+          (like_new h r.handler h v other).no_reply more
+
+      posted : Good (posts_creation h r procedure us t passing f below (with_handler r.handler h v))
+      posted =
+          let n : World = with_handler r.handler h v in
+          let at : World = with_stack h
+          (awaits_if passing r.handler None true
+          (record f { values = operand (Attached r) t ∷ f.values }) ∷ below) n in
+          let req : Request = request_by h r (Makes procedure) us passing passing n in
+          like_good at (send false r.handler req at) (like_send h false r.handler req at)
+          (stack_good (awaits_if passing r.handler None true
+          (record f { values = operand (Attached r) t ∷ f.values }) ∷ below) n
+          (plain (
+            awaits_plain ((with_handler r.handler h v).handlers h).answer passing r.handler None true
+                (record f { values = operand (Attached r) t ∷ f.values }) i p,
+            more_there,
+          )))
+
+      by : (b : Bool) → Good (passes_or_releases b h r.handler
+          (posts_creation h r procedure us t passing f below (with_handler r.handler h v)))
+      by true =
+          let u : World = posts_creation h r procedure us t passing f below (with_handler r.handler h v) in
+          like_good u (passes true h r.handler u) (like_passes h true h r.handler u) posted
+      by false = release_good release_at.Creation (r.handler ∷ [])
+          (posts_creation h r procedure us t passing f below (with_handler r.handler h v)) posted
+
   -- ---- a routine ends
 
   pub refuses_good : (r : Request) (f : Frame) (below : List Frame) (v : World) → Plain v below →
       Good (refuses s h r f below v)
   refuses_good r f below v is =
       let x : Handler = record (v.handlers h) { stack = below } in
-      either s pure h (is_creation r.errand && not (object_meets s (object_numbered f.current.number (v.handlers h).objects))) _
-      _ (fails_good s pure h cause.Invariant [] v)
-      (finish_good s pure h r Refused (release release_at.Refusal f.reserved (put h (counted_refusal r.is_waited x) v))
-      (release_good s pure h release_at.Refusal f.reserved (put h (counted_refusal r.is_waited x) v)
-      (own_good s pure h (counted_refusal r.is_waited x) v (counted r.is_waited x is))))
+      either (is_creation r.errand && not (object_meets s (object_numbered f.current.number (v.handlers h).objects))) _
+      _ (fails_good cause.Invariant [] v)
+      (finish_good r Refused (release release_at.Refusal f.reserved (put h (counted_refusal r.is_waited x) v))
+      (release_good release_at.Refusal f.reserved (put h (counted_refusal r.is_waited x) v)
+      (own_good (counted_refusal r.is_waited x) v (counted r.is_waited x is))))
     where
       counted : (b : Bool) (x : Handler) → AllPlain pure x.answer x.stack →
           IsCalm s pure (counted_refusal b x).answer (counted_refusal b x).stack
@@ -61,10 +219,10 @@ module _ (s : System) (pure : RoutineName → Bool) (h : ℕ) where
 
   leaves_good : (kss : List (List ℕ)) (f : Frame) (below : List Frame) (v : World) →
       IsPlain pure (v.handlers h).answer f → Plain v below → Good (leaves_block h kss f below v)
-  leaves_good [] f below v g is = fails_good s pure h cause.BadCode [] v
+  leaves_good [] f below v g is = fails_good cause.BadCode [] v
   leaves_good (ks ∷ kss) f below v g is =
-      release_good s pure h release_at.Leave ks (with_stack h (record f { blocks = kss } ∷ below) v)
-      (stack_good s pure h (record f { blocks = kss } ∷ below) v (plain ((g.0, g.1), is)))
+      release_good release_at.Leave ks (with_stack h (record f { blocks = kss } ∷ below) v)
+      (stack_good (record f { blocks = kss } ∷ below) v (plain ((g.0, g.1), is)))
 
   handed_plain : (a : Option Answer) (v : Option Value) (gives : Option EntityType) (f : Frame) → HasStarted f.tasks →
       (pure (name_of f.routine) ≡ true → ⊥) →
@@ -87,18 +245,18 @@ module _ (s : System) (pure : RoutineName → Bool) (h : ℕ) where
 
   pub exits_good : (f : Frame) (below : List Frame) (v : World) → Plain v below → Good (exits s h f below v)
   exits_good f below v is =
-      either s pure h (is_unset f.result) _ _ (fails_good s pure h cause.UnsetEntity [] v)
-      (either s pure h (is_untested f.origin || object_meets s (object_numbered f.current.number (v.handlers h).objects)) _ _
-      (by f.origin) (fails_good s pure h cause.Invariant [] v))
+      either (is_unset f.result) _ _ (fails_good cause.UnsetEntity [] v)
+      (either (is_untested f.origin || object_meets s (object_numbered f.current.number (v.handlers h).objects)) _ _
+      (by f.origin) (fails_good cause.Invariant [] v))
     where
       by : (c : Origin) → Good (leaves_to h c f.reserved (option_map (λ (u : Operand). u.value) f.result) below v)
-      by (Called c) = release_good s pure h release_at.Exit f.reserved
+      by (Called c) = release_good release_at.Exit f.reserved
           (with_stack h (handed (option_map (λ (u : Operand). u.value) f.result) below) v)
-          (stack_good s pure h (handed (option_map (λ (u : Operand). u.value) f.result) below) v
+          (stack_good (handed (option_map (λ (u : Operand). u.value) f.result) below) v
           (plain (handed_good (v.handlers h).answer (option_map (λ (u : Operand). u.value) f.result) below is)))
-      by (Requested r) = finish_good s pure h r (Reply (option_map (λ (u : Operand). u.value) f.result))
+      by (Requested r) = finish_good r (Reply (option_map (λ (u : Operand). u.value) f.result))
           (release release_at.Exit f.reserved (with_stack h below v))
-          (release_good s pure h release_at.Exit f.reserved (with_stack h below v) (stack_good s pure h below v (plain is)))
+          (release_good release_at.Exit f.reserved (with_stack h below v) (stack_good below v (plain is)))
 
   -- ---- a visible step of one that has started
 
@@ -106,37 +264,37 @@ module _ (s : System) (pure : RoutineName → Bool) (h : ℕ) where
       (v.handlers h).stack ≡ f ∷ below → ((k : Clause) → a ≡ Refuses k → ⊥) →
       HasStarted f.tasks → (pure (name_of f.routine) ≡ true → ⊥) → Plain v below → Good (effect most s h a f below v)
   acts_good most (Prints text) f below v here at never i p is =
-      own_good s pure h (record (v.handlers h) { output = (v.handlers h).output ++ text }) v
+      own_good (record (v.handlers h) { output = (v.handlers h).output ++ text }) v
       (subst (IsCalm s pure (v.handlers h).answer) (sym at) (plain ((inl i, p), is)))
-  acts_good most Until f below v here at never i p is = stays s pure h v (f ∷ below) at ((inl i, p), is)
-  acts_good most Creates f below v here at never i p is = stays s pure h v (f ∷ below) at ((inl i, p), is)
-  acts_good most Starts f below v here at never i p is = stays s pure h v (f ∷ below) at ((inl i, p), is)
+  acts_good most Until f below v here at never i p is = stays v (f ∷ below) at ((inl i, p), is)
+  acts_good most Creates f below v here at never i p is = stays v (f ∷ below) at ((inl i, p), is)
+  acts_good most Starts f below v here at never i p is = stays v (f ∷ below) at ((inl i, p), is)
   acts_good most (CreatesHandler class procedure us t passing) f below v here at never i p is =
-      either s pure h (nat_lt v.count most) _ _
-      (created_good s pure h (record { handler = v.count; number = 1; class = class }) procedure us t passing f below v
+      either (nat_lt v.count most) _ _
+      (created_good (record { handler = v.count; number = 1; class = class }) procedure us t passing f below v
       (ne_eqb h v.count (λ e. omega (arith, here, e))) i p is)
-      (fails_good s pure h cause.TooManyHandlers [] v)
+      (fails_good cause.TooManyHandlers [] v)
   acts_good most (Enters c me x us gives) f below v here at never i p is =
-      enters_good s pure h me x (routine_named s me.class x) (Called c) (record f { stage = InCall gives } ∷ below) []
+      enters_good me x (routine_named s me.class x) (Called c) (record f { stage = InCall gives } ∷ below) []
       (values_of us) v (λ r e. e) ((inl i, p), is)
   acts_good most (Requests t x us gives passing) f below v here at never i p is =
-      request_good s pure h t x us gives passing f below v i p is
+      request_good t x us gives passing f below v i p is
   acts_good most (Refuses k) f below v here at never i p is = absurd (never k refl)
-  acts_good most Opens f below v here at never i p is = stack_good s pure h (record f { stage = ReservesBlock } ∷ below) v
+  acts_good most Opens f below v here at never i p is = stack_good (record f { stage = ReservesBlock } ∷ below) v
       (plain ((inl i, p), is))
   acts_good most Leaves f below v here at never i p is = leaves_good f.blocks f below v (inl i, p) is
   acts_good most Exits f below v here at never i p is = exits_good f below v is
-  acts_good most (Fails why) f below v here at never i p is = fails_good s pure h why [] v
+  acts_good most (Fails why) f below v here at never i p is = fails_good why [] v
 
   -- ---- a request is taken
 
   replies_good : (r : Request) (t : Option EntityType) (b : Option Binding) (v : World) → Good v →
       Good (replies h r t b v)
   replies_good r (Some t) (Some b) v z =
-      either s pure h (is_unset_value b.value t) _ _ (fails_good s pure h cause.UnsetEntity (r ∷ []) v)
-      (finish_good s pure h r (Reply (Some b.value)) v z)
-  replies_good r (Some t) None v z = fails_good s pure h cause.BadCode (r ∷ []) v
-  replies_good r None b v z = fails_good s pure h cause.BadCode (r ∷ []) v
+      either (is_unset_value b.value t) _ _ (fails_good cause.UnsetEntity (r ∷ []) v)
+      (finish_good r (Reply (Some b.value)) v z)
+  replies_good r (Some t) None v z = fails_good cause.BadCode (r ∷ []) v
+  replies_good r None b v z = fails_good cause.BadCode (r ∷ []) v
 
   version_good : (r : Request) (x : List ℕ) (below : List Frame) (o : Option Object) (f : Option DeclaredFeature)
       (v : World) → version_of s r.target.class x ≡ f → Good v →
@@ -145,18 +303,18 @@ module _ (s : System) (pure : RoutineName → Bool) (h : ℕ) where
     where
       by : (k : FeatureKind) → Good (takes_kind s h r x below o f k v)
       by (tree.Attribute d) = replies_good r (declared_type s [] d) (binding_named x o.attributes) v z
-      by (tree.Routine c) = enters_good s pure h r.target x (routine_of s f) (Requested r) below (r ∷ []) r.actuals v
+      by (tree.Routine c) = enters_good r.target x (routine_of s f) (Requested r) below (r ∷ []) r.actuals v
           (λ q i. ap (λ (g : Option DeclaredFeature). option_and_then (routine_of s) g) e ∙ i) is
-  version_good r x below (Some o) None v e z is = fails_good s pure h cause.BadCode (r ∷ []) v
-  version_good r x below None f v e z is = fails_good s pure h cause.BadCode (r ∷ []) v
+  version_good r x below (Some o) None v e z is = fails_good cause.BadCode (r ∷ []) v
+  version_good r x below None f v e z is = fails_good cause.BadCode (r ∷ []) v
 
   creation_good : (r : Request) (k : Option (List ℕ)) (below : List Frame) (v : World) → Good v → Plain v below →
       Good (takes_creation s h r k below v)
   creation_good r (Some x) below v z is =
-      enters_good s pure h r.target x (routine_named s r.target.class x) (Requested r) below (r ∷ []) r.actuals v (λ q i. i) is
+      enters_good r.target x (routine_named s r.target.class x) (Requested r) below (r ∷ []) r.actuals v (λ q i. i) is
   creation_good r None below v z is =
-      either s pure h (meets_invariant s (fresh_object s r.target.class)) _ _ (finish_good s pure h r (Reply None) v z)
-      (fails_good s pure h cause.Invariant (r ∷ []) v)
+      either (meets_invariant s (fresh_object s r.target.class)) _ _ (finish_good r (Reply None) v z)
+      (fails_good cause.Invariant (r ∷ []) v)
 
   pub takes_good : (r : Request) (below : List Frame) (v : World) → (v.handlers h).stack ≡ below → Plain v below →
       Good (takes s h r below v)
@@ -168,13 +326,13 @@ module _ (s : System) (pure : RoutineName → Bool) (h : ℕ) where
 
       by : (c : Errand) → Good (takes_errand s h r c below v)
       by (Makes k) = creation_good r k below (with_new_object s h r.target.class v)
-          (like_good s pure h v _ made (stays s pure h v below at is))
+          (like_good v _ made (stays v below at is))
           (plain_kept pure (v.handlers h).answer
           ((with_new_object s h r.target.class v).handlers h).answer below made.no_reply is)
-      by (Calls x) = either s pure h (r.target.handler == h) _ _
+      by (Calls x) = either (r.target.handler == h) _ _
           (version_good r x below (object_numbered r.target.number (v.handlers h).objects)
-          (version_of s r.target.class x) v refl (stays s pure h v below at is) is)
-          (fails_good s pure h cause.ForeignObject (r ∷ []) v)
+          (version_of s r.target.class x) v refl (stays v below at is) is)
+          (fails_good cause.ForeignObject (r ∷ []) v)
 
   -- ---- a turn
 
@@ -182,7 +340,7 @@ module _ (s : System) (pure : RoutineName → Bool) (h : ℕ) where
     pub settles_good : (most : ℕ) (st : Step) (f : Frame) (below : List Frame) → h < w.count →
         (w.handlers h).stack ≡ f ∷ below → RefusesNone st → HasStarted f.tasks →
         (pure (name_of f.routine) ≡ true → ⊥) → Plain w below → Good (settles most s h st f below w)
-    settles_good most (Goes p) f below here at z i other is = stays s pure h w (f ∷ below) at ((inl i, other), is)
+    settles_good most (Goes p) f below here at z i other is = stays w (f ∷ below) at ((inl i, other), is)
     settles_good most (Does a p) f below here at z i other is =
         let x : Handler = record (w.handlers h) { objects = p.objects; stack = frame_at f p ∷ below } in
         acts_good most a (frame_at f p) below (put h x w) here (ap (λ (y : Handler). y.stack) (m_put-own h x w))
@@ -211,10 +369,10 @@ module _ (s : System) (pure : RoutineName → Bool) (h : ℕ) where
         IsPlain pure (w.handlers h).answer g →
         IsPlain pure (w.handlers h).answer f → Plain w below → Good (reserves_if b h ks f below w)
     reserves_good true ks f g below at r q is =
-        either s pure h (reserve_fails (standing_in w) w.rights ks) _ _ (fails_good s pure h cause.SupplierFailed [] w)
-        (like_good s pure h (with_stack h (f ∷ below) w) (reserve h ks (with_stack h (f ∷ below) w))
-        (record { stack_is = refl; no_reply = λ z. z }) (stack_good s pure h (f ∷ below) w (plain (q, is))))
-    reserves_good false ks f g below at r q is = stays s pure h w (g ∷ below) at (r, is)
+        either (reserve_fails (standing_in w) w.rights ks) _ _ (fails_good cause.SupplierFailed [] w)
+        (like_good (with_stack h (f ∷ below) w) (reserve h ks (with_stack h (f ∷ below) w))
+        (record { stack_is = refl; no_reply = λ z. z }) (stack_good (f ∷ below) w (plain (q, is))))
+    reserves_good false ks f g below at r q is = stays w (g ∷ below) at (r, is)
 
     answer_good : (a : Answer) (k : ℕ) (gives : Option EntityType) (c : Bool) (f : Frame) (below : List Frame) →
         (w.handlers h).answer ≡ Some a →
@@ -230,7 +388,7 @@ module _ (s : System) (pure : RoutineName → Bool) (h : ℕ) where
         started (inr i) = none (HasStarted f.tasks) i.1
 
         goes : Good (put h (record (w.handlers h) { stack = handed_as gives x f ∷ below; answer = None }) w)
-        goes = own_good s pure h (record (w.handlers h) { stack = handed_as gives x f ∷ below; answer = None }) w
+        goes = own_good (record (w.handlers h) { stack = handed_as gives x f ∷ below; answer = None }) w
             (plain (
               handed_plain None x gives f (started g.0) g.1,
               plain_kept pure (w.handlers h).answer None below
@@ -239,15 +397,15 @@ module _ (s : System) (pure : RoutineName → Bool) (h : ℕ) where
 
         by : (b : Bool) → Good (released_if b k
             (put h (record (w.handlers h) { stack = handed_as gives x f ∷ below; answer = None }) w))
-        by true = release_good s pure h release_at.Creation (k ∷ [])
+        by true = release_good release_at.Creation (k ∷ [])
             (put h (record (w.handlers h) { stack = handed_as gives x f ∷ below; answer = None }) w) goes
         by false = goes
-    answer_good Failed k gives c f below e g is = fails_good s pure h cause.SupplierFailed [] w
-    answer_good Refused k gives c f below e g is = fails_good s pure h cause.Precondition [] w
+    answer_good Failed k gives c f below e g is = fails_good cause.SupplierFailed [] w
+    answer_good Refused k gives c f below e g is = fails_good cause.Precondition [] w
 
     -- a handler that runs nothing takes the next request
     pub next_good : (rs : List Request) → (w.handlers h).stack ≡ [] → Good (takes_next s h rs w)
-    next_good [] at = stays s pure h w [] at tt
+    next_good [] at = stays w [] at tt
     next_good (r ∷ rs) at = takes_good r [] (put h (record (w.handlers h) { queue = rs }) w)
         (ap (λ (y : Handler). y.stack) (m_put-own h (record (w.handlers h) { queue = rs }) w) ∙ at) tt
 
@@ -267,7 +425,7 @@ module _ (s : System) (pure : RoutineName → Bool) (h : ℕ) where
           (w.handlers h).answer ≡ a → Good (waits s h r a k gives c f below w)
       waits_good k gives c (Some r) a e = callback_good r
       waits_good k gives c None (Some a) e = answer_good a k gives c f below e is more
-      waits_good k gives c None None e = stays s pure h w (f ∷ below) at (is, more)
+      waits_good k gives c None None e = stays w (f ∷ below) at (is, more)
 
       pub goes_good : (most : ℕ) (st : Stage) → h < w.count → f.stage ≡ st → Good (goes_on most s h st f below w)
       goes_good most Runs here e =
@@ -281,5 +439,5 @@ module _ (s : System) (pure : RoutineName → Bool) (h : ℕ) where
           reserves_good (may_reserve (block_needs h f w) [] w) (block_needs h f w)
           (record f { stage = Runs; blocks = block_needs h f w ∷ f.blocks }) f below at is
           (inl (runs_started pure (w.handlers h).answer f (ap is_awaiting e) is), is.1) more
-      goes_good most (InCall gives) here e = fails_good s pure h cause.BadCode [] w
+      goes_good most (InCall gives) here e = fails_good cause.BadCode [] w
       goes_good most (Awaits k gives c) here e = waits_good k gives c (w.handlers h).callback (w.handlers h).answer refl

@@ -20,14 +20,14 @@ use Rattle.sc_model.specs.Tasks.{Task, Declare, Do}
 use Rattle.sc_model.specs.Values.{Reference, Operand}
 use Rattle.sc_machine_values.specs.Points.{Each, IsAmong}
 use Rattle.sc_machine_values.specs.Steps.{IsThereIfOwn, StandsSo, StepFits, ValuesDo}
-use Rattle.sc_machine_values.proofs.OperatorReferences.{Stays, StepStays}
-use Rattle.sc_machine_values.proofs.References.{step_stays}
+use Rattle.sc_machine_values.proofs.OperatorReferences.{Stays}
+use Rattle.sc_machine_values.proofs.References.{StepStays, step_stays}
 use Rattle.sc_machine_values.proofs.Routines.{is_run}
 use Rattle.sc_machine_values.proofs.Steps.{step_fits}
 use Rattle.sc_machine_invariants.proofs.Modes.{RunsPure as IsLeftPure}
 use Rattle.sc_machine_invariants.proofs.FreeNames.{AssignsNone, CallsPure}
-use Rattle.sc_machine_invariants.proofs.CallSteps.{MayAssign, SteppedSo}
-use Rattle.sc_machine_invariants.proofs.Steps.{moves_so}
+use Rattle.sc_machine_invariants.proofs.CallSteps.{MayAssign}
+use Rattle.sc_machine_invariants.proofs.Steps.{SteppedSo, moves_so}
 use Rattle.sc_refines_core.specs.Calm.{CalmStep, name_of}
 use Rattle.sc_refines_core.proofs.Clausal.{own_values, still_there}
 use Rattle.sc_machine_clauses.specs.Evaluating.{Reaches, begins}
@@ -36,8 +36,7 @@ use Rattle.sc_machine_clauses.specs.Texts.{IsOfContract}
 use Rattle.sc_machine_preconditions.specs.Following.{AreBound, HasDone, IsAt, Own, PureAt, PureCalls, behind_body, body_tasks, start_of}
 use Rattle.sc_machine_preconditions.specs.Following as at
 use Rattle.sc_machine_preconditions.specs.Points.{HasRun, IsThisCall, PureSteps}
-use Rattle.sc_machine_preconditions.proofs.BoundExpressions.{Has, Left, bound_formals, take_these}
-use Rattle.sc_machine_preconditions.proofs.PointsBound.{after_firm, reaches_firm}
+use Rattle.sc_machine_preconditions.proofs.PointsBound.{Has, Left, after_firm, bound_formals, reaches_firm, take_these}
 use Rattle.sc_machine_preconditions.proofs.PointsEntries.{bound_length, takes_bound}
 use Rattle.sc_machine_preconditions.proofs.PointsFunctions.{gives_value, none_at_text, result_there}
 use Rattle.sc_machine_preconditions.proofs.PointsSteps.{Stepped, step_within}

@@ -15,9 +15,11 @@ use Rattle.sc_region.specs.declared.job.Job.TheVariants as job
 use Rattle.sc_region.specs.declared.job.Request.{Request}
 use Rattle.sc_region.specs.declared.job.Want.{Want}
 use Rattle.sc_region.specs.declared.job.Want.TheVariants as want
-use Rattle.sc_request.specs.Handlers.{Posted, posted, Replied, Refused, HandlerStage, Idle, Runs, HasMade, Reserves, Awaits, Service, Handler, State, new_handler, put, with_stage}
+use Rattle.sc_handler.specs.Handlers.{Posted, posted, Replied, Refused, HandlerStage, Idle, Runs, HasMade, Reserves, Awaits, Service, Handler, State, new_handler, put, with_stage}
+use Rattle.sc_handler.specs.Changes.{takes_next, takes_callback, takes, takes_answer, counted_refusal}
+use Rattle.sc_handler.specs.Fits.{fits_turns}
 use Rattle.sc_request.specs.Sessions.{release, passed_if, passes, send, is_callback, with_handler, finish, fail}
-use Rattle.sc_request.specs.Settling.{takes_next, takes_callback, takes, takes_answer, made_at, begun, awaits_if, sends, asks_of, creation, creates_with, creates, counted_refusal, ends_service, ends, done, posts_unheld, done_if, asked_in, fits_turns, may_ask}
+use Rattle.sc_request.specs.Settling.{made_at, begun, awaits_if, sends, asks_of, creation, creates_with, creates, ends_service, ends, done, posts_unheld, done_if, asked_in, may_ask}
 use Rattle.sc_refines_core.specs.Entries.{is_reserving, EntryStays, EntriesStay}
 use Rattle.sc_refines_core.proofs.SameEntries.{Keep, Kept, Stay, fail_stays, finish_same, if_stays, kept_same, of_kept, passes_same, plain, put_keeps, put_stays, refusal_same, release_same, same_keeps, send_same, served, staged, stay, stays_same, then_same, then_stay}
 

@@ -10,9 +10,9 @@ use Rattle.sc_waitcond.specs.declared.mark.Marked.{Marked}
 use Rattle.sc_waitcond.specs.declared.session.Release.{Release}
 use Rattle.sc_waitcond.specs.declared.session.Release.TheVariants as release_at
 use Rattle.sc_model.specs.declared.cause.Cause.{Cause}
-use Rattle.sc_request.specs.Handlers.{Posted, Answer, HandlerStage, Idle, Reserves, Service, service, Handler, State, put, with_stage}
-use Rattle.sc_request.specs.Sessions.{session_ended, release, passes, send, placed, answered, answer_to, return_rights, finish, is_waited_by, requests_at, told, fallen, fail}
-use Rattle.sc_request.specs.Settling.{serves, counted_refusal}
+use Rattle.sc_handler.specs.Handlers.{Posted, Answer, HandlerStage, Idle, Reserves, Service, service, Handler, State, put, with_stage}
+use Rattle.sc_handler.specs.Changes.{session_ended, placed, answered, is_waited_by, requests_at, told, fallen, serves, counted_refusal}
+use Rattle.sc_request.specs.Sessions.{release, passes, send, answer_to, return_rights, finish, fail}
 use Rattle.sc_refines_core.specs.Entries.{KeepsEntry, is_reserving, EntryStays}
 
 -- ---- one handler

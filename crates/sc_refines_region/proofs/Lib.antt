@@ -8,9 +8,7 @@ pub mod Plain
 pub mod TakenRequests
 pub mod TakenAnswers
 pub mod Others
-pub mod SameJobs
 pub mod Turns
-pub mod WantedActs
 pub mod Wants
 pub mod OtherHandlers
 pub mod FrameOrder

@@ -35,8 +35,7 @@ use Rattle.sc_refines_turn.proofs.TurnAsks.{asked_is, told_by}
 use Rattle.sc_refines_turn.proofs.SilentOperations.{meets}
 use Rattle.sc_refines_turn.proofs.PassedOperations.{act_same, state_same}
 use Rattle.sc_refines_turn.proofs.Quiet.{opens_here}
-use Rattle.sc_refines_turn.proofs.SeenRequests.{opens_is}
-use Rattle.sc_refines_turn.proofs.StageChanges.{values_taken}
+use Rattle.sc_refines_turn.proofs.StageChanges.{opens_is, values_taken}
 
 -- ---- what is seen
 

@@ -19,7 +19,7 @@ use Rattle.sc_code.specs.Operations as op
 use Rattle.sc_code.specs.Operations.{CreationSite, Operation}
 use Rattle.sc_code.specs.Stands.{Run, Known, Judged, Is, Room, Stands, StandsFor, jumps, settles, creates, creates_handler as creates_another, Tells, told, judged, state_at, types_of, types_popped}
 use Rattle.sc_code.proofs.Hops.{comes, hops_on, length_types, length_values, one, within}
-use Rattle.sc_refines_turn.proofs.KeptByCalls.{CreatesNext}
+use Rattle.sc_refines_turn.proofs.KeptObjects.{CreatesNext}
 use Rattle.sc_refines_turn.proofs.Unique.{does_goes, here_shown, if_shown, one_visible}
 
 -- ---- what is popped

@@ -49,8 +49,7 @@ use Rattle.sc_refines_turn.specs.Acting.{AreWhole, CallsAreRefused, Comes, IsNot
 use Rattle.sc_refines_turn.proofs.SilentOperations.{meets}
 use Rattle.sc_refines_turn.proofs.Exits.{meets_same, origin_same, region_failed, region_left}
 use Rattle.sc_refines_turn.proofs.PassedOperations.{act_same, state_same, stays, turn_is}
-use Rattle.sc_refines_turn.proofs.QuietCalls.{IsLike}
-use Rattle.sc_refines_turn.proofs.Quiet.{refuses_here}
+use Rattle.sc_refines_turn.proofs.Quiet.{IsLike, refuses_here}
 
 -- ---- the step
 

@@ -1,49 +1,170 @@
--- Requests, creations among them, as they are taken.
-use Rattle.std.proofs.Common.{◌≡◌, ℕ, ◌+◌, Bool, true, false, not, List, [], ◌∷◌, ◌++◌, Option, Some, None, length, refl, sym, ap, ◌∙◌, subst}
+-- Requests as they are taken.
+use Rattle.std.proofs.Common.{◌≡◌, ◌≤◌, ◌⊎◌, inl, inr, ℕ, zero, suc, ◌+◌, ◌-◌, Bool, true, false, not, List, [], ◌∷◌, ◌++◌, Option, Some, None, is_some, length, map, refl, sym, ap, ◌∙◌, subst, arith}
 use Rattle.std.proofs.lemmas.List.{length-map}
-use Rattle.std.specs.Prelude.{◌&&◌, slice_get, if◌then◌else◌}
-use Rattle.std.specs.Option.{is_none, option_map}
-use Rattle.sc_tree.specs.Plain.{System}
+use Rattle.std.specs.Prelude.{◌==◌, ◌&&◌, nat_lt, slice_get, if◌then◌else◌}
+use Rattle.std.specs.Option.{is_none, option_map, option_and_then}
+use Rattle.sc_tree.specs.Plain as tree
+use Rattle.sc_tree.specs.Plain.{System, DeclaredType, FeatureKind}
+use Rattle.sc_class.specs.Tables.Features.{DeclaredFeature, features}
+use Rattle.sc_class.proofs.Declarers.{found_stands}
+use Rattle.sc_proctype.specs.declared.entity_type.EntityType.{EntityType}
+use Rattle.sc_rules.specs.Laws.{is_declared}
+use Rattle.sc_rules.specs.Names as names
+use Rattle.sc_rules.specs.Types.{declared_type}
+use Rattle.sc_rules.proofs.Versions.{found_declared}
+use Rattle.sc_typing.specs.FeatureNumbers.{feature_number}
 use Rattle.sc_model.specs.declared.cause.Cause.{Cause}
 use Rattle.sc_model.specs.declared.cause.Cause.TheVariants as cause
+use Rattle.sc_model.specs.Environments.{Binding, binding_named}
+use Rattle.sc_model.specs.Exits.{is_unset_value}
 use Rattle.sc_model.specs.Handlers as machine
 use Rattle.sc_model.specs.Handlers.{Requested}
 use Rattle.sc_model.specs.Invariants as model_invariants
 use Rattle.sc_model.specs.Objects as model_objects
-use Rattle.sc_model.specs.Routines.{routine_named}
+use Rattle.sc_model.specs.Objects.{fresh_attributes}
+use Rattle.sc_model.specs.Routines.{routine_named, routine_of, version_of}
+use Rattle.sc_model.specs.Values as values
+use Rattle.sc_code.specs.declared.program.AttributeCode.{AttributeCode}
+use Rattle.sc_code.specs.declared.program.RoutineCode.{RoutineCode}
+use Rattle.sc_code.specs.declared.program.FeatureCode.TheVariants as version
+use Rattle.sc_code.specs.Attributes.{attribute_number}
+use Rattle.sc_code.specs.Programs.{entry_of_feature, entry_of_kind}
 use Rattle.sc_region.specs.declared.frame.Origin.TheVariants as origin
+use Rattle.sc_region.specs.declared.frame.Origin as code_origin
 use Rattle.sc_region.specs.declared.job.Errand.{Errand}
 use Rattle.sc_region.specs.declared.job.Errand.TheVariants as errand
 use Rattle.sc_region.specs.declared.job.Request.{Request}
 use Rattle.sc_region.specs.declared.job.Want.{Want}
 use Rattle.sc_region.specs.declared.job.Want.TheVariants as want
+use Rattle.sc_region.specs.declared.value.Reference.{Reference}
 use Rattle.sc_region.specs.declared.value.Value.{Value}
 use Rattle.sc_region.specs.Classes as at
+use Rattle.sc_region.specs.Classes.{class_at, defaults_of, routine_at}
 use Rattle.sc_region.specs.Frames as frames
-use Rattle.sc_region.specs.Objects.{object_numbered}
+use Rattle.sc_region.specs.Objects.{PlainObject, attribute_of, object_numbered}
 use Rattle.sc_region.specs.Stores as store
-use Rattle.sc_region.specs.Stores.{PlainStore, born, entered, is_settled, settled, with_new}
+use Rattle.sc_region.specs.Stores.{PlainStore, born, entered, entered_at, is_settled, settled, with_new}
 use Rattle.sc_request.specs.Asked as asked
-use Rattle.sc_interp.specs.Entering.{entered_if, routine_in}
+use Rattle.sc_acts.specs.Entering.{entered_if, routine_in}
+use Rattle.sc_acts.specs.Exiting.{is_void}
 use Rattle.sc_interp.specs.Objects.{object_in, objects_in}
 use Rattle.sc_region_turns.specs.RegionHalves.{IsRegionOf}
 use Rattle.sc_region_turns.specs.RegionSteps as region_steps
 use Rattle.sc_region_turns.specs.RegionSteps.{IsProgramFor, first_want, names_of, numbering_by, request_with, taking}
 use Rattle.sc_region_turns.specs.RegionTurns as half
-use Rattle.sc_region_turns.specs.RegionTurns.{Half, begins, enters, settles}
-use Rattle.sc_interp.specs.Serving.{version_in}
-use Rattle.sc_interp.specs.Turning.{unless_failed}
-use Rattle.sc_interp.specs.Values.{reference_of, values_of}
-use Rattle.sc_play.specs.Taking.{asks_answering, asks_call, asks_creation, asks_errand, born_by, taken_call, taken_creation, taken_errand}
+use Rattle.sc_region_turns.specs.RegionTurns.{Half, begins, enters, replies, settles, takes, takes_kind, takes_version}
+use Rattle.sc_acts.specs.Tables.{version_in}
+use Rattle.sc_acts.specs.Turning.{unless_failed}
+use Rattle.sc_interp.specs.Values.{reference_of, value_of, values_of}
+use Rattle.sc_acts.proofs.Options.{none_some, some_same}
+use Rattle.sc_region_turns.proofs.RegionSame.{still_fails}
+use Rattle.sc_interp.proofs.Valued.{valued_named}
+use Rattle.sc_play.specs.Taking.{answered, asks_answering, asks_call, asks_creation, asks_errand, asks_on, asks_version, born_by, taken, taken_call, taken_creation, taken_errand, taken_on, taken_version}
 use Rattle.sc_refines_turn.specs.Acting.{AreWhole}
 use Rattle.sc_refines_turn.specs.Taking.{IsNamed, IsTakeable, RequestsAreTaken, TakenRequestsAsk}
 use Rattle.sc_refines_turn.proofs.TurnAsks.{same_unless}
+use Rattle.sc_refines_turn.proofs.Attributes.{StandsAt, attribute_coded, stands_among}
+use Rattle.sc_refines_turn.proofs.SilentOperations.{all_declared}
 use Rattle.sc_refines_turn.proofs.Creations.{born_is, fresh_same, objects_more}
 use Rattle.sc_refines_turn.proofs.Entries.{routines_are_entered}
-use Rattle.sc_refines_turn.proofs.MetInvariants.{still_settles}
+use Rattle.sc_refines_turn.proofs.Exits.{if_region, value_unset}
+use Rattle.sc_refines_turn.proofs.MetInvariants.{numbered_same, still_settles, version_told}
 use Rattle.sc_refines_turn.proofs.Reservations.{entries_ask}
-use Rattle.sc_refines_turn.proofs.ProgramRoutines.{frames_still}
-use Rattle.sc_refines_turn.proofs.TakenCalls.{Same, call_asks, call_taken, entered_keeps, settled_objects, settled_output, whole_more, whole_same}
+use Rattle.sc_refines_turn.proofs.TurnWants.{value_back}
+use Rattle.sc_refines_turn.proofs.ProgramRoutines.{frames_still, mapped_get}
+
+-- ---- attributes
+
+both_ways : (a b : Bool) → (a && b) ≡ (b && a)
+both_ways true true = refl
+both_ways true false = refl
+both_ways false true = refl
+both_ways false false = refl
+
+module _ (s : System) (x : Half) (y : PlainStore) (region : IsRegionOf s x y) (a : AttributeCode) (t : EntityType) (coded : a.is_attached ≡ t.attached) where
+  unset_same : (v : Value) (w : values.Value) → value_of v ≡ w → (a.is_attached && is_void (Some v)) ≡ is_unset_value w t
+  unset_same v w e = ap (λ b. b && is_void (Some v)) coded ∙ both_ways t.attached (is_void (Some v)) ∙ value_unset v t ∙ ap (λ w. is_unset_value w t) e
+
+  answered_same : (v : Option Value) (b : Option Binding) → option_map value_of v ≡ option_map (λ (b : Binding). b.value) b → IsRegionOf s (replies (Some t) b x) (answered (Some a) v y)
+  answered_same None None e = still_fails s x y cause.BadCode region
+  answered_same None (Some b) e = none_some b.value e
+  answered_same (Some v) None e = none_some (value_of v) (sym e)
+  answered_same (Some v) (Some b) e =
+      if_region s _ _ _ _ _ _ (unset_same v b.value (some_same (value_of v) b.value e)) (still_fails s x y cause.UnsetEntity region) region
+
+  answer_asks : (v : Option Value) (b : Option Binding) → option_map value_of v ≡ option_map (λ (b : Binding). b.value) b →
+      unless_failed (answered (Some a) v y).failure (asked.asks_replying (Some t) b) ≡ unless_failed (answered (Some a) v y).failure (asks_answering v)
+  answer_asks None None e = refl
+  answer_asks None (Some b) e = none_some b.value e
+  answer_asks (Some v) None e = none_some (value_of v) (sym e)
+  answer_asks (Some v) (Some b) e = by _ _ (unset_same v b.value (some_same (value_of v) b.value e))
+    where
+      by : (c d : Bool) → c ≡ d →
+          unless_failed (if c then store.failed cause.UnsetEntity y else y).failure (if d then want.Fail cause.UnsetEntity else asked.asks_done (Some b.value) [] false)
+          ≡ unless_failed (if c then store.failed cause.UnsetEntity y else y).failure (asks_answering (Some v))
+      by true true e = refl
+      by true false e = cc
+      by false true e = cc
+      by false false h = ap (λ w. unless_failed y.failure (want.Done (Some w) (record { items = [] }) false)) (ap asked.value_of (sym (some_same (value_of v) b.value e)) ∙ value_back v)
+
+-- ---- stores
+
+kept : {A : Type 0} (f : PlainStore → A) (b : Bool) (p q : PlainStore) (a : A) → f p ≡ a → f q ≡ a → f (if b then p else q) ≡ a
+kept f true p q a d e = d
+kept f false p q a d e = e
+
+settled_objects : (n : ℕ) (y : PlainStore) → (settled n y).objects ≡ y.objects
+settled_objects n y = kept (λ z. z.objects) (is_settled n y && at.object_breaks y.program (object_numbered n y.objects)) (store.failed cause.Invariant y) y y.objects refl refl
+
+settled_output : (n : ℕ) (y : PlainStore) → (settled n y).output ≡ y.output
+settled_output n y = kept (λ z. z.output) (is_settled n y && at.object_breaks y.program (object_numbered n y.objects)) (store.failed cause.Invariant y) y y.output refl refl
+
+settled_program : (n : ℕ) (y : PlainStore) → (settled n y).program ≡ y.program
+settled_program n y = kept (λ z. z.program) (is_settled n y && at.object_breaks y.program (object_numbered n y.objects)) (store.failed cause.Invariant y) y y.program refl refl
+
+module _ {A : Type 0} (f : PlainStore → A) (failed : (why : Cause) (y : PlainStore) → f (store.failed why y) ≡ f y)
+    (on : (y : PlainStore) (fs : List frames.PlainFrame) → f (record y { frames = fs }) ≡ f y) where
+  -- An entry leaves what frames and failures leave.
+  entered_keeps : (r : Reference) (n : ℕ) (o : code_origin.Origin) (us : List Value) (y : PlainStore) → f (entered r n o us y) ≡ f y
+  entered_keeps r n o us y = by (routine_at y.program n)
+    where
+      by : (q : Option RoutineCode) → f (entered_at (length y.frames) r n q o us y) ≡ f y
+      by None = failed cause.BadCode y
+      by (Some q) =
+          kept f (length us == q.formals) _ _ (f y)
+          (kept f (nat_lt (length y.frames) store.max_frames) _ _ (f y) (on y (store.entry r n q o us ∷ y.frames)) (failed cause.StackFull y)) (failed cause.BadCode y)
+
+whole_same : (y z : PlainStore) → z.objects ≡ y.objects → z.program ≡ y.program → AreWhole y → AreWhole z
+whole_same y z objects program whole number o e =
+    subst (λ p. length (defaults_of (class_at p o.class)) ≤ length o.attributes) (sym program) (whole number o (ap (object_numbered number) (sym objects) ∙ e))
+
+-- what stands in a longer list
+get_more : (os : List PlainObject) (p o : PlainObject) (k : ℕ) → slice_get (os ++ p ∷ []) k ≡ Some o → (slice_get os k ≡ Some o) ⊎ (p ≡ o)
+get_more [] p o k e = by k e
+  where
+    by : (k : ℕ) → slice_get (p ∷ []) k ≡ Some o → (slice_get [] k ≡ Some o) ⊎ (p ≡ o)
+    by zero e = inr (some_same p o e)
+    by (suc k) e = inl e
+get_more (q ∷ os) p o zero e = inl e
+get_more (q ∷ os) p o (suc k) e = get_more os p o k e
+
+whole_more : (class : ℕ) (y : PlainStore) → AreWhole y → AreWhole (with_new class y)
+whole_more class y whole number o e = by (number == 0) refl e
+  where
+    there : (number == 0) ≡ false → (slice_get y.objects (number - 1) ≡ Some o) ⊎ (at.fresh_object y.program class ≡ o) → length (defaults_of (class_at y.program o.class)) ≤ length o.attributes
+    there some (inl e) = whole number o (ap (λ b. if b then None else slice_get y.objects (number - 1)) some ∙ e)
+    there some (inr e) = subst (λ (q : PlainObject). length (defaults_of (class_at y.program q.class)) ≤ length q.attributes) e (omega arith)
+
+    by : (b : Bool) → (number == 0) ≡ b → (if b then None else slice_get (y.objects ++ at.fresh_object y.program class ∷ []) (number - 1)) ≡ Some o →
+        length (defaults_of (class_at y.program o.class)) ≤ length o.attributes
+    by true some e = none_some o e
+    by false some e = there some (get_more y.objects (at.fresh_object y.program class) o (number - 1) e)
+
+-- ---- calls
+
+-- Unless the store has failed, both are asked alike.
+abbrev Same : PlainStore → Want → (PlainStore → Want) → Type 0
+Same w v asks = unless_failed w.failure v ≡ unless_failed w.failure (asks w)
 
 module _ (h : ℕ) (r : Request) (y : PlainStore) (takeable : IsTakeable y r) (s : System) (x : Half) (is : IsProgramFor s y.program) (region : IsRegionOf s x y) where
   abbrev class : ℕ
@@ -51,6 +172,151 @@ module _ (h : ℕ) (r : Request) (y : PlainStore) (takeable : IsTakeable y r) (s
 
   abbrev us : List Value
   us = r.actuals.items
+
+  module _ (k : ℕ) (name : List ℕ) (named : slice_get (names_of y) k ≡ Some name) where
+    abbrev asks_for : machine.Request
+    asks_for = request_with r (machine.Calls name)
+
+    -- a routine is entered
+    routine_taken : (f : DeclaredFeature) → version_of s class name ≡ Some f → (n : Option ℕ) → version_in y.program class k ≡ option_map version.Routine n →
+        IsRegionOf s (enters s (reference_of r.target) (routine_of s f) (Requested asks_for) x.stack (values_of us) x) (taken_version r (option_map version.Routine n) y)
+    routine_taken f found n e =
+        by n
+        (subst (λ v. IsRegionOf s (enters s (reference_of r.target) (routine_of s f) (Requested asks_for) x.stack (values_of us) x) (entered_if (routine_in v) r.target origin.Requested us y)) e
+        (subst (λ q. IsRegionOf s (enters s (reference_of r.target) (option_and_then (routine_of s) q) (Requested asks_for) x.stack (values_of us) x)
+        (entered_if (routine_in (version_in y.program class k)) r.target origin.Requested us y)) found
+        (routines_are_entered s x y r.target k name (Requested asks_for) us is region named)))
+      where
+        by : (n : Option ℕ) → IsRegionOf s (enters s (reference_of r.target) (routine_of s f) (Requested asks_for) x.stack (values_of us) x)
+            (entered_if (routine_in (option_map version.Routine n)) r.target origin.Requested us y) →
+            IsRegionOf s (enters s (reference_of r.target) (routine_of s f) (Requested asks_for) x.stack (values_of us) x) (taken_version r (option_map version.Routine n) y)
+        by None region = region
+        by (Some n) region = region
+
+    routine_asks : (f : DeclaredFeature) → version_of s class name ≡ Some f → (n : Option ℕ) → version_in y.program class k ≡ option_map version.Routine n →
+        Same (taken_version r (option_map version.Routine n) y) (asked.asks_entering s (routine_of s f) (values_of us) (length x.stack)) (asks_version r (option_map version.Routine n) y)
+    routine_asks f found None e = refl
+    routine_asks f found (Some n) e =
+        let w = entered r.target n origin.Requested us y in
+        let same = ap (option_and_then (routine_of s)) found in
+        let program = entered_keeps (λ z. z.program) (λ why y. refl) (λ y fs. refl) r.target n origin.Requested us y in
+        ap (λ q. unless_failed w.failure (asked.asks_entering s q (values_of us) (length x.stack))) (sym same)
+        ∙ entries_ask s w (subst (IsProgramFor s) (sym program) is) class name (reference_of r.target) (Requested asks_for) x.stack (values_of us) x
+        (subst (λ q. IsRegionOf s (enters s (reference_of r.target) q (Requested asks_for) x.stack (values_of us) x) w) (sym same) (routine_taken f found (Some n) e))
+
+    -- what is known of an attribute that is asked for
+    known_type : (f : DeclaredFeature) (d : DeclaredType) → version_of s class name ≡ Some f → f.feature.kind ≡ tree.Attribute d → is_some (declared_type s [] d) ≡ true
+    known_type f d found kind =
+        subst (λ m. is_declared s m ≡ true) kind (found_declared s is.root is.faultless (all_declared s is.well_formed) class name f found)
+
+    read_same : (o : PlainObject) → object_numbered r.target.number y.objects ≡ Some o → (t : EntityType) (at : StandsAt name (fresh_attributes s (features s class)) t) →
+        option_map value_of (attribute_of r.target.number at.number y.objects) ≡ option_map (λ (b : Binding). b.value) (binding_named name (object_in s o).attributes)
+    read_same o there t at =
+        ap (λ q. option_map value_of (option_and_then (λ (o : PlainObject). slice_get o.attributes at.number) q)) there
+        ∙ sym (mapped_get value_of o.attributes at.number)
+        ∙ ap (option_and_then (slice_get (values_of o.attributes))) (sym at.numbered)
+        ∙ ap (λ k. option_and_then (slice_get (values_of o.attributes)) (attribute_number name (fresh_attributes s (features s k)))) (sym (takeable.of_class o there))
+        ∙ sym (valued_named name (fresh_attributes s (features s o.class)) (values_of o.attributes))
+
+    attribute_taken : (o : PlainObject) → object_numbered r.target.number y.objects ≡ Some o → (f : DeclaredFeature) (d : DeclaredType) → version_of s class name ≡ Some f →
+        f.feature.kind ≡ tree.Attribute d → (q : Option EntityType) → declared_type s [] d ≡ q → is_some q ≡ true →
+        IsRegionOf s (replies q (binding_named name (object_in s o).attributes) x) (taken_version r (option_map version.Attribute (attribute_number f.feature.name.text (fresh_attributes s (features s class)))) y)
+    attribute_taken o there f d found kind None e some = cc
+    attribute_taken o there f d found kind (Some t) e some =
+        let at = stands_among s name (features s class) f d t found kind e in
+        let coded = attribute_coded s y.program is class name t at in
+        let value = attribute_of r.target.number at.number y.objects in
+        let binding = binding_named name (object_in s o).attributes in
+        subst (λ n. IsRegionOf s (replies (Some t) binding x) (taken_version r (option_map version.Attribute n) y))
+        (sym (ap (λ t. attribute_number t (fresh_attributes s (features s class))) (found_stands s class name f found).is_named ∙ at.numbered))
+        (subst (λ c. IsRegionOf s (replies (Some t) binding x) (answered c value y)) (sym coded.found)
+        (answered_same s x y region coded.code t coded.same value binding (read_same o there t at)))
+
+    attribute_asks : (o : PlainObject) → object_numbered r.target.number y.objects ≡ Some o → (f : DeclaredFeature) (d : DeclaredType) → version_of s class name ≡ Some f →
+        f.feature.kind ≡ tree.Attribute d → (q : Option EntityType) → declared_type s [] d ≡ q → is_some q ≡ true →
+        (let v = option_map version.Attribute (attribute_number f.feature.name.text (fresh_attributes s (features s class))) in
+        Same (taken_version r v y) (asked.asks_replying q (binding_named name (object_in s o).attributes)) (asks_version r v y))
+    attribute_asks o there f d found kind None e some = cc
+    attribute_asks o there f d found kind (Some t) e some =
+        let at = stands_among s name (features s class) f d t found kind e in
+        let coded = attribute_coded s y.program is class name t at in
+        let value = attribute_of r.target.number at.number y.objects in
+        let binding = binding_named name (object_in s o).attributes in
+        subst (λ n. Same (taken_version r (option_map version.Attribute n) y) (asked.asks_replying (Some t) binding) (asks_version r (option_map version.Attribute n) y))
+        (sym (ap (λ t. attribute_number t (fresh_attributes s (features s class))) (found_stands s class name f found).is_named ∙ at.numbered))
+        (subst (λ c. unless_failed (answered c value y).failure (asked.asks_replying (Some t) binding) ≡ unless_failed (answered c value y).failure (asks_answering value)) (sym coded.found)
+        (answer_asks s x y region coded.code t coded.same value binding (read_same o there t at)))
+
+    kind_taken : (o : PlainObject) → object_numbered r.target.number y.objects ≡ Some o → (f : DeclaredFeature) → version_of s class name ≡ Some f → (m : FeatureKind) → f.feature.kind ≡ m →
+        version_in y.program class k ≡ entry_of_kind s class f m → IsRegionOf s (takes_kind s asks_for name (object_in s o) f m x) (taken_version r (entry_of_kind s class f m) y)
+    kind_taken o there f found (tree.Routine own) kind e = routine_taken f found (feature_number s (names.routine_of f)) e
+    kind_taken o there f found (tree.Attribute d) kind e = attribute_taken o there f d found kind (declared_type s [] d) refl (known_type f d found kind)
+
+    kind_asks : (o : PlainObject) → object_numbered r.target.number y.objects ≡ Some o → (f : DeclaredFeature) → version_of s class name ≡ Some f → (m : FeatureKind) → f.feature.kind ≡ m →
+        version_in y.program class k ≡ entry_of_kind s class f m →
+        Same (taken_version r (entry_of_kind s class f m) y) (asked.asks_calling s asks_for name (length x.stack) (object_in s o) f m) (asks_version r (entry_of_kind s class f m) y)
+    kind_asks o there f found (tree.Routine own) kind e = routine_asks f found (feature_number s (names.routine_of f)) e
+    kind_asks o there f found (tree.Attribute d) kind e = attribute_asks o there f d found kind (declared_type s [] d) refl (known_type f d found kind)
+
+    on_taken : (o : Option PlainObject) → object_numbered r.target.number y.objects ≡ o → (f : Option DeclaredFeature) → version_of s class name ≡ f →
+        version_in y.program class k ≡ entry_of_feature s class f → IsRegionOf s (takes_version s asks_for name (option_map (object_in s) o) f x) (taken_on r o (entry_of_feature s class f) y)
+    on_taken None there None found e = still_fails s x y cause.BadCode region
+    on_taken None there (Some f) found e = still_fails s x y cause.BadCode region
+    on_taken (Some o) there None found e = still_fails s x y cause.BadCode region
+    on_taken (Some o) there (Some f) found e = kind_taken o there f found f.feature.kind refl e
+
+    on_asks : (o : Option PlainObject) → object_numbered r.target.number y.objects ≡ o → (f : Option DeclaredFeature) → version_of s class name ≡ f →
+        version_in y.program class k ≡ entry_of_feature s class f →
+        Same (taken_on r o (entry_of_feature s class f) y) (asked.asks_version s asks_for name (length x.stack) (option_map (object_in s) o) f) (asks_on r o (entry_of_feature s class f) y)
+    on_asks None there None found e = refl
+    on_asks None there (Some f) found e = refl
+    on_asks (Some o) there None found e = refl
+    on_asks (Some o) there (Some f) found e = kind_asks o there f found f.feature.kind refl e
+
+    abbrev object_there : Option PlainObject
+    object_there = object_numbered r.target.number y.objects
+
+    object_same : model_objects.object_numbered r.target.number x.objects ≡ option_map (object_in s) object_there
+    object_same = ap (model_objects.object_numbered r.target.number) (sym region.objects) ∙ numbered_same s r.target.number y.objects
+
+    version_is : version_in y.program class k ≡ entry_of_feature s class (version_of s class name)
+    version_is = version_told s is.root y.program is.program class k name named
+
+    version_taken : IsRegionOf s (takes_version s asks_for name (model_objects.object_numbered r.target.number x.objects) (version_of s class name) x)
+        (taken_on r object_there (version_in y.program class k) y)
+    version_taken =
+        subst (λ q. IsRegionOf s (takes_version s asks_for name q (version_of s class name) x) (taken_on r object_there (version_in y.program class k) y)) (sym object_same)
+        (subst (λ v. IsRegionOf s (takes_version s asks_for name (option_map (object_in s) object_there) (version_of s class name) x) (taken_on r object_there v y)) (sym version_is)
+        (on_taken object_there refl (version_of s class name) refl version_is))
+
+    call_taken : IsRegionOf s (takes s h asks_for x) (taken_call h r k y)
+    call_taken = if_region s _ _ _ _ (r.target.handler == h) (r.target.handler == h) refl version_taken (still_fails s x y cause.ForeignObject region)
+
+    version_asks : Same (taken_on r object_there (version_in y.program class k) y)
+        (asked.asks_version s asks_for name (length x.stack) (model_objects.object_numbered r.target.number x.objects) (version_of s class name))
+        (asks_on r object_there (version_in y.program class k) y)
+    version_asks =
+        subst (λ q. Same (taken_on r object_there (version_in y.program class k) y) (asked.asks_version s asks_for name (length x.stack) q (version_of s class name))
+        (asks_on r object_there (version_in y.program class k) y)) (sym object_same)
+        (subst (λ v. Same (taken_on r object_there v y) (asked.asks_version s asks_for name (length x.stack) (option_map (object_in s) object_there) (version_of s class name))
+        (asks_on r object_there v y)) (sym version_is)
+        (on_asks object_there refl (version_of s class name) refl version_is))
+
+    abbrev there : PlainStore
+    there = taken_on r object_there (version_in y.program class k) y
+
+    abbrev elsewhere : PlainStore
+    elsewhere = store.failed cause.ForeignObject y
+
+    by_handler : (b : Bool) → unless_failed (if b then there else elsewhere).failure
+        (if b then asked.asks_version s asks_for name (length x.stack) (model_objects.object_numbered r.target.number x.objects) (version_of s class name) else want.Fail cause.ForeignObject)
+        ≡ unless_failed (if b then there else elsewhere).failure
+        (if b then asks_on r object_there (version_in y.program class k) y (if b then there else elsewhere) else want.Continue)
+    by_handler true = version_asks
+    by_handler false = refl
+
+    call_asks : Same (taken_call h r k y) (asked.asks_errand s h asks_for (machine.Calls name) (length x.stack) x.objects) (asks_call h r k y)
+    call_asks = by_handler (r.target.handler == h)
 
   -- ---- creations
 
@@ -158,7 +424,7 @@ module _ (h : ℕ) (r : Request) (y : PlainStore) (takeable : IsTakeable y r) (s
 
   errand_taken : (e : Errand) → IsNamed (names_of y) e → IsRegionOf s (begins s h (taking r (region_steps.errand_in (names_of y) e)) x.stack x) (taken_errand h e r y)
   errand_taken (errand.Calls k) n =
-      subst (λ o. IsRegionOf s (begins s h (taking r (option_map machine.Calls o)) x.stack x) (taken_call h r k y)) (sym n.1) (call_taken h r y takeable s x is region k n.0 n.1)
+      subst (λ o. IsRegionOf s (begins s h (taking r (option_map machine.Calls o)) x.stack x) (taken_call h r k y)) (sym n.1) (call_taken k n.0 n.1)
   errand_taken (errand.Makes None) n = born_region
   errand_taken (errand.Makes (Some k)) n =
       subst (λ o. IsRegionOf s (begins s h (taking r (option_map (λ x. machine.Makes (Some x)) o)) x.stack x) (taken_creation (Some k) r y)) (sym n.1) (created_region k n.0 n.1)
@@ -174,7 +440,7 @@ module _ (h : ℕ) (r : Request) (y : PlainStore) (takeable : IsTakeable y r) (s
   errand_asks : (e : Errand) → IsNamed (names_of y) e → AsksSo e (region_steps.errand_in (names_of y) e)
   errand_asks (errand.Calls k) n =
       subst (λ o. AsksSo (errand.Calls k) (option_map machine.Calls o)) (sym n.1)
-      (told_so _ (taken_call h r k y) _ (asks_call h r k y (taken_call h r k y)) (call_asks h r y takeable s x is region k n.0 n.1))
+      (told_so _ (taken_call h r k y) _ (asks_call h r k y (taken_call h r k y)) (call_asks k n.0 n.1))
   errand_asks (errand.Makes None) n = told_so _ (born class y) _ (asks_answering None) born_asks
   errand_asks (errand.Makes (Some k)) n =
       subst (λ o. AsksSo (errand.Makes (Some k)) (option_map (λ x. machine.Makes (Some x)) o)) (sym n.1)

@@ -65,8 +65,7 @@ use Rattle.sc_refines_turn.proofs.Exits.{Ending, ending, meets_same, origin_same
 use Rattle.sc_refines_turn.proofs.PassedOperations.{act_same, stays}
 use Rattle.sc_refines_turn.proofs.Refusals.{Refusal, refusal, verdict_is}
 use Rattle.sc_refines_turn.proofs.ShownSteps.{leaves_is}
-use Rattle.sc_refines_turn.proofs.SeenRequests.{creates_handler_is, requests_is}
-use Rattle.sc_refines_turn.proofs.StageChanges.{same_blocks, values_taken}
+use Rattle.sc_refines_turn.proofs.StageChanges.{creates_handler_is, requests_is, same_blocks, values_taken}
 
 -- ---- values
 

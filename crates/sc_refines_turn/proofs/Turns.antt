@@ -1,58 +1,275 @@
 -- One whole turn of a handler.
-use Rattle.std.proofs.Common.{◌≡◌, ℕ, true, false, List, [], ◌∷◌, Some, length, refl, sym, ap, ◌∙◌, subst}
+use Rattle.std.proofs.Common.{◌≡◌, ℕ, zero, suc, ◌+◌, ◌-◌, ◌<◌, ◌≤◌, Bool, true, false, List, [], ◌∷◌, Option, Some, None, length, refl, sym, ap, ◌∙◌, subst, arith}
+use Rattle.std.specs.Prelude.{◌||◌, slice_get, slice_set, if◌then◌else◌}
+use Rattle.std.specs.Option.{option_and_then}
 use Rattle.sc_tree.specs.Plain.{System}
 use Rattle.sc_model.specs.declared.cause.Cause.TheVariants as cause
 use Rattle.sc_model.specs.Handlers as machine
 use Rattle.sc_model.specs.Handlers.{Frame, Runs, Reserves, ReservesBlock, InCall, Awaits}
+use Rattle.sc_code.specs.Machine as flat
 use Rattle.sc_region.specs.declared.frame.Stage.TheVariants as stage
 use Rattle.sc_region.specs.declared.job.Job.TheVariants as job
 use Rattle.sc_region.specs.declared.job.Want.{Want}
 use Rattle.sc_region.specs.declared.job.Want.TheVariants as want
-use Rattle.sc_region.specs.Frames.{PlainFrame}
+use Rattle.sc_region.specs.declared.value.Value.{Value}
+use Rattle.sc_region.specs.declared.value.Reference.{Reference}
+use Rattle.sc_region.specs.Frames.{PlainActivation, PlainFrame, top_activation}
 use Rattle.sc_region.specs.Stores as store
 use Rattle.sc_region.specs.Stores.{PlainStore}
 use Rattle.sc_request.specs.Asked.{Numbering, asks_going, asks_on}
-use Rattle.sc_region.specs.Calls.{on_top}
+use Rattle.sc_acts.specs.declared.act.Act.{Act}
+use Rattle.sc_acts.specs.declared.act.Act.TheVariants as act
+use Rattle.sc_interp.specs.declared.hops.Hop.{Hop}
+use Rattle.sc_interp.specs.declared.hops.Hop.TheVariants as hop
+use Rattle.sc_acts.specs.Creating.{with_reference, without_last}
+use Rattle.sc_region.specs.Calls.{last_values, taken, on_top, past}
 use Rattle.sc_region_turns.specs.Laws.{ProgramsServe}
+use Rattle.sc_acts.specs.Refusing.{is_waited_for, refused}
 use Rattle.sc_region_turns.specs.RegionHalves.{IsRegionOf, AreFrames, stage_of}
 use Rattle.sc_region_turns.specs.RegionSteps as region_steps
-use Rattle.sc_region_turns.specs.RegionSteps.{IsProgramFor, first_want, names_of, numbering_by, task_of}
+use Rattle.sc_region_turns.specs.RegionSteps.{IsProgramFor, first_want, names_of, next_want, numbering_by, task_of}
 use Rattle.sc_region_turns.specs.RegionTurns as half
 use Rattle.sc_region_turns.specs.RegionTurns.{Half, goes_on, taken_turn, told_frames, turn, turn_on, with_stack}
-use Rattle.sc_interp.specs.Turning.{unless_failed}
+use Rattle.sc_acts.specs.Tables.{formals_at}
+use Rattle.sc_acts.specs.Turning.{unless_failed}
+use Rattle.sc_acts.proofs.Options.{none_some}
 use Rattle.sc_region_turns.proofs.RegionSame.{still_fails}
+use Rattle.sc_acts.specs.Acting.{acted, asks_acted}
 use Rattle.sc_play.specs.Answering as answering
 use Rattle.sc_play.specs.Answering.{told, top_stage}
+use Rattle.sc_acts.specs.Blocks as blocks
+use Rattle.sc_acts.specs.Blocks.{block_left, heads_in, innermost, innermost_in, left_with, opened_with}
+use Rattle.sc_acts.specs.CreatingHandlers as creating_handlers
+use Rattle.sc_acts.specs.CreatingHandlers.{creation_by, creation_with, handler_created, may_create}
+use Rattle.sc_acts.specs.CreatingObjects as creating_objects
+use Rattle.sc_acts.specs.Operands.{class_number, has_call}
+use Rattle.sc_acts.specs.Requesting as requesting
+use Rattle.sc_acts.specs.Requesting.{call_of, request_by, requested, sent}
 use Rattle.sc_play.specs.Taking as taking
 use Rattle.sc_play.specs.Taking.{asks_taking}
-use Rattle.sc_play.specs.Turns.{Becomes, GoesOn, TurnIn, TurnMade, TurnOf, asks_done}
+use Rattle.sc_play.specs.Turns.{Becomes, GoesOn, TurnIn, TurnMade, TurnOf, asks_done, done}
 use Rattle.sc_play.proofs.Programs.{turn_keeps}
-use Rattle.sc_refines_turn.specs.Acting.{TopRuns}
+use Rattle.sc_refines_turn.specs.Acting as acting
+use Rattle.sc_refines_turn.specs.Acting.{AreWhole, Comes, HasBlock, HasNoBlock, IsNotWaitedFor, TopRuns, TurnsInto, asks_nothing, creating, opening, sending}
 use Rattle.sc_refines_turn.specs.Making.{told_half}
-use Rattle.sc_refines_turn.specs.Turns.{FirstTurnsAreMade, JobsAreTaken, MayGoOn, MayTurn, MayTurnIn, MayTurnMade, TurnsAreMade}
-use Rattle.sc_refines_turn.specs.Waiting.{RefusesInContract}
-use Rattle.sc_refines_turn.proofs.TurnAsks.{same_unless, told_by}
+use Rattle.sc_refines_turn.specs.Reserving.{MayOpen}
+use Rattle.sc_refines_turn.specs.Turns.{FirstTurnsAreMade, JobsAreTaken, MayAct, MayDo, MayGoOn, MayTurn, MayTurnIn, MayTurnMade, TurnsAreMade}
+use Rattle.sc_refines_turn.specs.Waiting.{IsWaitedFor, RefusesInContract}
+use Rattle.sc_refines_turn.specs.Wanting.{MayCreate, MayRequest}
+use Rattle.sc_refines_turn.proofs.TurnAsks.{failures_are_told, same_unless, simple_steps_ask_nothing, told_by}
+use Rattle.sc_refines_turn.proofs.BlockAsks.{blocks_ask, has_heads}
+use Rattle.sc_refines_turn.proofs.Calls.{calls_are_made}
+use Rattle.sc_refines_turn.proofs.CallAsks.{calls_ask, object_creations_ask}
+use Rattle.sc_refines_turn.proofs.SilentOperations.{meets}
+use Rattle.sc_refines_turn.proofs.Creations.{objects_are_created}
+use Rattle.sc_refines_turn.proofs.ProcedureCreations.{objects_are_created_by_name}
+use Rattle.sc_refines_turn.proofs.Exits.{routines_end}
 use Rattle.sc_refines_turn.proofs.Jobs.{answers_are_taken, bad_answers_are_taken, grants_are_taken}
 use Rattle.sc_refines_turn.proofs.Creators.{creators_are_told, made_are_answers}
+use Rattle.sc_refines_turn.proofs.PassedOperations.{bodies_start, booleans_are_printed, integers_are_printed, rounds_end, routines_fail, texts_are_printed}
+use Rattle.sc_refines_turn.proofs.Refusals.{calls_are_refused}
+use Rattle.sc_refines_turn.proofs.StageChanges.{blocks_begin, blocks_end, handlers_are_created, no_block_ends, requests_are_made}
 use Rattle.sc_refines_turn.proofs.TakenRequests.{requests_are_taken, taken_requests_ask}
-use Rattle.sc_refines_turn.proofs.MadeOperations.{Makes, hops}
+use Rattle.sc_refines_turn.proofs.WaitedClauses.{routines_wait}
+use Rattle.sc_refines_turn.proofs.TurnWants.{block_ends_ask, creations_ask, last_is, refusals_ask, requests_ask, routine_ends_ask}
+
+-- ---- what operations make of a store
+
+-- there are as many as are taken
+taken_many : (n : ℕ) (us vs : List Value) → n ≤ length vs → length (taken n us vs) ≡ length us + n
+taken_many zero us vs l = omega arith
+taken_many (suc n) us [] l = absurd (omega (arith, l))
+taken_many (suc n) us (v ∷ vs) l = let rest = taken_many n (v ∷ us) vs (omega (arith, l)) in omega (arith, rest)
+
+last_many : (n : ℕ) (vs : List Value) → n ≤ length vs → length (last_values n vs) ≡ n
+last_many n vs l = let many = taken_many n [] vs l in omega (arith, many)
+
+requested_is : (h : ℕ) (r : Reference) (k n : ℕ) (gives passes : Bool) (z : PlainStore) → MayRequest k n (top_activation z.frames) →
+    on_top (sending r n gives passes) z ≡ requested h (call_of r k n gives passes) z
+requested_is h r k n gives passes z may = by_waits (passes || gives) ∙ by (top_activation z.frames) may
+  where
+    by_waits : (b : Bool) → on_top (λ a. acting.awaiting_if b r.handler gives false (without_last (past n a))) z
+        ≡ on_top (λ a. requesting.awaiting_if b r.handler gives false (without_last (past n a))) z
+    by_waits true = refl
+    by_waits false = refl
+
+    by : (o : Option PlainActivation) → MayRequest k n o →
+        on_top (requesting.sending (call_of r k n gives passes)) z ≡ sent (requesting.request_in h (call_of r k n gives passes) o) (call_of r k n gives passes) z
+    by None may = absurd may
+    by (Some a) may =
+        let c = call_of r k n gives passes in
+        sym (ap (λ q. sent (option_and_then (λ name. if has_call n a then Some (request_by h c name a) else None) q) c z) may.0
+        ∙ ap (λ b. sent (if b then Some (request_by h c k a) else None) c z) may.1)
+
+handler_created_is : (h class : ℕ) (k : Option ℕ) (n : ℕ) (passes : Bool) (z : PlainStore) → MayCreate class k n (top_activation z.frames) →
+    on_top (creating h class n passes) z ≡ handler_created h (creation_with class k n passes) z
+handler_created_is h class k n passes z may = by_waits passes ∙ by (top_activation z.frames) may
+    ∙ sym (ap (λ q. creating_handlers.created_of h (creation_with class k n passes) q z) (class_is (top_activation z.frames) may))
+  where
+    by_waits : (b : Bool) → on_top (λ a. acting.awaiting_if b h false true (with_reference (acting.first_object h class) (past n a))) z
+        ≡ on_top (λ a. requesting.awaiting_if b h false true (with_reference (acting.first_object h class) (past n a))) z
+    by_waits true = refl
+    by_waits false = refl
+
+    class_is : (o : Option PlainActivation) → MayCreate class k n o → class_number class ≡ Some class
+    class_is None may = absurd may
+    class_is (Some a) may = may.0
+
+    by : (o : Option PlainActivation) → MayCreate class k n o →
+        on_top (creating_handlers.creating (acting.first_object h class) (creation_with class k n passes)) z
+        ≡ creating_handlers.created_as (creating_handlers.creation_in (creation_with class k n passes) class o) (acting.first_object h class) (creation_with class k n passes) z
+    by None may = absurd may
+    by (Some a) may =
+        let c = creation_with class k n passes in
+        sym (ap (λ q. creating_handlers.created_as (option_and_then (λ procedure. if may_create n a then Some (creation_by c class procedure a) else None) q) (acting.first_object h class) c z) may.1
+        ∙ ap (λ b. creating_handlers.created_as (if b then Some (creation_by c class k a) else None) (acting.first_object h class) c z) may.2)
+
+written_is : (k : ℕ) (us vs : List Value) → acting.written k us vs ≡ blocks.written k us vs
+written_is k [] vs = refl
+written_is k (u ∷ us) vs = written_is (suc k) us (slice_set vs k u)
+
+opened_is : (first n : ℕ) (z : PlainStore) (fs : List PlainFrame) → MayOpen first n (top_activation fs) →
+    on_top (opening first n) (record z { frames = fs }) ≡ opened_with first (heads_in first n (top_activation fs)) (record z { frames = fs })
+opened_is first n z [] may = absurd may
+opened_is first n z (f ∷ fs) may =
+    let a = f.activation in
+    let us = last_values n a.operands.values in
+    let room = has_heads first n a may in
+    let many : length us ≡ n = last_many n a.operands.values room.operands in
+    let opens : opening first n a ≡ blocks.opening first us a =
+    ap (λ vs. record (past n a) { slots = vs; stage = stage.ReservesBlock }) (written_is first us a.slots)
+    ∙ ap (λ m. record (past m a) { slots = blocks.written first us a.slots; stage = stage.ReservesBlock }) (sym many) in
+    ap (λ b. record z { frames = record f { activation = b } ∷ fs }) opens
+    ∙ sym (ap (λ b. opened_with first (if b then Some us else None) (record z { frames = f ∷ fs })) may)
+
+-- ---- what a turn comes to
 
 module _ (serve : ProgramsServe) (h : ℕ) (y : PlainStore) (s : System) (x : Half) (is : IsProgramFor s y.program) (region : IsRegionOf s x y)
     (in_contract : RefusesInContract s x.objects x.stack) where
   abbrev names : Numbering
   names = numbering_by (names_of y)
 
+  -- the turn leaves this store, and asks this
+  abbrev Makes : PlainStore → Want → Type 0
+  Makes z w = IsRegionOf s (turn s h x) z × (w ≡ next_want names s h x)
+
+  module _ (b : PlainStore) where
+    -- what it makes, and what it asks unless the store has failed
+    made : (a : Act) (w : PlainStore) (v : Want) → IsRegionOf s (turn s h x) w → next_want names s h x ≡ unless_failed w.failure v → Makes w (unless_failed w.failure v)
+    made a w v left_so asks = (left_so, sym asks)
+
+    simple : (a : Act) (w : PlainStore) → asks_nothing a ≡ true → Comes (hop.Comes a) y b → TurnsInto y w → Makes w (unless_failed w.failure want.Continue)
+    simple a w nothing comes turns = (turns s h x is region, sym (simple_steps_ask_nothing serve a y b w nothing comes turns names s h x is region))
+
+    abbrev DoesSo : Act → Type 0
+    DoesSo a = Makes (acted h a b) (unless_failed (acted h a b).failure (asks_acted h a b (acted h a b)))
+
+    -- by another name of the store
+    as_store : (a : Act) (w : PlainStore) → w ≡ acted h a b → IsRegionOf s (turn s h x) w →
+        (IsRegionOf s (turn s h x) (acted h a b) → next_want names s h x ≡ unless_failed (acted h a b).failure (asks_acted h a b (acted h a b))) → DoesSo a
+    as_store a w e left_so asks = let left_here = subst (λ w. IsRegionOf s (turn s h x) w) e left_so in (left_here, sym (asks left_here))
+
+    creates : (class : ℕ) (k : Option ℕ) (n : ℕ) → Comes (hop.Comes (act.Create class k n)) y b → MayAct h (act.Create class k n) b →
+        (acted h (act.Create class k n) b).program ≡ y.program → DoesSo (act.Create class k n)
+    creates class None n comes may program =
+        let a = act.Create class None n in
+        as_store a _ (sym (ap (λ q. creating_objects.created_of q h None n b) may.0)) (objects_are_created serve h class n y b comes may.1 s h x is region)
+        (object_creations_ask serve h class None n y b (acted h a b) comes program s x is region)
+    creates class (Some k) n comes may program =
+        let a = act.Create class (Some k) n in
+        as_store a _ (sym (ap (λ q. creating_objects.created_of q h (Some k) n b) may.0))
+        (objects_are_created_by_name serve h class k n may.1.0 y b comes may.5 may.1.1 may.2 may.3 may.4 s h x is region)
+        (object_creations_ask serve h class (Some k) n y b (acted h a b) comes program s x is region)
+
+    refuses : (k : ℕ) → Comes (hop.Comes (act.Refuse k)) y b → AreWhole b → DoesSo (act.Refuse k)
+    refuses k comes whole =
+        let left_so = by (top_activation b.frames) refl in
+        (left_so, sym (refusals_ask serve h k y b comes whole s x is region left_so))
+      where
+        waits : (a : PlainActivation) → top_activation b.frames ≡ Some a → (c : Bool) → is_waited_for a (formals_at b.program k) ≡ c → IsRegionOf s (turn s h x) (refused k b)
+        waits a e true waited = routines_wait serve k y b comes (subst (IsWaitedFor (formals_at b.program k)) (sym e) waited) s h x is region in_contract
+        waits a e false waited = calls_are_refused serve k y b comes whole (subst (IsNotWaitedFor (formals_at b.program k)) (sym e) waited) s h x is region
+
+        by : (o : Option PlainActivation) → top_activation b.frames ≡ o → IsRegionOf s (turn s h x) (refused k b)
+        by None e =
+            let m = meets serve s x (hop.Comes (act.Refuse k)) y b is region comes in
+            none_some m.activation (sym e ∙ ap top_activation m.frames)
+        by (Some a) e = waits a e (is_waited_for a (formals_at b.program k)) refl
+
+    leaves : Comes (hop.Comes act.Leave) y b → DoesSo act.Leave
+    leaves comes =
+        let left_so = by (top_activation b.frames) refl in
+        (left_so, sym (block_ends_ask serve h y b (block_left b) comes s x is region left_so))
+      where
+        by_blocks : (a : PlainActivation) → top_activation b.frames ≡ Some a → (bs : List (List ℕ)) → a.blocks ≡ bs → IsRegionOf s (turn s h x) (block_left b)
+        by_blocks a e [] none =
+            subst (λ w. IsRegionOf s (turn s h x) w) (sym (ap (λ o. left_with (innermost_in o) b) e ∙ ap (λ bs. left_with (innermost bs) b) none))
+            (no_block_ends serve y b comes (subst HasNoBlock (sym e) none) s h x is region)
+        by_blocks a e (k ∷ ks) some =
+            let last = last_is k ks in
+            let less : length (k ∷ ks) - 1 ≡ length ks = omega arith in
+            let inner : innermost (k ∷ ks) ≡ Some last.0 = ap (slice_get (k ∷ ks)) less ∙ last.3 in
+            subst (λ w. IsRegionOf s (turn s h x) w)
+            (sym (ap (λ o. left_with (innermost_in o) b) e ∙ ap (λ bs. left_with (innermost bs) b) some ∙ ap (λ o. left_with o b) inner))
+            (blocks_end serve y b comes (subst HasBlock (sym e) (subst (λ bs. 0 < length bs) (sym some) (omega arith))) s h x is region)
+
+        by : (o : Option PlainActivation) → top_activation b.frames ≡ o → IsRegionOf s (turn s h x) (block_left b)
+        by None e =
+            let m = meets serve s x (hop.Comes act.Leave) y b is region comes in
+            none_some m.activation (sym e ∙ ap top_activation m.frames)
+        by (Some a) e = by_blocks a e a.blocks refl
+
+    acts : (a : Act) → Comes (hop.Comes a) y b → MayAct h a b → (acted h a b).program ≡ y.program → DoesSo a
+    acts (act.PrintInteger v) comes may program = simple (act.PrintInteger v) _ refl comes (integers_are_printed serve v y b comes)
+    acts (act.PrintBoolean v) comes may program = simple (act.PrintBoolean v) _ refl comes (booleans_are_printed serve v y b comes)
+    acts (act.PrintText k) comes may program = simple (act.PrintText k) _ refl comes (texts_are_printed serve k y b comes)
+    acts (act.Until n) comes may program = simple (act.Until n) _ refl comes (rounds_end serve n y b comes)
+    acts act.Start comes may program = simple act.Start _ refl comes (bodies_start serve y b comes)
+    acts (act.Enter c r k n gives) comes may program =
+        let left_so = calls_are_made serve c r k n gives may.0.0 y b comes may.0.1 may.1 s h x is region in
+        (left_so, sym (calls_ask serve h c r k n gives y b (acted h (act.Enter c r k n gives) b) comes program s x is region left_so))
+    acts (act.Request q) comes may program =
+        let a = act.Request q in
+        as_store a _ (requested_is h q.object q.name q.count q.gives q.passes b may.1)
+        (requests_are_made serve q.object q.name q.count q.gives q.passes y b comes s h x is region)
+        (requests_ask serve h q.object q.name q.count q.gives q.passes y b (acted h a b) comes may.0 may.1 s x is region)
+    acts (act.Create class k n) comes may program = creates class k n comes may program
+    acts (act.CreateHandler q) comes may program =
+        let a = act.CreateHandler q in
+        as_store a _ (handler_created_is h q.class q.procedure q.count q.passes b may.1)
+        (handlers_are_created serve h q.class q.procedure q.count q.passes y b comes s x is region)
+        (creations_ask serve h q.class q.procedure q.count q.passes y b (acted h a b) comes may.0 may.1 s x is region)
+    acts (act.Refuse k) comes may program = refuses k comes may
+    acts (act.Open first n) comes may program =
+        let a = act.Open first n in
+        as_store a _ (opened_is first n b b.frames may) (blocks_begin serve first n y b comes s h x is region)
+        (blocks_ask serve h first n y b (acted h a b) comes may s x is region)
+    acts act.Leave comes may program = leaves comes
+    acts act.Exit comes may program =
+        let left_so = routines_end serve y b comes may.0 may.1 s h x is region in
+        (left_so, sym (routine_ends_ask serve h y b comes may.0 s x is region left_so))
+
+    hops : (o : Hop) → Comes o y b → MayDo h o b → (done h o b).program ≡ y.program → Makes (done h o b) (asks_done h o b (done h o b))
+    hops hop.Passed comes may program = let m = meets serve s x hop.Passed y b is region comes in goes_nowhere m.does
+      where
+        goes_nowhere : {A : Type 0} {f g : flat.State} {a : flat.Act} → flat.Goes f ≡ flat.Does a g → A
+        goes_nowhere e = cc
+    hops (hop.Failed why) comes may program =
+        let turns = routines_fail serve why y b comes in
+        (turns s h x is region, sym (failures_are_told why y (store.failed why b) turns refl names s h x is region))
+    hops (hop.Comes a) comes may program = acts a comes may program
+
   -- ---- stages
 
-  runs : (z : PlainStore) (w : Want) → TopRuns y → (g : GoesOn h y z w) → MayGoOn h y z w g → z.program ≡ y.program → Makes serve h y s x is region in_contract z w
+  runs : (z : PlainStore) (w : Want) → TopRuns y → (g : GoesOn h y z w) → MayGoOn h y z w g → z.program ≡ y.program → Makes z w
   runs z w in_stage g may program =
       let o = g.operation in
       let b = g.before in
-      let made_so = hops serve h y s x is region in_contract b o (record { runs = in_stage; comes = g.comes; remains = g.remains }) may (ap (λ (z : PlainStore). z.program) (sym g.does) ∙ program) in
+      let made_so = hops b o (record { runs = in_stage; comes = g.comes; remains = g.remains }) may (ap (λ (z : PlainStore). z.program) (sym g.does) ∙ program) in
       (subst (λ z. IsRegionOf s (turn s h x) z) (sym g.does) made_so.0, g.want ∙ ap (asks_done h o b) g.does ∙ made_so.1)
 
   becomes : (v : PlainStore) (z : PlainStore) (w : Want) (asked : Want) → Becomes v want.Continue z w → IsRegionOf s (turn s h x) v → asks_on names s h x.stack x.objects ≡ asked →
-      unless_failed v.failure asked ≡ unless_failed v.failure want.Continue → Makes serve h y s x is region in_contract z w
+      unless_failed v.failure asked ≡ unless_failed v.failure want.Continue → Makes z w
   becomes v z w asked b left_so e same = (
     subst (λ z. IsRegionOf s (turn s h x) z) (sym b.store) left_so,
     b.want ∙ ap (λ (z : PlainStore). unless_failed z.failure want.Continue) b.store ∙ sym (told_by names s h x v asked left_so e ∙ same),
@@ -67,7 +284,7 @@ module _ (serve : ProgramsServe) (h : ℕ) (y : PlainStore) (s : System) (x : Ha
       asks_at st e = ap (λ fs. asks_on names s h fs x.objects) stack ∙ ap (λ st. asks_going names s h st f (length (f ∷ below)) x.objects) e
 
       by_stage : (st : machine.Stage) → f.stage ≡ st → top_stage y ≡ Some (stage_of st) → (t : TurnIn (Some (stage_of st)) h y z w) →
-          MayTurnIn (Some (stage_of st)) h y z w t → Makes serve h y s x is region in_contract z w
+          MayTurnIn (Some (stage_of st)) h y z w t → Makes z w
       by_stage Runs e top t may = runs z w top t may program
       by_stage Reserves e top t may = becomes y z w want.Continue t (subst (λ half. IsRegionOf s half y) (sym (turn_at Reserves e)) region) (asks_at Reserves e) refl
       by_stage ReservesBlock e top t may = becomes y z w want.Continue t (subst (λ half. IsRegionOf s half y) (sym (turn_at ReservesBlock e)) region) (asks_at ReservesBlock e) refl
@@ -78,8 +295,7 @@ module _ (serve : ProgramsServe) (h : ℕ) (y : PlainStore) (s : System) (x : Ha
       by_stage (Awaits k gives is_creation) e top t may =
           becomes y z w want.Continue t (subst (λ half. IsRegionOf s half y) (sym (turn_at (Awaits k gives is_creation) e)) region) (asks_at (Awaits k gives is_creation) e) refl
 
-    by_frames : (fs : List Frame) (gs : List PlainFrame) → x.stack ≡ fs → y.frames ≡ gs → AreFrames s x.objects fs gs → (t : TurnOf h y z w) → MayTurn h y z w t →
-        Makes serve h y s x is region in_contract z w
+    by_frames : (fs : List Frame) (gs : List PlainFrame) → x.stack ≡ fs → y.frames ≡ gs → AreFrames s x.objects fs gs → (t : TurnOf h y z w) → MayTurn h y z w t → Makes z w
     by_frames [] [] ex ey a t may =
         becomes y z w want.Continue (subst (λ o. TurnIn o h y z w) (ap (λ gs. top_stage (record y { frames = gs })) ey) t)
         (subst (λ half. IsRegionOf s half y) (sym (ap (λ fs. turn_on s h fs x) ex)) region) (ap (λ fs. asks_on names s h fs x.objects) ex) refl

@@ -1,7 +1,7 @@
 -- What visible operations leave is what flat code tells.
-use Rattle.std.proofs.Common.{◌≡◌, ◌⊎◌, inl, inr, ℕ, ◌+◌, Bool, true, false, List, [], ◌∷◌, ◌++◌, Option, Some, None, drop, length, refl, sym, ap, ◌∙◌, subst}
+use Rattle.std.proofs.Common.{◌≡◌, ◌⊎◌, inl, inr, ℕ, zero, suc, ◌+◌, ◌-◌, Bool, true, false, List, [], ◌∷◌, ◌++◌, Option, Some, None, drop, length, refl, sym, ap, ◌∙◌, subst}
 use Rattle.std.proofs.lemmas.List.{length-map}
-use Rattle.std.specs.Prelude.{◌&&◌, ◌||◌, nat_lt, if◌then◌else◌}
+use Rattle.std.specs.Prelude.{◌&&◌, ◌||◌, ◌==◌, nat_lt, replicate, slice_set, if◌then◌else◌}
 use Rattle.sc_tree.specs.Plain.{System}
 use Rattle.sc_model.specs.Invariants.{meets_invariant}
 use Rattle.sc_model.specs.Limits.{max_objects}
@@ -11,51 +11,169 @@ use Rattle.sc_model.specs.Values as model
 use Rattle.sc_model.specs.declared.cause.Cause.{Cause}
 use Rattle.sc_model.specs.declared.cause.Cause.TheVariants as cause
 use Rattle.sc_code.specs.declared.program.Image.{Image}
+use Rattle.sc_code.specs.declared.program.RoutineCode.{RoutineCode}
 use Rattle.sc_code.specs.Machine as flat
 use Rattle.sc_code.specs.Machine.{Code, Hop, State, fails, stuck}
+use Rattle.sc_code.specs.Programs.{pool_of}
 use Rattle.sc_code.specs.RequestRoom.{FitsRequests}
 use Rattle.sc_region.specs.declared.frame.Origin.{Origin}
 use Rattle.sc_region.specs.declared.frame.Origin.TheVariants as origin
+use Rattle.sc_region.specs.declared.frame.Stage.{Stage}
+use Rattle.sc_region.specs.declared.frame.Stage.TheVariants as stage
+use Rattle.sc_region.specs.declared.job.Request.{Request}
+use Rattle.sc_region.specs.declared.job.Want.{Want}
 use Rattle.sc_region.specs.declared.value.Reference.{Reference}
 use Rattle.sc_region.specs.declared.value.Value.{Value}
-use Rattle.sc_region.specs.Calls.{in_call, last_values, next_place, on_top, past, top_frame}
+use Rattle.sc_region.specs.declared.value.Value.TheVariants.{Void}
+use Rattle.sc_region.specs.Calls.{in_call, last_values, next_place, on_top, past, taken, top_frame}
 use Rattle.sc_region.specs.Classes.{object_breaks, object_meets, routine_at}
 use Rattle.sc_region.specs.Frames.{PlainActivation, PlainFrame, frame_with, top_activation}
 use Rattle.sc_region.specs.Objects.{PlainObject, object_numbered}
 use Rattle.sc_region.specs.Stores as store
-use Rattle.sc_region.specs.Stores.{PlainStore, born, born_for, entered, failed, is_settled, left, made, next_reference, with_new}
-use Rattle.sc_interp.specs.declared.act.Act.{Act}
-use Rattle.sc_interp.specs.declared.act.Act.TheVariants as act
-use Rattle.sc_interp.specs.declared.act.Calling.TheVariants as calling
-use Rattle.sc_interp.specs.declared.act.Hop as outcome
-use Rattle.sc_interp.specs.declared.act.Hop.TheVariants as hop
-use Rattle.sc_interp.specs.Creating.{given, has_room, has_room_in, made_if, with_reference}
-use Rattle.sc_interp.specs.Entering.{has_operands, routine_in}
-use Rattle.sc_interp.specs.Exiting.{is_unset, is_untested, returned}
+use Rattle.sc_region.specs.Stores.{PlainStore, born, born_for, entered, entered_at, failed, is_settled, left, made, max_frames, next_reference, settled, with_new}
+use Rattle.sc_acts.specs.declared.act.Act.{Act}
+use Rattle.sc_acts.specs.declared.act.Act.TheVariants as act
+use Rattle.sc_acts.specs.declared.act.Calling.{Calling}
+use Rattle.sc_acts.specs.declared.act.Calling.TheVariants as calling
+use Rattle.sc_interp.specs.declared.hops.Hop as outcome
+use Rattle.sc_interp.specs.declared.hops.Hop.TheVariants as hop
+use Rattle.sc_acts.specs.Creating.{given, has_room, has_room_in, made_if, with_reference, without_last}
+use Rattle.sc_acts.specs.Entering.{entered_if, has_operands, operands_of, origin_of, routine_in}
+use Rattle.sc_acts.specs.Exiting.{handed, handed_as, handed_at, is_unset, is_untested, returned}
 use Rattle.sc_interp.specs.Hopping.{IsVisible}
 use Rattle.sc_interp.specs.Objects.{object_in, objects_in}
-use Rattle.sc_interp.specs.Refusing.{is_waited_for, refused_as, waiting}
-use Rattle.sc_interp.specs.Serving.{version_in}
-use Rattle.sc_interp.specs.Standing.{actuals, formals_at, hopped, name_at, state_of, without}
+use Rattle.sc_acts.specs.Refusing.{is_waited_for, refused_as, waiting}
+use Rattle.sc_acts.specs.Tables.{version_in, formals_at, name_at}
+use Rattle.sc_interp.specs.Standing as standing
+use Rattle.sc_interp.specs.Standing.{actuals, hopped, state_of, without}
 use Rattle.sc_interp.specs.Told as told
 use Rattle.sc_interp.specs.Told.{HasName, HasProcedure, IsReady, NamesCall, NamesCreation}
 use Rattle.sc_acts.specs.Turning.{back}
 use Rattle.sc_interp.specs.Values.{reference_of, value_of, values_of}
 use Rattle.sc_interp.proofs.Operands.{values_drop}
-use Rattle.sc_play.specs.Acting.{acted}
-use Rattle.sc_play.specs.Blocks as blocks
-use Rattle.sc_play.specs.Blocks.{closing, innermost, left_with, may_open, opened_with}
-use Rattle.sc_play.specs.CreatingHandlers.{creation_with}
-use Rattle.sc_play.specs.CreatingObjects as objects
-use Rattle.sc_play.specs.CreatingObjects.{created_with}
-use Rattle.sc_play.specs.Operands.{class_number}
-use Rattle.sc_play.specs.Requesting.{call_of, request_in}
+use Rattle.sc_acts.specs.Acting.{acted}
+use Rattle.sc_acts.specs.Blocks as blocks
+use Rattle.sc_acts.specs.Blocks.{closing, innermost, left_with, may_open, opened_with}
+use Rattle.sc_acts.specs.CreatingHandlers as handlers
+use Rattle.sc_acts.specs.CreatingHandlers.{created_as, creation_in, first_object}
+use Rattle.sc_acts.specs.CreatingObjects as objects
+use Rattle.sc_acts.specs.CreatingObjects.{created_with}
+use Rattle.sc_acts.specs.Operands.{class_number}
+use Rattle.sc_acts.specs.declared.act.RemoteCreation.{RemoteCreation}
+use Rattle.sc_acts.specs.declared.act.RemoteCall.{RemoteCall}
+use Rattle.sc_acts.specs.Requesting.{awaiting_if, request_in, sending, sent, is_waited}
 use Rattle.sc_play.specs.Turns.{done}
+use Rattle.sc_region_turns.specs.RegionSteps.{number_among}
 use Rattle.sc_refines_turn.specs.Wanting.{DistinctNamesHaveNumbers}
 use Rattle.sc_refines_turn.proofs.Unique.{hop_shown}
 use Rattle.sc_refines_world.proofs.Exact.{Grown}
-use Rattle.sc_refines_world.proofs.Molds.{Mold, OneOf, Told, coded_mold, entry_mold, mold_at, molds_of, next_mold, told_none}
-use Rattle.sc_refines_world.proofs.ActedEntries.{Left, Says, creating_of, either, entered_one, entering, fallen, fallen_one, given_same, handed_one, over, passed, requesting, settled_one, simple, still, unmoved, values_written, weaken}
+use Rattle.sc_refines_world.proofs.Molds.{Mold, OneOf, Told, coded_mold, entry_mold, mold_at, mold_of, molds_of, next_mold, told_none}
+
+-- ---- what is left
+
+-- The store is of this program and has these objects, or a new one more; so much is told of its frames.
+pub record Left (p : Image) (os : List PlainObject) (T : List Mold → Type 0) (z : PlainStore) : Type 0 where
+  pub grown : Grown p os z
+  pub tells : T (molds_of z.frames)
+
+pub still : (p : Image) (os : List PlainObject) (z : PlainStore) → z.program ≡ p → z.objects ≡ os → Grown p os z
+still p os z e d = record { program = e; objects = inl d }
+
+-- ---- values
+
+replicated : (n : ℕ) → values_of (replicate n Void) ≡ replicate n model.Void
+replicated zero = refl
+replicated (suc n) = ap (λ vs. model.Void ∷ vs) (replicated n)
+
+joined : (us vs : List Value) → values_of (us ++ vs) ≡ values_of us ++ values_of vs
+joined [] vs = refl
+joined (u ∷ us) vs = ap (λ ws. value_of u ∷ ws) (joined us vs)
+
+values_set : (vs : List Value) (k : ℕ) (v : Value) → values_of (slice_set vs k v) ≡ slice_set (values_of vs) k (value_of v)
+values_set [] k v = refl
+values_set (u ∷ us) zero v = refl
+values_set (u ∷ us) (suc k) v = ap (λ ws. value_of u ∷ ws) (values_set us k v)
+
+values_written : (k : ℕ) (us vs : List Value) → values_of (blocks.written k us vs) ≡ flat.written k (values_of us) (values_of vs)
+values_written k [] vs = refl
+values_written k (u ∷ us) vs = values_written (suc k) us (slice_set vs k u) ∙ ap (flat.written (suc k) (values_of us)) (values_set vs k u)
+
+values_taken : (n : ℕ) (us vs : List Value) → values_of (taken n us vs) ≡ standing.taken n (values_of us) (values_of vs)
+values_taken zero us vs = refl
+values_taken (suc n) us [] = refl
+values_taken (suc n) us (v ∷ vs) = values_taken n (v ∷ us) vs
+
+module _ (p : Image) (os : List PlainObject) where
+  either : (T : List Mold → Type 0) (b : Bool) (x y : PlainStore) → Left p os T x → Left p os T y → Left p os T (if b then x else y)
+  either T true x y l r = l
+  either T false x y l r = r
+
+  weaken : (T S : List Mold → Type 0) (z : PlainStore) → ((ms : List Mold) → T ms → S ms) → Left p os T z → Left p os S z
+  weaken T S z to l = record { grown = l.grown; tells = to (molds_of z.frames) l.tells }
+
+  fallen : (T : List Mold → Type 0) (why : Cause) (x : PlainStore) → Grown p os x → T [] → Left p os T (failed why x)
+  fallen T why x g t = record { grown = record { program = g.program; objects = g.objects }; tells = t }
+
+  fallen_one : (ns : List Mold) (why : Cause) (x : PlainStore) → Grown p os x → Left p os (OneOf ns) (failed why x)
+  fallen_one ns why x g = fallen (OneOf ns) why x g (inl refl)
+
+  settled_one : (ns : List Mold) (number : ℕ) (x : PlainStore) → Left p os (OneOf ns) x → Left p os (OneOf ns) (settled number x)
+  settled_one ns number x l = either (OneOf ns) (is_settled number x && object_breaks x.program (object_numbered number x.objects)) _ x (fallen_one ns _ x l.grown) l
+
+  -- ---- routines that are entered
+
+  begun_mold : (q : ℕ) (r : RoutineCode) (us : List Value) (ms : List Mold) →
+      mold_at q 0 r.olds (values_of (us ++ replicate (r.slots - r.formals) Void)) ∷ ms ≡ mold_at q 0 r.olds (values_of us ++ replicate (r.slots - r.formals) model.Void) ∷ ms
+  begun_mold q r us ms =
+      ap (λ vs. mold_at q 0 r.olds vs ∷ ms) (joined us (replicate (r.slots - r.formals) Void) ∙ ap (λ vs. values_of us ++ vs) (replicated (r.slots - r.formals)))
+
+  entered_one : (me : Reference) (q : ℕ) (o : Origin) (us : List Value) (x : PlainStore) → Grown p os x →
+      Left p os (OneOf (coded_mold q (routine_at x.program q) (values_of us) (molds_of x.frames))) (entered me q o us x)
+  entered_one me q o us x g = by (routine_at x.program q)
+    where
+      by : (c : Option RoutineCode) → Left p os (OneOf (coded_mold q c (values_of us) (molds_of x.frames))) (entered_at (length x.frames) me q c o us x)
+      by None = fallen_one _ _ x g
+      by (Some r) =
+          let ns = coded_mold q (Some r) (values_of us) (molds_of x.frames) in
+          let on : PlainStore = record x { frames = store.entry me q r o us ∷ x.frames } in
+          let here : Left p os (OneOf ns) on = record { grown = record { program = g.program; objects = g.objects }; tells = inr (begun_mold q r us (molds_of x.frames)) } in
+          either (OneOf ns) (length us == r.formals) _ _ (either (OneOf ns) (nat_lt (length x.frames) max_frames) on _ here (fallen_one ns _ x g)) (fallen_one ns _ x g)
+
+  entered_if_one : (q : Option ℕ) (me : Reference) (o : Origin) (us : List Value) (x : PlainStore) → Grown p os x →
+      Left p os (OneOf (entry_mold x.program q (values_of us) (molds_of x.frames))) (entered_if q me o us x)
+  entered_if_one None me o us x g = fallen_one [] _ x g
+  entered_if_one (Some q) me o us x g = entered_one me q o us x g
+
+  -- ---- routines that end
+
+  handed_mold : (v : Option Value) (f : PlainFrame) → mold_of (record f { activation = handed v f.activation }) ≡ mold_of f
+  handed_mold v f = by f.activation.stage
+    where
+      by_room : (u : Value) (a : PlainActivation) (b : Bool) →
+          mold_of (record f { activation = if b then record a { operands = record a.operands { values = u ∷ a.operands.values } } else a }) ≡ mold_of (record f { activation = a })
+      by_room u a true = refl
+      by_room u a false = refl
+
+      by_value : (gives : Bool) (o : Option Value) (a : PlainActivation) → mold_of (record f { activation = handed_as gives o a }) ≡ mold_of (record f { activation = a })
+      by_value true (Some u) a = by_room u a (nat_lt (length a.operands.values) a.operands.depth)
+      by_value true None a = refl
+      by_value false o a = refl
+
+      by : (s : Stage) → mold_of (record f { activation = handed_at s v f.activation }) ≡ mold_of f
+      by (stage.InCall gives) = by_value gives v (record f.activation { stage = stage.Runs })
+      by stage.Runs = refl
+      by stage.Reserves = refl
+      by stage.ReservesBlock = refl
+      by (stage.Awaits k gives is_creation) = refl
+
+  handed_molds : (v : Option Value) (fs : List PlainFrame) → molds_of (top_frame (handed v) fs) ≡ molds_of fs
+  handed_molds v [] = refl
+  handed_molds v (f ∷ below) = ap (λ m. m ∷ molds_of below) (handed_mold v f)
+
+  handed_one : (ns : List Mold) (v : Option Value) (x : PlainStore) → Left p os (OneOf ns) x → Left p os (OneOf ns) (on_top (handed v) x)
+  handed_one ns v x l = record { grown = record { program = l.grown.program; objects = l.grown.objects }; tells = subst (OneOf ns) (sym (handed_molds v x.frames)) l.tells }
+
+-- ---- visible operations
 
 -- The topmost routine runs on this object in this code, and stands so in the store; the other frames are the rest.
 module _ (distinct : DistinctNamesHaveNumbers) (h : ℕ) (s : System) (c : Code) (me : Reference) (z : PlainStore) (t : PlainActivation) (rest : List PlainFrame) (fits : FitsRequests z.program)
@@ -81,8 +199,82 @@ module _ (distinct : DistinctNamesHaveNumbers) (h : ℕ) (s : System) (c : Code)
   abbrev ms : List Mold
   ms = molds_of rest
 
+  -- what flat code tells, where the operation is this one
+  abbrev Says : Act → List Mold → Type 0
+  Says a = Told p n r ms (standing.done p s c (reference_of me) a f)
+
   abbrev vs : List Value
   vs = t.operands.values
+
+  unmoved : Grown p os here
+  unmoved = still p os here refl refl
+
+  passed : (b : PlainActivation) → mold_of (frame_with me b) ≡ mold_at n (next_place t.place) r (values_of t.slots) → OneOf (mold_at n (t.place + 1) r (values_of t.slots) ∷ ms) (mold_of (frame_with me b) ∷ ms)
+  passed b e = inr (ap (λ m. m ∷ ms) e ∙ next_mold n t.place r (values_of t.slots) ms)
+
+  -- it prints, tests a loop's end, or begins a body
+  simple : (k : ℕ) (x : PlainStore) → x.program ≡ p → x.objects ≡ os → x.frames ≡ frame_with me t ∷ rest →
+      Left p os (OneOf (mold_at n (t.place + 1) r (values_of t.slots) ∷ ms)) (on_top (past k) x)
+  simple k x e d fs = record {
+    grown = still p os (on_top (past k) x) e d;
+    tells = subst (λ (gs : List PlainFrame). OneOf (mold_at n (t.place + 1) r (values_of t.slots) ∷ ms) (molds_of (top_frame (past k) gs))) (sym fs) (passed (past k t) refl);
+  }
+
+  named : (x : ℕ) → HasName p x → number_among (name_at p x) (pool_of p.pool).names ≡ x
+  named x e = distinct (pool_of p.pool).names x (name_at p x) fits.distinct e
+
+  given_same : (k : ℕ) → values_of (last_values k vs) ≡ actuals k (values_of vs)
+  given_same k = values_taken k [] vs
+
+  -- a routine is entered over the topmost one
+  over : (q : Reference) (x : ℕ) (k : ℕ) (ns : List Mold) → HasName p x → (y : PlainStore) →
+      Left p os (OneOf (entry_mold p (routine_in (version_in p q.class x)) (values_of (last_values k vs)) ns)) y →
+      Left p os (OneOf (entry_mold p (routine_in (version_in p q.class (number_among (name_at p x) (pool_of p.pool).names))) (actuals k (values_of vs)) ns)) y
+  over q x k ns name y l =
+      subst (λ (us : List model.Value). Left p os (OneOf (entry_mold p (routine_in (version_in p q.class (number_among (name_at p x) (pool_of p.pool).names))) us ns)) y) (given_same k)
+      (subst (λ (i : ℕ). Left p os (OneOf (entry_mold p (routine_in (version_in p q.class i)) (values_of (last_values k vs)) ns)) y) (sym (named x name)) l)
+
+  -- the molds of a caller
+  caller : (k : ℕ) (gives : Bool) → molds_of (on_top (in_call k gives) here).frames ≡ mold_at n (t.place + 1) r (values_of t.slots) ∷ ms
+  caller k gives = next_mold n t.place r (values_of t.slots) ms
+
+  -- ---- calls
+
+  entering : (calling : Calling) (q : Reference) (x k : ℕ) (gives : Bool) → HasName p x →
+      Left p os (OneOf (entry_mold p (routine_in (version_in p q.class (number_among (name_at p x) (pool_of p.pool).names))) (actuals k (values_of vs))
+      (mold_at n (t.place + 1) r (values_of t.slots) ∷ ms))) (acted h (act.Enter calling q x k gives) here)
+  entering calling q x k gives name =
+      let ns = mold_at n (t.place + 1) r (values_of t.slots) ∷ ms in
+      let on : PlainStore = on_top (in_call (operands_of calling k) gives) here in
+      let v = routine_in (version_in p q.class x) in
+      let entered_so : Left p os (OneOf (entry_mold p v (values_of (last_values k vs)) ns)) (entered_if v q (origin_of calling) (last_values k vs) on) =
+      subst (λ (ks : List Mold). Left p os (OneOf (entry_mold p v (values_of (last_values k vs)) ks)) (entered_if v q (origin_of calling) (last_values k vs) on)) (caller (operands_of calling k) gives)
+      (entered_if_one p os v q (origin_of calling) (last_values k vs) on (still p os on refl refl)) in
+      either p os _ (nat_lt k 17 && has_operands (operands_of calling k) t) _ _ (over q x k ns name _ entered_so) (fallen_one p os _ _ here unmoved)
+
+  -- ---- requests and handlers
+
+  awaits_mold : (b : Bool) (k : ℕ) (gives is_creation : Bool) (a : PlainActivation) → mold_of (frame_with me (awaiting_if b k gives is_creation a)) ≡ mold_of (frame_with me a)
+  awaits_mold true k gives is_creation a = refl
+  awaits_mold false k gives is_creation a = refl
+
+  requesting : (q : Option Request) (call : RemoteCall) → Left p os (OneOf (mold_at n (t.place + 1) r (values_of t.slots) ∷ ms)) (sent q call here)
+  requesting None call = fallen_one p os _ _ here unmoved
+  requesting (Some q) call = record {
+    grown = still p os (on_top (sending call) here) refl refl;
+    tells = passed (sending call t) (awaits_mold (is_waited call) call.object.handler call.gives false (without_last (past call.count t)));
+  }
+
+  creating_as : (w : Option Want) (q : Reference) (call : RemoteCreation) → Left p os (OneOf (mold_at n (t.place + 1) r (values_of t.slots) ∷ ms)) (created_as w q call here)
+  creating_as None q call = fallen_one p os _ _ here unmoved
+  creating_as (Some w) q call = record {
+    grown = still p os (on_top (handlers.creating q call) here) refl refl;
+    tells = passed (handlers.creating q call t) (awaits_mold call.passes q.handler false true (with_reference q (past call.count t)));
+  }
+
+  creating_of : (class : Option ℕ) (call : RemoteCreation) → Left p os (OneOf (mold_at n (t.place + 1) r (values_of t.slots) ∷ ms)) (handlers.created_of h call class here)
+  creating_of None call = fallen_one p os _ _ here unmoved
+  creating_of (Some class) call = creating_as (creation_in call class (Some t)) (first_object h class) call
 
   -- ---- objects of the same handler
 
@@ -98,7 +290,7 @@ module _ (distinct : DistinctNamesHaveNumbers) (h : ℕ) (s : System) (c : Code)
       (record {
         grown = record { program = g.program; objects = g.objects };
         tells = subst (λ (gs : List PlainFrame). OneOf (mold_at n (t.place + 1) r (values_of t.slots) ∷ ms) (molds_of (top_frame (with_reference q) (top_frame (past k) gs)))) (sym e)
-            (passed distinct h s c me z t rest fits depth (with_reference q (past k t)) refl);
+            (passed (with_reference q (past k t)) refl);
       })
       (fallen_one p os _ _ x g)
 
@@ -120,9 +312,9 @@ module _ (distinct : DistinctNamesHaveNumbers) (h : ℕ) (s : System) (c : Code)
       let grown : Grown p os new = record { program = refl; objects = inr (class, refl) } in
       gives_either (nat_lt (length os) store.max_objects) (born class here) _
       (gives_either (is_settled (length os + 1) new && object_breaks new.program (object_numbered (length os + 1) new.objects)) _ new (gives_none _ new grown) (record { grown = grown; frames = inr refl }))
-      (gives_none _ here (unmoved distinct h s c me z t rest fits depth))
+      (gives_none _ here unmoved)
 
-  abbrev pub me_flat : model.Reference
+  abbrev me_flat : model.Reference
   me_flat = reference_of me
 
   if_told : (b : Bool) (x y : Hop) (ks : List Mold) → Told p n r ms x ks → Told p n r ms y ks → Told p n r ms (if b then x else y) ks
@@ -147,19 +339,17 @@ module _ (distinct : DistinctNamesHaveNumbers) (h : ℕ) (s : System) (c : Code)
   tested class k = if meets_invariant s (model_objects.fresh_object s class) then with_room flat.Creates class k else fails cause.Invariant (bigger class k)
 
   -- without a procedure
-  created_says : (class k : ℕ) (ks : List Mold) → OneOf (mold_at n (t.place + 1) r (values_of t.slots) ∷ ms) ks →
-      Says distinct h s c me z t rest fits depth (act.Create class None k) ks
+  created_says : (class k : ℕ) (ks : List Mold) → OneOf (mold_at n (t.place + 1) r (values_of t.slots) ∷ ms) ks → Says (act.Create class None k) ks
   created_says class k ks one =
       let room = if_told (nat_lt (length (drop k (values_of vs))) c.depth) (given_to flat.Creates class k) (stuck (bigger class k)) ks one one in
       let met = if_told (meets_invariant s (model_objects.fresh_object s class)) (with_room flat.Creates class k) (fails cause.Invariant (bigger class k)) ks room one in
       if_told (nat_lt (length f.objects) max_objects) (tested class k) (fails cause.TooManyObjects (without k f)) ks met one
 
-  created_none : (class k : ℕ) → Left p os (Says distinct h s c me z t rest fits depth (act.Create class None k)) (created_with None (next_reference h class here) k here)
+  created_none : (class k : ℕ) → Left p os (Says (act.Create class None k)) (created_with None (next_reference h class here) k here)
   created_none class k =
       let m = made_gives class in
       let q = next_reference h class here in
-      weaken p os (OneOf (mold_at n (t.place + 1) r (values_of t.slots) ∷ ms))
-      (Says distinct h s c me z t rest fits depth (act.Create class None k)) (given k q (made class here)) (created_says class k)
+      weaken p os (OneOf (mold_at n (t.place + 1) r (values_of t.slots) ∷ ms)) (Says (act.Create class None k)) (given k q (made class here)) (created_says class k)
       (given_one k q (made class here) m.grown m.frames)
 
   -- by one
@@ -196,15 +386,14 @@ module _ (distinct : DistinctNamesHaveNumbers) (h : ℕ) (s : System) (c : Code)
       else failed cause.TooManyObjects here
 
   created_cases : (b d : Bool) (class x k : ℕ) → HasName p x → Left p os (Told p n r ms (created_by_flat b d class x k)) (created_by_store b d class x k)
-  created_cases false d class x k name = fallen_one p os _ _ here (unmoved distinct h s c me z t rest fits depth)
-  created_cases true false class x k name = fallen_one p os _ _ here (unmoved distinct h s c me z t rest fits depth)
+  created_cases false d class x k name = fallen_one p os _ _ here unmoved
+  created_cases true false class x k name = fallen_one p os _ _ here unmoved
   created_cases true true class x k name =
       let q = next_reference h class here in
-      either p os _ (has_operands k t) _ _
-      (over distinct h s c me z t rest fits depth q x k (mold_at n (t.place + 1) r (values_of t.slots) ∷ ms) name _ (made_if_one (routine_in (version_in p class x)) q k))
-      (fallen_one p os _ cause.BadCode here (unmoved distinct h s c me z t rest fits depth))
+      either p os _ (has_operands k t) _ _ (over q x k (mold_at n (t.place + 1) r (values_of t.slots) ∷ ms) name _ (made_if_one (routine_in (version_in p class x)) q k))
+      (fallen_one p os _ cause.BadCode here unmoved)
 
-  created_named : (class x k : ℕ) → HasName p x → Left p os (Says distinct h s c me z t rest fits depth (act.Create class (Some x) k)) (created_with (Some x) (next_reference h class here) k here)
+  created_named : (class x k : ℕ) → HasName p x → Left p os (Says (act.Create class (Some x) k)) (created_with (Some x) (next_reference h class here) k here)
   created_named class x k name =
       let few : nat_lt (length f.objects) max_objects ≡ nat_lt (length os) store.max_objects = ap (λ i. nat_lt i store.max_objects) (length-map os (object_in s)) in
       let roomy : nat_lt (length (drop k (values_of vs))) c.depth ≡ has_room k t =
@@ -213,18 +402,16 @@ module _ (distinct : DistinctNamesHaveNumbers) (h : ℕ) (s : System) (c : Code)
       subst (λ b. Left p os (Told p n r ms (created_by_flat b (nat_lt (length (drop k (values_of vs))) c.depth) class x k)) (created_by_store (nat_lt (length os) store.max_objects) (has_room k t) class x k)) (sym few)
       (subst (λ d. Left p os (Told p n r ms (created_by_flat (nat_lt (length os) store.max_objects) d class x k)) (created_by_store (nat_lt (length os) store.max_objects) (has_room k t) class x k)) (sym roomy) cases)
 
-  created_so : (class : ℕ) (x : Option ℕ) (k : ℕ) → HasProcedure p x →
-      Left p os (Says distinct h s c me z t rest fits depth (act.Create class x k)) (created_with x (next_reference h class here) k here)
+  created_so : (class : ℕ) (x : Option ℕ) (k : ℕ) → HasProcedure p x → Left p os (Says (act.Create class x k)) (created_with x (next_reference h class here) k here)
   created_so class None k name = created_none class k
   created_so class (Some x) k name = created_named class x k name
 
-  creating : (class : ℕ) (x : Option ℕ) (k : ℕ) → HasProcedure p x →
-      Left p os (Says distinct h s c me z t rest fits depth (act.Create class x k)) (acted h (act.Create class x k) here)
+  creating : (class : ℕ) (x : Option ℕ) (k : ℕ) → HasProcedure p x → Left p os (Says (act.Create class x k)) (acted h (act.Create class x k) here)
   creating class x k name = by (nat_lt class 256)
     where
-      by : (b : Bool) → Left p os (Says distinct h s c me z t rest fits depth (act.Create class x k)) (objects.created_of (if b then Some class else None) h x k here)
+      by : (b : Bool) → Left p os (Says (act.Create class x k)) (objects.created_of (if b then Some class else None) h x k here)
       by true = created_so class x k name
-      by false = fallen p os _ _ here (unmoved distinct h s c me z t rest fits depth) (told_none p n r ms _ (hop_shown p s c me_flat (hop.Comes (act.Create class x k)) f tt))
+      by false = fallen p os _ _ here unmoved (told_none p n r ms _ (hop_shown p s c me_flat (hop.Comes (act.Create class x k)) f tt))
 
   -- ---- ends
 
@@ -240,45 +427,44 @@ module _ (distinct : DistinctNamesHaveNumbers) (h : ℕ) (s : System) (c : Code)
 
   ending : Left p os (OneOf ms) (acted h act.Exit here)
   ending =
-      either p os _ (is_unset p t) _ _ (fallen_one p os ms _ here (unmoved distinct h s c me z t rest fits depth))
-      (either p os _ (is_untested t.origin || object_meets p (object_numbered me.number os)) _ _ (returned_one t.origin t.result) (fallen_one p os ms _ here
-      (unmoved distinct h s c me z t rest fits depth)))
+      either p os _ (is_unset p t) _ _ (fallen_one p os ms _ here unmoved)
+      (either p os _ (is_untested t.origin || object_meets p (object_numbered me.number os)) _ _ (returned_one t.origin t.result) (fallen_one p os ms _ here unmoved))
 
   refusing_as : (o : Origin) → Left p os (OneOf ms) (refused_as o me here)
-  refusing_as origin.Unqualified = fallen_one p os ms _ here (unmoved distinct h s c me z t rest fits depth)
-  refusing_as origin.Qualified = fallen_one p os ms _ here (unmoved distinct h s c me z t rest fits depth)
-  refusing_as origin.Creation = fallen_one p os ms _ here (unmoved distinct h s c me z t rest fits depth)
+  refusing_as origin.Unqualified = fallen_one p os ms _ here unmoved
+  refusing_as origin.Qualified = fallen_one p os ms _ here unmoved
+  refusing_as origin.Creation = fallen_one p os ms _ here unmoved
   refusing_as origin.Requested = left_one
-  refusing_as origin.RequestedCreation = either p os _ (object_meets p (object_numbered me.number os)) _ _ left_one (fallen_one p os ms _ here (unmoved distinct h s c me z t rest fits depth))
+  refusing_as origin.RequestedCreation = either p os _ (object_meets p (object_numbered me.number os)) _ _ left_one (fallen_one p os ms _ here unmoved)
 
   ends_so : (ks : List Mold) → OneOf ms ks → (ks ≡ []) ⊎ ((ks ≡ mold_at n 0 r (values_of t.slots) ∷ ms) ⊎ (ks ≡ ms))
   ends_so ks (inl e) = inl e
   ends_so ks (inr e) = inr (inr e)
 
-  refusing : (k : ℕ) → Left p os (Says distinct h s c me z t rest fits depth (act.Refuse k)) (acted h (act.Refuse k) here)
+  refusing : (k : ℕ) → Left p os (Says (act.Refuse k)) (acted h (act.Refuse k) here)
   refusing k =
       either p os _ (is_waited_for t (formals_at p k)) _ _
       (record { grown = still p os (on_top waiting here) refl refl; tells = inr (inl refl) })
-      (weaken p os (OneOf ms) (Says distinct h s c me z t rest fits depth (act.Refuse k)) (refused_as t.origin me here) ends_so (refusing_as t.origin))
+      (weaken p os (OneOf ms) (Says (act.Refuse k)) (refused_as t.origin me here) ends_so (refusing_as t.origin))
 
   -- ---- blocks
 
-  opening : (first k : ℕ) → Left p os (Says distinct h s c me z t rest fits depth (act.Open first k)) (acted h (act.Open first k) here)
+  opening : (first k : ℕ) → Left p os (Says (act.Open first k)) (acted h (act.Open first k) here)
   opening first k = by (may_open first k t)
     where
       slots_same : values_of (blocks.written first (last_values k vs) t.slots) ≡ flat.written first (actuals k (values_of vs)) (values_of t.slots)
-      slots_same = values_written first (last_values k vs) t.slots ∙ ap (λ us. flat.written first us (values_of t.slots)) (given_same distinct h s c me z t rest fits depth k)
+      slots_same = values_written first (last_values k vs) t.slots ∙ ap (λ us. flat.written first us (values_of t.slots)) (given_same k)
 
-      by : (b : Bool) → Left p os (Says distinct h s c me z t rest fits depth (act.Open first k)) (opened_with first (if b then Some (last_values k vs) else None) here)
-      by false = fallen_one p os _ _ here (unmoved distinct h s c me z t rest fits depth)
+      by : (b : Bool) → Left p os (Says (act.Open first k)) (opened_with first (if b then Some (last_values k vs) else None) here)
+      by false = fallen_one p os _ _ here unmoved
       by true = record {
         grown = still p os (on_top (blocks.opening first (last_values k vs)) here) refl refl;
         tells = inr (ap (λ us. mold_at n (next_place t.place) r us ∷ ms) slots_same ∙ next_mold n t.place r (flat.written first (actuals k (values_of vs)) (values_of t.slots)) ms);
       }
 
   leaving : (ks : Option (List ℕ)) → Left p os (OneOf (mold_at n (t.place + 1) r (values_of t.slots) ∷ ms)) (left_with ks here)
-  leaving None = fallen_one p os _ _ here (unmoved distinct h s c me z t rest fits depth)
-  leaving (Some ks) = record { grown = still p os (on_top closing here) refl refl; tells = passed distinct h s c me z t rest fits depth (closing t) refl }
+  leaving None = fallen_one p os _ _ here unmoved
+  leaving (Some ks) = record { grown = still p os (on_top closing here) refl refl; tells = passed (closing t) refl }
 
   -- ---- each of them
 
@@ -288,18 +474,18 @@ module _ (distinct : DistinctNamesHaveNumbers) (h : ℕ) (s : System) (c : Code)
   procedure_there : (class : ℕ) (x : Option ℕ) (k : ℕ) → NamesCreation p class x k → HasProcedure p x
   procedure_there class x k e = subst (λ x. HasProcedure p x) e.procedure e.is_creation.named
 
-  acted_tells : (a : Act) → IsReady p a t → Left p os (Says distinct h s c me z t rest fits depth a) (acted h a here)
-  acted_tells (act.PrintInteger i) ready = simple distinct h s c me z t rest fits depth 1 (store.printed _ here) refl refl refl
-  acted_tells (act.PrintBoolean b) ready = simple distinct h s c me z t rest fits depth 1 (store.printed _ here) refl refl refl
-  acted_tells (act.PrintText k) ready = simple distinct h s c me z t rest fits depth 0 (store.printed _ here) refl refl refl
-  acted_tells (act.Until None) ready = simple distinct h s c me z t rest fits depth 1 here refl refl refl
+  acted_tells : (a : Act) → IsReady p a t → Left p os (Says a) (acted h a here)
+  acted_tells (act.PrintInteger i) ready = simple 1 (store.printed _ here) refl refl refl
+  acted_tells (act.PrintBoolean b) ready = simple 1 (store.printed _ here) refl refl refl
+  acted_tells (act.PrintText k) ready = simple 0 (store.printed _ here) refl refl refl
+  acted_tells (act.Until None) ready = simple 1 here refl refl refl
   acted_tells (act.Until (Some k)) ready = record { grown = still p os (on_top (back k) here) refl refl; tells = inr refl }
-  acted_tells (act.Enter calling.Unqualified q x k gives) ready = entering distinct h s c me z t rest fits depth calling.Unqualified q x k gives (name_there x k gives ready.named)
-  acted_tells (act.Enter calling.Qualified q x k gives) ready = entering distinct h s c me z t rest fits depth calling.Qualified q x k gives (name_there x k gives ready.named)
-  acted_tells (act.Request q x k gives passes) ready = requesting distinct h s c me z t rest fits depth (request_in h (call_of q x k gives passes) (Some t)) (call_of q x k gives passes)
+  acted_tells (act.Enter calling.Unqualified q x k gives) ready = entering calling.Unqualified q x k gives (name_there x k gives ready.named)
+  acted_tells (act.Enter calling.Qualified q x k gives) ready = entering calling.Qualified q x k gives (name_there x k gives ready.named)
+  acted_tells (act.Request call) ready = requesting (request_in h call (Some t)) call
   acted_tells (act.Create class x k) ready = creating class x k (procedure_there class x k ready.named)
-  acted_tells (act.CreateHandler class x k passes) ready = creating_of distinct h s c me z t rest fits depth (class_number class) (creation_with class x k passes)
-  acted_tells act.Start ready = simple distinct h s c me z t rest fits depth 0 here refl refl refl
+  acted_tells (act.CreateHandler call) ready = creating_of (class_number call.class) call
+  acted_tells act.Start ready = simple 0 here refl refl refl
   acted_tells (act.Refuse k) ready = refusing k
   acted_tells (act.Open first k) ready = opening first k
   acted_tells act.Leave ready = leaving (innermost t.blocks)
@@ -307,5 +493,5 @@ module _ (distinct : DistinctNamesHaveNumbers) (h : ℕ) (s : System) (c : Code)
 
   pub done_tells : (o : outcome.Hop) → IsVisible o → told.Tells p o t → Left p os (Told p n r ms (hopped p s c me_flat o f)) (done h o here)
   done_tells hop.Passed v ready = absurd v
-  done_tells (hop.Failed why) v ready = fallen_one p os _ why here (unmoved distinct h s c me z t rest fits depth)
+  done_tells (hop.Failed why) v ready = fallen_one p os _ why here unmoved
   done_tells (hop.Comes a) v ready = acted_tells a ready

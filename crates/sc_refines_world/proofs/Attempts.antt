@@ -38,7 +38,7 @@ use Rattle.sc_play.proofs.RefusedJobs.{refused_jobs_go_on, refused_twice_is_refu
 use Rattle.sc_world.specs.Turning.{Attempt, Attempts, HeldUpUnder, IsHeldUp, IsRefusedTurn, IsTurn, Made, Makes, Refused, Runs as RunsBy, StopsBehind, TurnsUnder, made_by}
 use Rattle.sc_world.specs.Worlds.{PlainWorld, opened}
 use Rattle.sc_world.proofs.SettledPicks.{picks_job, set_other, set_same, settled_out, settled_state}
-use Rattle.sc_world.proofs.MoreTurns.{runs_join}
+use Rattle.sc_world.proofs.Runs.{runs-join}
 use Rattle.sc_refines_world.specs.Refining.{AttemptsHaveHeadline, AttemptsRunAsMachine, MachineHasHeadline, RestRunsAsMachine, TurnsStandExactly, WorldRunsAsMachine}
 use Rattle.sc_refines_world.specs.Standing.{IsNear, IsRegionFor, StandsFor, StandsNear, names_in}
 use Rattle.sc_refines_world.proofs.PuttingBack.{AreNearAt, IsNearTo, back_out, back_state, near_at, near_before, near_still, near_world}

@@ -1,42 +1,221 @@
 -- States of which the headline doesn't hold, each for one of its parts: whatever the system is, that part refuses it.
-use Rattle.std.proofs.Common.{ℕ, zero, suc, ◌≡◌, ◌==◌, ◌⊎◌, inl, inr, Bool, true, false, List, [], ◌∷◌, Option, Some, None, refl, ap, sym, subst, arith}
+use Rattle.std.proofs.Common.{ℕ, zero, suc, ◌≡◌, ◌<◌, ◌==◌, ◌⊎◌, inl, inr, Bool, true, false, List, [], ◌∷◌, Option, Some, None, length, refl, ap, sym, subst, ◌∙◌, arith}
 use Rattle.std.proofs.lemmas.List.Elements.{All-nil}
-use Rattle.std.specs.Prelude.{Contains, if◌then◌else◌}
+use Rattle.std.specs.Prelude.{pos, map, Contains, if◌then◌else◌}
 use Rattle.sc_text.specs.declared.token.Span.{Span}
 use Rattle.sc_tree.specs.Plain as tree
-use Rattle.sc_tree.specs.Plain.{Class, Clause, Declaration, System}
+use Rattle.sc_tree.specs.Plain.{Class, Clause, Declaration, Name, System, no_instrs}
+use Rattle.sc_class.specs.declared.identity.ClassId.TheVariants as class
 use Rattle.sc_proctype.specs.declared.entity_type.EntityType.{EntityType}
+use Rattle.sc_proctype.specs.declared.tag.Tag.{Tag}
 use Rattle.sc_proctype.specs.declared.tag.Tag.TheVariants as tag
 use Rattle.sc_formula.specs.Formula as formula
 use Rattle.sc_rules.specs.Names.{Entity, RoutineName, entity, locals_known}
 use Rattle.sc_rules.specs.Types.{declared_type}
 use Rattle.sc_rules.specs.declared.position.Role.{Role}
 use Rattle.sc_rules.specs.declared.position.Role.TheVariants as role
-use Rattle.sc_lockpass.specs.Rights.{unreserved}
+use Rattle.sc_lockpass.specs.Rights.{Rights, unreserved}
+use Rattle.sc_model.specs.declared.cause.Cause.{Cause}
 use Rattle.sc_model.specs.declared.cause.Cause.TheVariants as cause
 use Rattle.sc_model.specs.Chains.{WaitsFor, waits}
 use Rattle.sc_model.specs.Clauses.{Comes, Holds, after, begun}
 use Rattle.sc_model.specs.Environments.{Binding, bind, known_of}
-use Rattle.sc_model.specs.Handlers.{Awaits, Called, Failed, Frame, Handler, Reply, Requested, Runs, World, frame_at, new_handler, point_of}
+use Rattle.sc_model.specs.Fits.{Fits, IsUnset}
+use Rattle.sc_model.specs.Handlers.{Awaits, Called, Calls, Failed, Frame, Handler, InCall, Origin, Reply, Request, Requested, Runs, Stage, World, frame_at, new_handler, point_of}
 use Rattle.sc_model.specs.Invariants.{MeetsInvariant}
-use Rattle.sc_model.specs.Routines.{Routine}
+use Rattle.sc_model.specs.Objects.{Object, fresh_object}
+use Rattle.sc_model.specs.Routines.{Routine, Text}
 use Rattle.sc_model.specs.Steps.{Point, Unqualified}
 use Rattle.sc_model.specs.Tasks.{Print, Require}
 use Rattle.sc_model.specs.Turns.{turn}
-use Rattle.sc_model.specs.Values.{Attached, Boolean, Void}
+use Rattle.sc_model.specs.Values.{Attached, Boolean, Integer, Reference, Void}
 use Rattle.sc_machine_rights.specs.Headline.{topmost}
+use Rattle.sc_machine_values.specs.Fitting.{IsThere, is_due, is_made}
+use Rattle.sc_machine_values.specs.Places.{StandsAs, attribute, no_names}
 use Rattle.sc_machine_values.specs.Points as point
 use Rattle.sc_machine_values.specs.Points.{Agrees}
+use Rattle.sc_machine_values.specs.Steps.{is_excluded}
 use Rattle.sc_machine_values.specs.Typed.{IsTyped, Known}
 use Rattle.sc_refines_world.specs.Moving.{HasRequestAt}
 use Rattle.sc_refines_world.specs.Refining.{HasHeadline}
 use Rattle.sc_refines_world.specs.Texts.{IsBehindFormals, IsTypedByRules, KnowsItsText}
-use Rattle.sc_refines_world.proofs.BadObjects.{alone, apart, failed_by, first, first_of, frame, none-is-some, none-of-none, object_of, request, routine, two, type_of}
+
+-- ---- states
+
+-- two handlers, and who holds whom
+abbrev pub two : Handler → Handler → Rights → World
+two x y r = record { count = 2; handlers = λ k. if k == 0 then x else (if k == 1 then y else new_handler); rights = r }
+
+-- the first of these, beside a new one that nobody holds
+abbrev pub alone : Handler → World
+alone x = two x new_handler unreserved
+
+abbrev pub object_of : ℕ → List Binding → Object
+object_of k bs = record { class = k; attributes = bs }
+
+-- the first object of the handler, of the first class
+abbrev pub first_of : ℕ → Reference
+first_of h = record { handler = h; number = 1; class = 0 }
+
+abbrev pub type_of : Tag → EntityType
+type_of t = record { attached = true; tag = t; class = class.Any }
+
+abbrev pub text : Text
+text = record { class = 0; formals = []; result = None }
+
+-- a routine that does nothing
+abbrev pub routine : Routine
+routine = record { name = []; text = text; locals = []; body = no_instrs; contract = text; require = []; ensure = [] }
+
+-- it runs on the first object of its handler
+abbrev pub frame : Origin → Stage → Frame
+frame o how = record {
+  current = first_of 0;
+  routine = routine;
+  origin = o;
+  stage = how;
+  text = text;
+  environment = [];
+  result = None;
+  olds = [];
+  tasks = [];
+  values = [];
+  reserved = [];
+  blocks = [];
+  mark = [];
+}
+
+-- a call of the first object of the handler by another one
+abbrev pub request : ℕ → ℕ → Bool → Request
+request p h is_waited =
+    record { poster = Some p; target = first_of h; errand = Calls []; actuals = []; is_waited = is_waited; passed = None }
+
+-- one of a list of one
+pub first : {A : Type 0} (x : A) → Contains (x ∷ []) x
+first x = (0, omega arith, refl)
+
+pub none-of-none : {A : Type 0} (x : A) → Contains [] x → ⊥
+none-of-none x is = omega (arith, is.1)
+
+pub apart : true ≡ false → ⊥
+apart e = cc
+
+pub none-is-some : {A : Type 0} {x : A} → None ≡ Some x → ⊥
+none-is-some e = cc
+
+-- ---- failures that are excluded
+
+abbrev failed_by : Cause → Handler
+failed_by why = record new_handler { failure = Some why }
+
+-- A handler has failed by F13, F14, F15 or F16.
+pub failed : (most : ℕ) (s : System) (why : Cause) → is_excluded why ≡ true → HasHeadline most s (alone (failed_by why)) → ⊥
+failed most s why is h =
+    let not_excluded : is_excluded why ≡ false = h.no_turn_is_excluded 2 0 why refl in
+    apart (sym is ∙ not_excluded)
+
+pub excluded_are : (is_excluded cause.NotHeld ≡ true) × (is_excluded cause.ForeignObject ≡ true)
+    × (is_excluded cause.VoidTarget ≡ true) × (is_excluded cause.BadCode ≡ true)
+excluded_are = (refl, refl, refl, refl)
+
+-- One fails so in its next turn: its topmost frame is in a call.
+pub fails_next : (most : ℕ) (s : System) →
+    HasHeadline most s (alone (record new_handler { stack = frame (Called Unqualified) (InCall None) ∷ [] })) → ⊥
+fails_next most s h = apart (h.no_turn_is_excluded 0 0 cause.BadCode refl)
+
+-- ---- whose is what
+
+-- An object is of a class that isn't there.
+pub of_no_class : (most : ℕ) (s : System) →
+    HasHeadline most s (alone (record new_handler { objects = object_of (length s.classes) [] ∷ [] })) → ⊥
+of_no_class most s h =
+    let is : length s.classes < length s.classes =
+    (h.objects_are_of_classes 0 (object_of (length s.classes) []) (omega arith) (first (object_of (length s.classes) []))).is_class in
+    omega (arith, is)
+
+-- An object has one attribute more than its class.
+abbrev more : System → Object
+more s = object_of 0 (bind [] (type_of tag.Own) role.Local Void ∷ (fresh_object s 0).attributes)
+
+pub has_more : (most : ℕ) (s : System) → HasHeadline most s (alone (record new_handler { objects = more s ∷ [] })) → ⊥
+has_more most s h =
+    let same = (h.objects_are_of_classes 0 (more s) (omega arith) (first (more s))).has_attributes in
+    let long : suc (length (map known_of (fresh_object s 0).attributes)) ≡ length (map known_of (fresh_object s 0).attributes) = ap length same in
+    omega (arith, long)
+
+-- A reference leads to a handler that isn't there.
+abbrev lost : Binding
+lost = bind [] (type_of tag.Any) role.Local (Attached (first_of 7))
+
+not-there : (x : Handler) → IsThere (alone x) (first_of 7) → ⊥
+not-there x (is_made below at of) = omega (arith, below)
+not-there x (is_due below none next target makes number) = omega (arith, below)
+
+pub leads_nowhere : (most : ℕ) (s : System) → HasHeadline most s (alone (record new_handler { objects = object_of 0 (lost ∷ []) ∷ [] })) → ⊥
+leads_nowhere most s h =
+    let x : Handler = record new_handler { objects = object_of 0 (lost ∷ []) ∷ [] } in
+    let stands : StandsAs s (alone x) 0 no_names lost.value lost.type true =
+    attribute (omega arith) (first (object_of 0 (lost ∷ []))) (first lost) in
+    not-there x (h.references_lead 0 no_names (first_of 7) (type_of tag.Any) true stands)
+
+-- An object of another handler stands where a type says that it is of this one.
+abbrev stray : Binding
+stray = bind [] (type_of tag.Own) role.Local (Attached (first_of 1))
+
+pub is_anothers : (most : ℕ) (s : System) → HasHeadline most s (alone (record new_handler { objects = object_of 0 (stray ∷ []) ∷ [] })) → ⊥
+is_anothers most s h =
+    let x : Handler = record new_handler { objects = object_of 0 (stray ∷ []) ∷ [] } in
+    let stands : StandsAs s (alone x) 0 no_names stray.value stray.type true =
+    attribute (omega arith) (first (object_of 0 (stray ∷ []))) (first stray) in
+    let own : 1 ≡ 0 = h.non_separate_is_own 0 no_names (first_of 1) (type_of tag.Own) true stands refl in
+    omega (arith, own)
+
+-- An attribute of type BOOLEAN has an INTEGER.
+abbrev boolean : EntityType
+boolean = record { attached = true; tag = tag.Own; class = class.Boolean }
+
+abbrev wrong : Binding
+wrong = bind [] boolean role.Local (Integer (pos 0))
+
+unfit : (s : System) → Fits s 0 no_names (Integer (pos 0)) boolean ⊎ ((true ≡ true) × IsUnset (Integer (pos 0)) boolean) → ⊥
+unfit s (inl fits) = apart (sym fits)
+unfit s (inr unset) =
+    let is : Integer (pos 0) ≡ Void = unset.1.0 in
+    cc
+
+pub is_of_another_type : (most : ℕ) (s : System) → HasHeadline most s (alone (record new_handler { objects = object_of 0 (wrong ∷ []) ∷ [] })) → ⊥
+is_of_another_type most s h =
+    let x : Handler = record new_handler { objects = object_of 0 (wrong ∷ []) ∷ [] } in
+    let stands : StandsAs s (alone x) 0 no_names wrong.value wrong.type true =
+    attribute (omega arith) (first (object_of 0 (wrong ∷ []))) (first wrong) in
+    unfit s (h.values_fit 0 no_names (Integer (pos 0)) boolean true stands)
+
+-- A frame runs on an object of another handler.
+pub runs_on_anothers : (most : ℕ) (s : System) →
+    HasHeadline most s (alone (record new_handler { stack = record (frame (Called Unqualified) Runs) { current = first_of 1 } ∷ [] })) → ⊥
+runs_on_anothers most s h =
+    let f : Frame = record (frame (Called Unqualified) Runs) { current = first_of 1 } in
+    let own : 1 ≡ 0 = (h.frames_run_on_own 0 f (omega arith) (first f)).current_is_own in
+    omega (arith, own)
+
+-- A frame runs on an object that isn't there.
+pub runs_on_none : (most : ℕ) (s : System) →
+    HasHeadline most s (alone (record new_handler { stack = frame (Called Unqualified) Runs ∷ [] })) → ⊥
+runs_on_none most s h =
+    let f : Frame = frame (Called Unqualified) Runs in
+    none-is-some (h.frames_run_on_own 0 f (omega arith) (first f)).current_is_there.is_there
+
+-- A request stands at a handler that isn't its target's.
+pub stands_elsewhere : (most : ℕ) (s : System) →
+    HasHeadline most s (alone (record new_handler { queue = request 1 1 false ∷ [] })) → ⊥
+stands_elsewhere most s h =
+    let here : 1 ≡ 0 = (h.requests_stand_at_targets 0 (request 1 1 false) (omega arith) (first (request 1 1 false))).target_is_here in
+    omega (arith, here)
 
 -- ---- who waits
 
 -- A handler waits for another one at which nothing of it stands.
-abbrev pub waiter : Handler
+abbrev waiter : Handler
 waiter = record new_handler { stack = frame (Called Unqualified) (Awaits 1 None false) ∷ [] }
 
 without : (None ≡ Some Failed) ⊎ HasRequestAt (alone waiter) 0 1 → ⊥
@@ -83,7 +262,7 @@ holds_nothing most s h =
     (first (1 ∷ [])) (first 1))
 
 -- A formal of a frame that runs lies on a handler that isn't held, and so does the name of a block.
-abbrev pub knowing : Role → Handler
+abbrev knowing : Role → Handler
 knowing r = record new_handler { stack = record (frame (Called Unqualified) Runs) { environment = bind [] (type_of tag.Any) r (Attached (first_of 1)) ∷ [] } ∷ [] }
 
 pub formal_is_unheld : (most : ℕ) (s : System) → HasHeadline most s (alone (knowing role.Formal)) → ⊥
@@ -121,11 +300,11 @@ begins_early most s h =
 -- ---- types of the text
 
 -- the one frame of a handler, which knows this
-abbrev pub knows : List Binding → Handler
+abbrev knows : List Binding → Handler
 knows bs = record new_handler { stack = record (frame (Called Unqualified) Runs) { environment = bs } ∷ [] }
 
 -- A frame has a formal that its routine hasn't.
-abbrev pub formal : Binding
+abbrev formal : Binding
 formal = bind [] (type_of tag.Own) role.Formal Void
 
 pub has_a_formal_more : (most : ℕ) (s : System) → HasHeadline most s (alone (knows (formal ∷ []))) → ⊥
@@ -136,7 +315,7 @@ has_a_formal_more most s h =
     apart is.is_no_formal
 
 -- It has a local that its routine doesn't declare.
-abbrev pub local : Binding
+abbrev local : Binding
 local = bind [] (type_of tag.Own) role.Local Void
 
 pub has_a_local_more : (most : ℕ) (s : System) → HasHeadline most s (alone (knows (local ∷ []))) → ⊥
@@ -147,10 +326,10 @@ has_a_local_more most s h =
     none-of-none (known_of local) (is.local_is_declared refl)
 
 -- It carries for a local another type than the text gives it.
-abbrev pub declares : Declaration → Routine
+abbrev declares : Declaration → Routine
 declares d = record routine { locals = d ∷ [] }
 
-abbrev pub with_local : Declaration → EntityType → Frame
+abbrev with_local : Declaration → EntityType → Frame
 with_local d u = record (frame (Called Unqualified) Runs) { routine = declares d; environment = bind d.name.text u role.Local Void ∷ [] }
 
 one-type : {x y : Option EntityType} (t u : EntityType) → x ≡ Some t → y ≡ Some u → x ≡ y → t ≡ u
@@ -170,7 +349,7 @@ local_is_of_another_type most s d t u is differ h =
     only (suc i, l, same) = omega (arith, l)
 
 -- What is left of a frame prints a value that isn't there.
-abbrev pub prints : Frame
+abbrev prints : Frame
 prints = record (frame (Called Unqualified) Runs) { tasks = Print ∷ [] }
 
 untyped : (s : System) (pure : RoutineName → Bool) {k : Known} → Agrees (point_of prints []) [] k → IsTyped s pure routine (Print ∷ []) k → ⊥
@@ -200,7 +379,7 @@ broken q = record {
   invariant = falsity q ∷ [];
 }
 
-abbrev pub of_broken : Span → System
+abbrev of_broken : Span → System
 of_broken q = record { classes = broken q ∷ [] }
 
 unmet : (q : Span) → MeetsInvariant (of_broken q) (object_of 0 []) → ⊥
@@ -214,7 +393,7 @@ is_settled_unmet most q h =
 -- ---- bodies that start
 
 -- A frame stands behind its precondition, and is about to start, but a clause of it is False.
-abbrev pub starting : Span → Frame
+abbrev starting : Span → Frame
 starting q = record (frame (Called Unqualified) Runs) { routine = record routine { require = falsity q ∷ [] }; tasks = Require [] ∷ [] }
 
 no-further : (s : System) (w : World) (n : ℕ) → after n s w (Comes (Boolean false)) ≡ Comes (Boolean true) → ⊥

@@ -14,8 +14,8 @@ use Rattle.sc_request.proofs.GrantedReservations.{below_there}
 use Rattle.sc_request.proofs.SettledCandidates.{had_job}
 use Rattle.sc_world.proofs.FreeHandlers.{next_picks}
 use Rattle.sc_refines_world.specs.Refining.{HandlersComeAgain}
-use Rattle.sc_world.proofs.SettledPicks.{settled_continue}
 use Rattle.sc_world.proofs.MoreTurns.{begun_goes, is_job, picks_again}
+use Rattle.sc_world.proofs.SettledPicks.{settled_continue}
 use Rattle.sc_refines_world.proofs.IdleWorlds.{none_has}
 
 none_is : {A : Type 0} (o : Option A) → is_some o ≡ false → o ≡ None

@@ -1,6 +1,6 @@
 -- The headline holds of each state that the machine on an accepted system reaches.
-use Rattle.sc_machine_rights.proofs.MachineChains.{machine_chains_hold, machine_targets_are_kept}
 use Rattle.sc_machine_rights.proofs.MachineHolders.{machine_callbacks_come_first, machine_only_waiters_are_told, machine_replies_meet_none, machine_reserved_are_held, machine_waiters_are_told}
+use Rattle.sc_machine_rights.proofs.MachineChains.{machine_chains_hold, machine_targets_are_kept}
 use Rattle.sc_machine_rights.proofs.Posts.{posted_under_right}
 use Rattle.sc_machine_rights.proofs.links.Held.{reached_formals_are_held, reached_names_are_held}
 use Rattle.sc_machine_rights.proofs.links.Reached.{reached_stands}

@@ -30,9 +30,8 @@ use Rattle.sc_refines_world.specs.Texts.{FramesAreTyped, FramesKnowTheirTexts, I
 use Rattle.sc_refines_world.proofs.ReachedMoves.{reached_turns_move}
 use Rattle.sc_refines_world.proofs.Creations.{created_begin}
 use Rattle.sc_refines_world.proofs.ReachedStates.{in_each, reached_fits}
-use Rattle.sc_refines_world.proofs.ScopeCalls as scopes
-use Rattle.sc_refines_world.proofs.RoutineNames.{AreOf, Knows, entry_knows, routine_is}
-use Rattle.sc_refines_world.proofs.Scopes.{moves_leave}
+use Rattle.sc_refines_world.proofs.Scopes as scopes
+use Rattle.sc_refines_world.proofs.Scopes.{AreOf, Knows, entry_knows, moves_leave, routine_is}
 
 -- ---- a frame
 

@@ -7,7 +7,6 @@ mod Contracts
 pub mod RoundTurns
 mod Headlined
 mod IdleWorlds
-mod HalfNeeds
 mod TurnNeeds
 mod RequestNames
 pub mod Opening
@@ -24,15 +23,10 @@ mod ReachedMoves
 mod Ownership
 mod Exact
 mod Molds
-mod AlikeHandlers
-mod TakenMoves
 mod FrameMoves
 mod Creations
-mod RoutineNames
-mod ScopeCalls
 mod Scopes
 mod KnownNames
-mod ActedEntries
 mod Acted
 mod Frames
 mod Growth
@@ -40,7 +34,6 @@ mod Turned
 mod AwaitedRequests
 mod Worlds
 mod OneRun
-pub mod BadObjects
 pub mod BadStates
 mod BadTurns
 mod Worked

@@ -29,9 +29,8 @@ use Rattle.sc_play.specs.Turns.{Becomes, FirstTurn, Turns, first, more}
 use Rattle.sc_world.specs.Rounds.{MakesAll, Rounds, more as one_more, none, turns_of_picked}
 use Rattle.sc_world.specs.Turning.{Runs as RunsBy}
 use Rattle.sc_world.specs.Worlds.{PlainWorld, opened}
-use Rattle.sc_world.proofs.SettledPicks.{picks_job}
-use Rattle.sc_world.proofs.MoreTurns.{runs_join}
 use Rattle.sc_world.proofs.AtOnce.{after, all_run, all_turns}
+use Rattle.sc_world.proofs.SettledPicks.{picks_job}
 use Rattle.sc_world.proofs.FreeHandlers.{next_picks}
 use Rattle.sc_world.proofs.Runs.{runs-join}
 use Rattle.sc_refines_world.specs.Refining.{GoRound, first_with_turn}

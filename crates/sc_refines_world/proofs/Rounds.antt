@@ -11,9 +11,8 @@ use Rattle.sc_play.specs.Regions.{EndsIn, PlainRegion}
 use Rattle.sc_world.specs.Rounds.{IsRefusedNext, StopsNext, more as one_more, none, turns_of_picked}
 use Rattle.sc_world.specs.Turning.{Makes, Runs as RunsBy}
 use Rattle.sc_world.specs.Worlds.{PlainWorld}
-use Rattle.sc_world.proofs.SettledPicks.{picks_job, set_same}
-use Rattle.sc_world.proofs.MoreTurns.{runs_join}
 use Rattle.sc_world.proofs.AtOnce.{all_run, center_there, goes_there, same_region, stopped, there, turns_there}
+use Rattle.sc_world.proofs.SettledPicks.{picks_job, set_same}
 use Rattle.sc_world.proofs.FreeHandlers.{next_picks}
 use Rattle.sc_world.proofs.Runs.{runs-join}
 use Rattle.sc_refines_world.specs.Refining.{RoundsAreTurns}

@@ -61,8 +61,8 @@ pub record IsCall (s : System) (w : World) (h : ℕ) (f : Frame) (c : Calling) (
 -- was answered; or, where a wait condition was false, all of its routine again.
 pub data GoesOn (s : System) (w : World) (h : ℕ) (f g : Frame) : Type 0 where
   stood : g.text ≡ f.text → g.environment ≡ f.environment → g.tasks ≡ f.tasks → GoesOn s w h f g
-  moved : {a : Act} {p : Point} → Acts s w h f a p → is_plain a ≡ true → g.text ≡ p.text →
-      g.environment ≡ p.environment → g.tasks ≡ p.tasks → GoesOn s w h f g
+  moved : {a : Act} {p : Point} → Acts s w h f a p → is_plain a ≡ true →
+      g.text ≡ p.text → g.environment ≡ p.environment → g.tasks ≡ p.tasks → GoesOn s w h f g
   again : {k : Clause} {p : Point} → Acts s w h f (Refuses k) p → verdict_on (frame_at f p) k ≡ verdict.Wait →
       g.text ≡ p.text → g.environment ≡ p.environment → g.tasks ≡ tasks_of f.routine → GoesOn s w h f g
 

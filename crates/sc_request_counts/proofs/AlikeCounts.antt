@@ -14,9 +14,10 @@ use Rattle.sc_model.specs.declared.cause.Cause.TheVariants as cause
 use Rattle.sc_model.specs.Limits.{max_queue}
 use Rattle.sc_region.specs.declared.value.Value.{Value}
 use Rattle.sc_region.specs.declared.job.Request.{Request}
-use Rattle.sc_request.specs.Handlers.{Posted, posted, Answer, HandlerStage, Idle, Runs, HasMade, Reserves, Awaits, Service, Handler, State, has_frames, new_handler, put, with_stage}
-use Rattle.sc_request.specs.Sessions.{answer_to, answered, fail, fallen, finish, is_callback, is_waited_by, passed_if, passes, placed, release, requests_at, return_rights, send, session_ended, told, with_handler}
-use Rattle.sc_request.specs.Settling.{asks_of, awaits_if, counted_refusal, creates, creates_with, creation, made_at, sends, takes_answer}
+use Rattle.sc_handler.specs.Handlers.{Posted, posted, Answer, HandlerStage, Idle, Runs, HasMade, Reserves, Awaits, Service, Handler, State, has_frames, new_handler, put, with_stage}
+use Rattle.sc_handler.specs.Changes.{answered, fallen, is_waited_by, placed, requests_at, session_ended, told, counted_refusal, takes_answer}
+use Rattle.sc_request.specs.Sessions.{answer_to, fail, finish, is_callback, passed_if, passes, release, return_rights, send, with_handler}
+use Rattle.sc_request.specs.Settling.{asks_of, awaits_if, creates, creates_with, creation, made_at, sends}
 use Rattle.sc_request_counts.specs.Serving.{HasFrames}
 use Rattle.sc_request_counts.specs.Settlements.{KeepsServices, known}
 

@@ -11,9 +11,10 @@ use Rattle.sc_model.specs.declared.cause.Cause.TheVariants as cause
 use Rattle.sc_region.specs.declared.value.Value.{Value}
 use Rattle.sc_region.specs.declared.job.Want.{Want}
 use Rattle.sc_region.specs.declared.job.Want.TheVariants as want
-use Rattle.sc_request.specs.Handlers.{Replied, Refused, Reserves, Service, Handler, State, new_handler, put, with_stage}
-use Rattle.sc_request.specs.Sessions.{fail, fallen, finish, is_waited_by, release, requests_at, session_ended, told}
-use Rattle.sc_request.specs.Settling.{counted_refusal, done, done_if, ends, ends_service}
+use Rattle.sc_handler.specs.Handlers.{Replied, Refused, Reserves, Service, Handler, State, new_handler, put, with_stage}
+use Rattle.sc_handler.specs.Changes.{fallen, is_waited_by, requests_at, session_ended, told, counted_refusal}
+use Rattle.sc_request.specs.Sessions.{fail, finish, release}
+use Rattle.sc_request.specs.Settling.{done, done_if, ends, ends_service}
 use Rattle.sc_request_counts.specs.Serving.{HasFrames, HasServices}
 use Rattle.sc_request_counts.specs.Settlements.{KeepsServices, known}
 use Rattle.sc_request_counts.specs.Turns.{left_after}

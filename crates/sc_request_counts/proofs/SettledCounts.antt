@@ -8,11 +8,13 @@ use Rattle.sc_region.specs.declared.job.Job.TheVariants as job
 use Rattle.sc_region.specs.declared.job.Request.{Request}
 use Rattle.sc_region.specs.declared.job.Want.{Want}
 use Rattle.sc_region.specs.declared.job.Want.TheVariants as want
-use Rattle.sc_request.specs.Handlers.{Posted, Answer, Replied, SupplierFailed, Refused, HandlerStage, Idle, Runs, HasMade, Reserves, Awaits, Handler, State, with_stage}
+use Rattle.sc_handler.specs.Handlers.{Posted, Answer, Replied, SupplierFailed, Refused, HandlerStage, Idle, Runs, HasMade, Reserves, Awaits, Handler, State, with_stage}
+use Rattle.sc_handler.specs.Picking.{job_answered, job_at, job_awaiting, job_idle, job_of, job_reserving, job_with}
+use Rattle.sc_handler.specs.Fits.{fits_turns}
+use Rattle.sc_handler.specs.Changes.{serves, takes, takes_answer, takes_callback, takes_next}
 use Rattle.sc_request.specs.Logs.{Center, pick_for, picked}
-use Rattle.sc_request.specs.Picking.{job_answered, job_at, job_awaiting, job_idle, job_of, job_reserving, job_with}
 use Rattle.sc_request.specs.Sessions.{passes, reserve}
-use Rattle.sc_request.specs.Settling.{begun, done_if, fits_turns, made_at, may_ask, posts_unheld, serves, settled, takes, takes_answer, takes_callback, takes_next}
+use Rattle.sc_request.specs.Settling.{begun, done_if, made_at, may_ask, posts_unheld, settled}
 use Rattle.sc_request_counts.specs.Settlements.{KeepsServices, OthersServe, SettlementsServe, known}
 use Rattle.sc_request_counts.specs.Turns.{is_failure, left_after, served_under}
 use Rattle.sc_request_counts.proofs.AlikeCounts.{alike, alike_then, keeps, made_alike, put_alike, some_none, stage_alike, staged}

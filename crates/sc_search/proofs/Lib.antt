@@ -1,4 +1,4 @@
-mod LineTurns
+pub mod LineTurns
 mod KeptStates
 mod OrderEnds
 mod TriedTurns

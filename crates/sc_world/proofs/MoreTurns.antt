@@ -13,11 +13,12 @@ use Rattle.sc_region.specs.declared.job.Request.{Request}
 use Rattle.sc_region.specs.declared.job.Want.{Want}
 use Rattle.sc_region.specs.declared.job.Want.TheVariants as want
 use Rattle.sc_region.specs.Stores.{PlainStore}
-use Rattle.sc_request.specs.Handlers.{Answer, Awaits, Handler, HasMade, Idle, Posted, Refused, Replied, Reserves, Runs, HandlerStage, State, SupplierFailed, put}
+use Rattle.sc_handler.specs.Handlers.{Answer, Awaits, Handler, HasMade, Idle, Posted, Refused, Replied, Reserves, Runs, HandlerStage, State, SupplierFailed, put}
+use Rattle.sc_handler.specs.Picking.{job_answered, job_at, job_awaiting, job_idle, job_of, job_reserving, job_with}
+use Rattle.sc_handler.specs.Changes.{session_ended, takes, takes_answer, takes_callback, takes_next}
+use Rattle.sc_handler.specs.Fits.{goes_on}
 use Rattle.sc_request.specs.Logs.{Center, granted, pick_for, picked, settles}
-use Rattle.sc_request.specs.Picking.{job_answered, job_at, job_awaiting, job_idle, job_of, job_reserving, job_with}
-use Rattle.sc_request.specs.Sessions.{session_ended}
-use Rattle.sc_request.specs.Settling.{begun, goes_on, made_at, takes, takes_answer, takes_callback, takes_next}
+use Rattle.sc_request.specs.Settling.{begun, made_at}
 use Rattle.sc_play.specs.Regions.{PlainRegion}
 use Rattle.sc_play.specs.Turns.{Becomes, FirstTurn, Turns, first, more}
 use Rattle.sc_world.specs.Turning.{IsTurn, Makes, Runs as RunsBy, TurnsUnder}

@@ -9,10 +9,11 @@ use Rattle.sc_region.specs.declared.job.Job.{Job}
 use Rattle.sc_region.specs.declared.job.Job.TheVariants as job
 use Rattle.sc_region.specs.declared.job.Want.{Want}
 use Rattle.sc_region.specs.declared.job.Want.TheVariants as want
-use Rattle.sc_request.specs.Handlers.{Awaits, HasMade, Idle, Reserves, Runs, HandlerStage, State, with_stage}
+use Rattle.sc_handler.specs.Handlers.{Awaits, HasMade, Idle, Reserves, Runs, HandlerStage, State, with_stage}
+use Rattle.sc_handler.specs.Picking.{job_at, job_of, job_with}
+use Rattle.sc_handler.specs.Fits.{fits_turns, goes_on}
 use Rattle.sc_request.specs.Logs.{Center, granted, pick_for, picked, settles}
-use Rattle.sc_request.specs.Picking.{job_at, job_of, job_with}
-use Rattle.sc_request.specs.Settling.{asked_in, begun, fits_turns, goes_on, made_at, settled}
+use Rattle.sc_request.specs.Settling.{asked_in, begun, made_at, settled}
 use Rattle.sc_play.specs.Regions.{PlainRegion}
 
 -- ---- a handler that is picked and settled
