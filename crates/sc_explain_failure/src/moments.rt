@@ -142,9 +142,9 @@ fn tell_of<'o>(
             moment.is_told = true;
             replay.advance(moment.place)?;
             let before = Before {
-                origin,
+                origin: &*origin,
                 world: &replay.world,
-                ended,
+                ended: &*ended,
             };
             before.tell(moment)
         }

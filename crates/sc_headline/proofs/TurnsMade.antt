@@ -20,7 +20,7 @@ use Rattle.sc_request.specs.Cores.{log_of, state_of}
 use Rattle.sc_request.specs.Laws.{PicksWhereTurns}
 use Rattle.sc_world.specs.Turning.{MakeTurns, Runs}
 use Rattle.sc_world.specs.Worlds.{PlainWorld, opened}
-use Rattle.sc_search.proofs.LineTurns.{runs-more}
+use Rattle.sc_world.proofs.Runs.{runs-more}
 use Rattle.sc_plant.specs.Left.{RunsAreOneThreads}
 use Rattle.sc_plant.specs.OneThread.{EndsIn}
 use Rattle.sc_plant.specs.Recorded.{turns_of}

@@ -25,7 +25,8 @@ use Rattle.sc_machine_values.specs.Points.{Each, IsAmong}
 use Rattle.sc_machine_values.specs.Steps.{IsThereIfOwn, StandsSo, StepFits, ValuesDo}
 use Rattle.sc_machine_values.proofs.Lists.{each_append, each_behind}
 use Rattle.sc_machine_values.proofs.OperatorReferences.{Stays}
-use Rattle.sc_machine_values.proofs.References.{StepStays, step_stays}
+use Rattle.sc_machine_values.proofs.OperatorReferences.{StepStays}
+use Rattle.sc_machine_values.proofs.References.{step_stays}
 use Rattle.sc_machine_values.proofs.Routines.{is_run}
 use Rattle.sc_machine_values.proofs.Steps.{step_fits}
 use Rattle.sc_refines_core.specs.Clauses.{AreOfTypes, ClauseStep, InClauses, StandsInClauses}

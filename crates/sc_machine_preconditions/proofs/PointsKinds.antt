@@ -10,7 +10,8 @@ use Rattle.sc_model.specs.Values.{Reference}
 use Rattle.sc_machine_values.specs.Points.{Each}
 use Rattle.sc_machine_invariants.proofs.Tasks.{Behind, OfTask, OfTasks, class_behind}
 use Rattle.sc_machine_invariants.proofs.CallSteps.{MayAssign}
-use Rattle.sc_machine_invariants.proofs.Steps.{SteppedSo, moves_so}
+use Rattle.sc_machine_invariants.proofs.CallSteps.{SteppedSo}
+use Rattle.sc_machine_invariants.proofs.Steps.{moves_so}
 use Rattle.sc_machine_invariants.proofs.Modes.{Any, any_branches, any_expr, any_instrs, any_variable}
 use Rattle.sc_machine_clauses.specs.Evaluating.{extended, extended_step}
 use Rattle.sc_machine_clauses.specs.Laws.{StepExtends}

@@ -21,13 +21,15 @@ use Rattle.sc_model.specs.Values.{Reference, Operand}
 use Rattle.sc_machine_values.specs.Points.{Each, IsAmong}
 use Rattle.sc_machine_values.specs.Steps.{IsThereIfOwn, StandsSo, StepFits, ValuesDo}
 use Rattle.sc_machine_values.proofs.OperatorReferences.{Stays}
-use Rattle.sc_machine_values.proofs.References.{StepStays, step_stays}
+use Rattle.sc_machine_values.proofs.OperatorReferences.{StepStays}
+use Rattle.sc_machine_values.proofs.References.{step_stays}
 use Rattle.sc_machine_values.proofs.Routines.{is_run}
 use Rattle.sc_machine_values.proofs.Steps.{step_fits}
 use Rattle.sc_machine_invariants.proofs.Modes.{RunsPure as IsLeftPure}
 use Rattle.sc_machine_invariants.proofs.FreeNames.{AssignsNone, CallsPure}
 use Rattle.sc_machine_invariants.proofs.CallSteps.{MayAssign}
-use Rattle.sc_machine_invariants.proofs.Steps.{SteppedSo, moves_so}
+use Rattle.sc_machine_invariants.proofs.CallSteps.{SteppedSo}
+use Rattle.sc_machine_invariants.proofs.Steps.{moves_so}
 use Rattle.sc_refines_core.specs.Calm.{CalmStep, name_of}
 use Rattle.sc_refines_core.proofs.Clausal.{own_values, still_there}
 use Rattle.sc_machine_clauses.specs.Evaluating.{Reaches, begins}

@@ -9,7 +9,8 @@ use Rattle.sc_machine_rights.proofs.Waits.{true_false}
 use Rattle.sc_refines_core.specs.Entries.{HasStarted}
 use Rattle.sc_machine_invariants.proofs.Modes.{Any, any_branches, any_expr, any_instrs, any_variable}
 use Rattle.sc_machine_invariants.proofs.Tasks.{OfTasks}
-use Rattle.sc_machine_invariants.proofs.Steps.{SteppedSo, moves_so}
+use Rattle.sc_machine_invariants.proofs.CallSteps.{SteppedSo}
+use Rattle.sc_machine_invariants.proofs.Steps.{moves_so}
 
 -- any tasks, but no clause of a precondition
 abbrev IsLeft : ℕ → List Task → Type 0

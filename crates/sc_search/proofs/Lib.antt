@@ -1,4 +1,4 @@
-pub mod LineTurns
+mod LineTurns
 mod KeptStates
 mod OrderEnds
 mod TriedTurns

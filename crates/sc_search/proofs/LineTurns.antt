@@ -5,7 +5,7 @@ use Rattle.std.proofs.lemmas.List.Concat.{flat_map-append}
 use Rattle.sc_audit.specs.declared.line.RecordLine.{RecordLine}
 use Rattle.sc_world.specs.Turning.{IsTurn, Runs}
 use Rattle.sc_world.specs.Worlds.{PlainWorld}
-use Rattle.sc_world.proofs.Runs.{runs-join}
+use Rattle.sc_world.proofs.Runs.{runs-join, runs-more}
 use Rattle.sc_search.specs.Found.{line_turns, turns_of}
 use Rattle.sc_search.specs.Stops.{Moves}
 
@@ -19,10 +19,6 @@ longer n h = sym (replicate-append-replicate n 1 h)
 -- the last line goes on
 pub goes_on : (before : List ℕ) (line last : List ℕ) (h : ℕ) → line ≡ last ++ h ∷ [] → before ++ line ≡ (before ++ last) ++ h ∷ []
 goes_on before line last h e = ap (λ (ts : List ℕ). before ++ ts) e ∙ sym (append_assoc before last (h ∷ []))
-
--- one turn more
-pub runs-more : (hs : List ℕ) (h : ℕ) (x y z : PlainWorld) → Runs hs x y → IsTurn h y z → Runs (hs ++ h ∷ []) x z
-runs-more hs h x y z runs turn = runs-join hs (h ∷ []) x y z runs (z, turn, refl)
 
 -- ---- turns of lines, one line after the other
 

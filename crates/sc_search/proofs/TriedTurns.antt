@@ -10,11 +10,11 @@ use Rattle.sc_request.specs.Logs.{Center, pick_for}
 use Rattle.sc_world.specs.Kept.{PlainKept, kept}
 use Rattle.sc_world.specs.Turning.{IsTurn, Runs, TurnsUnder}
 use Rattle.sc_world.specs.Worlds.{PlainWorld, opened}
+use Rattle.sc_world.proofs.Runs.{runs-more}
 use Rattle.sc_search.specs.declared.aims.Aim.{Aim}
 use Rattle.sc_search.specs.Closed.{IsAmong, IsClosed, IsTried, IsUnmet}
 use Rattle.sc_search.specs.Steps.{AreUnmet, Extends, IsTriedAt, Keeps, Opens, Stands, Tries, TriesAll}
 use Rattle.sc_search.proofs.KeptStates.{get_before, get_either, same_some}
-use Rattle.sc_search.proofs.LineTurns.{runs-more}
 
 module _ (p : Image) (v : Version) (a : Aim) where
   -- ---- states behind others

@@ -1,5 +1,5 @@
 -- Turns of a handler that are made at once are its turns, one after the other.
-use Rattle.std.proofs.Common.{◌≡◌, ◌<◌, ◌≤◌, ◌+◌, ◌==◌, inl, inr, ℕ, zero, suc, Bool, true, false, List, [], ◌∷◌, ◌++◌, Option, Some, None, replicate, slice_get, slice_set, refl, sym, ap, subst, ◌∙◌, arith}
+use Rattle.std.proofs.Common.{◌≡◌, ◌<◌, ◌≤◌, ◌+◌, ◌==◌, inl, inr, ℕ, zero, suc, Bool, true, false, List, [], ◌∷◌, ◌++◌, Option, Some, None, is_some, replicate, slice_get, slice_set, refl, sym, ap, subst, ◌∙◌, arith}
 use Rattle.std.proofs.lemmas.Bool.{eq-eqb}
 use Rattle.std.proofs.lemmas.List.{take-replicate}
 use Rattle.std.proofs.Math.Path.{fun_ext}
@@ -16,11 +16,11 @@ use Rattle.sc_play.specs.Regions.{EndsIn, PlainRegion}
 use Rattle.sc_play.specs.Turns.{FirstTurn, IsAhead, TurnOf, Turns, first, more}
 use Rattle.sc_play.proofs.Programs.{turns_keep}
 use Rattle.sc_world.specs.Rounds.{AreCutShort, MakesAll, MakesSome}
-use Rattle.sc_world.specs.Turning.{HeldUpUnder, IsHeldUp, IsRefusedTurn, IsTurn, Makes, Runs as RunsBy, StopsBehind, StopsShort, TurnsUnderJob}
+use Rattle.sc_world.specs.Turning.{HeldUpUnder, IsHeldUp, IsRefusedTurn, IsTurn, MakeTurns, Makes, Runs as RunsBy, StopsBehind, StopsShort, TurnsUnderJob}
 use Rattle.sc_world.specs.Worlds.{PlainWorld}
-use Rattle.sc_world.proofs.Runs.{runs-idle, stops-again}
+use Rattle.sc_world.proofs.Runs.{made-more, made-run, runs-idle, runs-join, stops-again}
 use Rattle.sc_world.proofs.SettledPicks.{set_same}
-use Rattle.sc_world.proofs.MoreTurns.{asks_on, join_runs, once_more, picks_again, runs_join, set_again, turn_by, turns_some}
+use Rattle.sc_world.proofs.MoreTurns.{asks_on, once_more, picks_again, set_again, turn_by, turns_some}
 
 module _ (h : ℕ) (j : Job) (x : PlainWorld) (r : PlainRegion) (stands : slice_get x.regions h ≡ Some r) (picks : pick_for h x.center ≡ Some j) where
   abbrev pub region : PlainStore → PlainRegion
@@ -90,11 +90,23 @@ module _ (h : ℕ) (j : Job) (x : PlainWorld) (r : PlainRegion) (stands : slice_
   replicate_one : (n : ℕ) → replicate n h ++ h ∷ [] ≡ replicate (n + 1) h
   replicate_one n = let e : suc n ≡ n + 1 = omega arith in replicate_more n ∙ ap (λ (k : ℕ). replicate k h) e
 
+  -- behind turns that ask nothing it has something to do again
+  has_more : (n : ℕ) (y : PlainStore) → Turns r.handler r.is_told j r.store n y want.Continue → is_some (pick_for h (after n y want.Continue).center) ≡ true
+  has_more n y ts =
+      let more_comes = asks_on r.handler r.is_told j r.store n y want.Continue ts refl in
+      let k = turns_some r.handler r.is_told j r.store n y want.Continue ts in
+      subst (λ (m : ℕ). is_some (pick_for h (after m y want.Continue).center) ≡ true) (sym k.1)
+      (ap (λ (o : Option Job). is_some o) (picks_again x.most h j x.center picks more_comes k.0))
+
+  -- so it makes each of its turns
+  pub makes_turns : (n : ℕ) (y : PlainStore) (w : Want) → Turns r.handler r.is_told j r.store n y w → MakeTurns (replicate n h) x (after n y w)
+  makes_turns _ _ _ (first {y} {w} t) = (ap (λ (o : Option Job). is_some o) picks, after 1 y w, first_turn y w t, refl)
+  makes_turns _ _ _ (more {n} {y} {z} {w} ts t) =
+      subst (λ (hs : List ℕ). MakeTurns hs x (after (n + 1) z w)) (replicate_one n)
+      (made-more (replicate n h) h x (after n y want.Continue) (after (n + 1) z w) (makes_turns n y want.Continue ts) (has_more n y ts) (further_turn n y z w ts t))
+
   pub all_turns : (n : ℕ) (y : PlainStore) (w : Want) → Turns r.handler r.is_told j r.store n y w → RunsBy (replicate n h) x (after n y w)
-  all_turns _ _ _ (first {y} {w} t) = (after 1 y w, first_turn y w t, refl)
-  all_turns _ _ _ (more {n} {y} {z} {w} ts t) =
-      subst (λ (hs : List ℕ). RunsBy hs x (after (n + 1) z w)) (replicate_one n)
-      (join_runs (replicate n h) h x (after n y want.Continue) (after (n + 1) z w) (all_turns n y want.Continue ts) (further_turn n y z w ts t))
+  all_turns n y w ts = made-run (replicate n h) x (after n y w) (makes_turns n y w ts)
 
 -- ---- what a handler makes under its job
 
@@ -233,7 +245,7 @@ replicate_behind (suc m) n h =
 pub runs_on : (m n all h : ℕ) (x y z : PlainWorld) → m + n ≡ all → RunsBy (replicate m h) x y → RunsBy (replicate n h) y z → RunsBy (replicate all h) x z
 runs_on m n all h x y z e before then_runs =
     subst (λ (hs : List ℕ). RunsBy hs x z) (replicate_behind m n h ∙ ap (λ (k : ℕ). replicate k h) e)
-    (runs_join (replicate m h) (replicate n h) x y z before then_runs)
+    (runs-join (replicate m h) (replicate n h) x y z before then_runs)
 
 -- where it has nothing to do any more, further ones change nothing
 pub runs_out : (m n all h : ℕ) (x y : PlainWorld) → m + n ≡ all → RunsBy (replicate m h) x y → None ≡ pick_for h y.center → RunsBy (replicate all h) x y

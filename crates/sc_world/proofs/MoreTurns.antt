@@ -203,14 +203,6 @@ asks_on h b j x _ _ _ (more {n} {y} {z} {w} ts t) e = asks_on h b j x n y want.C
 
 -- ---- worlds
 
-pub join_runs : (hs : List ℕ) (h : ℕ) (x y z : PlainWorld) → RunsBy hs x y → IsTurn h y z → RunsBy (hs ++ h ∷ []) x z
-join_runs [] h x y z same turn = (z, subst (λ (w : PlainWorld). IsTurn h w z) same turn, refl)
-join_runs (k ∷ hs) h x y z runs turn = (runs.0, runs.1, join_runs hs h runs.0 y z runs.2 turn)
-
-pub runs_join : (hs ks : List ℕ) (x y z : PlainWorld) → RunsBy hs x y → RunsBy ks y z → RunsBy (hs ++ ks) x z
-runs_join [] ks x y z same runs = subst (λ (w : PlainWorld). RunsBy ks w z) same runs
-runs_join (h ∷ hs) ks x y z before runs = (before.0, before.1, runs_join hs ks before.0 y z before.2 runs)
-
 pub set_again : (rs : List PlainRegion) (h : ℕ) (x y : PlainRegion) → slice_set (slice_set rs h x) h y ≡ slice_set rs h y
 set_again [] h x y = refl
 set_again (r ∷ rs) zero x y = refl

@@ -22,7 +22,7 @@ ok-holds (Err d) P e p = absurd (cc)
 -- ---- runs
 
 -- one turn more
-runs-more : (hs : List ℕ) (h : ℕ) (x y z : PlainWorld) → Runs hs x y → IsTurn h y z → Runs (hs ++ h ∷ []) x z
+pub runs-more : (hs : List ℕ) (h : ℕ) (x y z : PlainWorld) → Runs hs x y → IsTurn h y z → Runs (hs ++ h ∷ []) x z
 runs-more [] h x y z same turn = (z, subst (λ (w : PlainWorld). IsTurn h w z) same turn, refl)
 runs-more (k ∷ hs) h x y z runs turn = (runs.0, runs.1, runs-more hs h runs.0 y z runs.2 turn)
 
