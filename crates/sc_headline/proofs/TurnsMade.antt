@@ -10,12 +10,6 @@ use Rattle.sc_model.specs.Handlers as machine
 use Rattle.sc_model.specs.Runs.{opening, run}
 use Rattle.sc_model.proofs.Joins.{run_append}
 use Rattle.sc_code.specs.declared.program.Image.{Image}
-<<<<<<< HEAD
-=======
-use Rattle.sc_region.specs.declared.job.Want.TheVariants as want
-use Rattle.sc_handler.specs.declared.settlement.Settlement.{Settlement}
-use Rattle.sc_handler.specs.Handlers.{State}
->>>>>>> h-c
 use Rattle.sc_request.specs.Cores.{log_of, state_of}
 use Rattle.sc_request.specs.Laws.{PicksWhereTurns}
 use Rattle.sc_world.specs.Turning.{MakeTurns, Runs}

@@ -151,9 +151,7 @@ fn note_of(
             let told = format!(in alloc; "no order was found, so nothing is written to {name}\n")?;
             Ok(told.into_bytes())
         }
-        (Some(lines), _) if options.is_explained => {
-            explain_order(alloc, program, source, lines)
-        }
+        (Some(lines), _) if options.is_explained => { explain_order(alloc, program, source, lines) }
         _ => Ok(Vec::new(alloc)),
     }
 }
