@@ -5,7 +5,7 @@ use sc_audit::Record;
 use sc_auditing::{AuditFault, audit};
 use sc_class::Root;
 use sc_code::Program;
-use sc_driver::{RunReport, load_text, replay};
+use sc_driver::{Rejection, RunReport, load_text, replay};
 use sc_plant::{Gate, Left, RunFault, run};
 use std::alloc::{AllocError, Global};
 use std::process::Abort;
@@ -31,6 +31,7 @@ pub fn load<R: Abort>(rt: &R, alloc: Global, text: &str) -> Result<Program, Fail
     };
     match load_text(alloc, text, &root) {
         Ok(program) => Ok(program),
+        Err(Rejection::OutOfMemory) => Err(Fail::from(AllocError)),
         Err(_) => panic!(rt; "the text is no program's"),
     }
 }
