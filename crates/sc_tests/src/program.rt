@@ -70,7 +70,8 @@ fn expect<R: Abort + Threads + Wait + Sync + AllocGlobal>(
     (status, out, err): (u8, &str, &str),
 ) -> Result<(), Fail> {
     let said = answer_of(rt, call)?;
-    if said.status == Exit::Broken as u8 && (status != said.status || said.out.len() < out.len()) {
+    let is_cut = said.out.len() < out.len() || said.err.len() < err.len();
+    if said.status == Exit::Broken as u8 && (status != said.status || is_cut) {
         return Err(Fail::new("out of memory"));
     }
     let alloc = rt.alloc();
