@@ -4,3 +4,4 @@ pub mod Parts
 pub mod Named
 pub mod Jumps
 pub mod Sources
+pub mod Told

@@ -2,11 +2,11 @@
 use Rattle.std.specs.Prelude.{ℕ, List, [], Option, Some, None}
 use Rattle.sc_class.specs.Tables.Features.{feature_named}
 use Rattle.sc_proctype.specs.declared.entity_type.EntityType.{EntityType}
-use Rattle.sc_rules.specs.Names.{current}
+use Rattle.sc_rules.specs.Names.{Entities, current}
 use Rattle.sc_routines.specs.declared.own_feature.OwnFeature.{OwnFeature}
 use Rattle.sc_routines.specs.declared.own_feature.OwnFeature.TheVariants as own
 use Rattle.sc_code.specs.Operations.{Operation}
-use Rattle.sc_code.specs.Places.{Setting, here}
+use Rattle.sc_code.specs.Places.{Setting, here, slot_named}
 use Rattle.sc_code.specs.Emitted.{attribute_code}
 use Rattle.sc_routines.specs.Parts.{own_feature, slot_code}
 
@@ -33,3 +33,10 @@ read_type (Some found) f = found.1
 read_type None own.Unknown = None
 read_type None (own.Attribute t) = t
 read_type None (own.Routine t) = None
+
+-- the same of a name where these are known, in a text of this setting
+abbrev pub code_named : Setting → Entities → List ℕ → List Operation
+code_named h n x = read_code x (slot_named x n) (own_named h x)
+
+abbrev pub type_named : Setting → Entities → List ℕ → Option EntityType
+type_named h n x = read_type (slot_named x n) (own_named h x)

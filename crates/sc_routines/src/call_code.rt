@@ -1,16 +1,15 @@
 //! Calls with no target.
 
 ghost use Rattle.std.specs.Prelude.{◌≡◌, ◌+◌, ◌++◌, IfOk, OnOk, length, map, max};
-ghost use Rattle.std.specs.Option.{option_and_then};
 ghost use Rattle.sc_tree.specs.View.{exprs_of, name_of};
 ghost use Rattle.sc_class.specs.SystemIn.{system_in};
-ghost use Rattle.sc_class.specs.Tables.Features.{feature_named};
 ghost use Rattle.sc_model.specs.Olds.{olds_of_each};
 ghost use Rattle.sc_typing.specs.Views.{entity_of};
-ghost use Rattle.sc_code.specs.Emitted as emitted;
 ghost use Rattle.sc_routines.specs.Named as named;
 ghost use Rattle.sc_code.specs.Places as places;
+ghost use Rattle.sc_routines.specs.Parts.{feature_call_code, routine_call_code};
 ghost use Rattle.sc_routines.specs.Settings.{setting_in};
+ghost use Rattle.sc_routines.specs.Told.{told_of_feature_call, told_of_leaf, type_behind};
 
 use crate::code::Code;
 use crate::known_names::slot_named;
@@ -49,8 +48,8 @@ impl<'t, 's> Setting<'t, 's> {
         site: TextSite,
         name: &'s str,
     ) -> Result<Option<EntityType>, AllocError>
-        ensures code { OnOk result (code.new ≡ code.old ++ named.read_code name.now (places.slot_named name.now (map entity_of names.now)) (named.own_named (setting_in self.now) name.now)) }
-        ensures told { IfOk result (λ t. t ≡ named.read_type (places.slot_named name.now (map entity_of names.now)) (named.own_named (setting_in self.now) name.now)) }
+        ensures code { OnOk result (code.new ≡ code.old ++ named.code_named (setting_in self.now) (map entity_of names.now) name.now) }
+        ensures told { IfOk result (λ t. t ≡ named.type_named (setting_in self.now) (map entity_of names.now) name.now) }
     {
         if let Some((slot, value)) = slot_named(name, names) {
             push_slot(code, site, slot, value)?;
@@ -73,8 +72,9 @@ impl<'t, 's> Setting<'t, 's> {
         code: &mut Code<'s>,
         call: &'s Call,
     ) -> Result<Lowered, AllocError>
-        ensures code { OnOk result (code.new ≡ code.old ++ named.read_code (name_of call.now.name).text (places.slot_named (name_of call.now.name).text (map entity_of names.now)) (named.own_named (setting_in self.now) (name_of call.now.name).text)) }
-        ensures told { IfOk result (λ l. l ≡ record { value = named.read_type (places.slot_named (name_of call.now.name).text (map entity_of names.now)) (named.own_named (setting_in self.now) (name_of call.now.name).text); depth = 1; olds = olds + length (olds_of_each (exprs_of call.now.actuals.items)); slots = 0 }) }
+        ensures code { OnOk result (code.new ≡ code.old ++ named.code_named (setting_in self.now) (map entity_of names.now) (name_of call.now.name).text) }
+        ensures told { IfOk result (λ l. l ≡ told_of_leaf (named.type_named (setting_in self.now) (map entity_of names.now) (name_of call.now.name).text)
+            (olds + length (olds_of_each (exprs_of call.now.actuals.items)))) }
     {
         let value = self.push_read(names, code, call_site(call), call.name.text.as_str())?;
         let passed = olds_in_each(self.context.alloc, &call.actuals)?;
@@ -89,7 +89,7 @@ impl<'t, 's> Setting<'t, 's> {
         value: Option<EntityType>,
         actuals: &LoweredActuals,
     ) -> Result<Lowered, AllocError>
-        ensures code { OnOk result (code.new ≡ code.old ++ emitted.routine_call (setting_in self.now) (name_of call.now.name).text (length call.now.actuals.items) actuals.now.types.items) }
+        ensures code { OnOk result (code.new ≡ code.old ++ routine_call_code (setting_in self.now) call.now actuals.now.types.items) }
         ensures told { IfOk result (λ l. l ≡ record { value = value; depth = max 1 actuals.now.depth; olds = actuals.now.olds; slots = 0 }) }
     {
         let name = call.name.text.as_str();
@@ -111,8 +111,9 @@ impl<'t, 's> Setting<'t, 's> {
         target: Lowered,
         actuals: &LoweredActuals,
     ) -> Result<Lowered, AllocError>
-        ensures code { OnOk result (code.new ≡ code.old ++ emitted.feature_call (setting_in self.now) (name_of call.now.name).text (length call.now.actuals.items) target.value actuals.now.types.items) }
-        ensures told { IfOk result (λ l. l ≡ record { value = option_and_then (λ t. places.feature_type (system_in self.now.context.tables.now) t (feature_named (system_in self.now.context.tables.now) t.class (name_of call.now.name).text)) target.value; depth = max target.depth (actuals.now.depth + 1); olds = actuals.now.olds; slots = 0 }) }
+        ensures code { OnOk result (code.new ≡ code.old ++ feature_call_code (setting_in self.now) call.now target.value actuals.now.types.items) }
+        ensures told { IfOk result (λ l. l ≡ told_of_feature_call
+            (type_behind (system_in self.now.context.tables.now) (name_of call.now.name).text target.value) target actuals.now) }
     {
         let name = call.name.text.as_str();
         self.push_feature_call(

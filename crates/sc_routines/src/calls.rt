@@ -4,14 +4,13 @@ ghost use Rattle.std.specs.Prelude.{◌≡◌, ◌++◌, OnOk, map};
 ghost use Rattle.std.specs.Option.{option_map};
 ghost use Rattle.sc_tree.specs.View.{declaration_of};
 ghost use Rattle.sc_class.specs.SystemIn.{system_in};
-ghost use Rattle.sc_tree.specs.Plain as plain;
 ghost use Rattle.sc_rules.specs.Names as names;
 ghost use Rattle.sc_rules.specs.Types as types;
 ghost use Rattle.sc_model.specs.Calls as model;
 ghost use Rattle.sc_typing.specs.Views.{formals_in, signature_in};
 ghost use Rattle.sc_code.specs.Emitted as emitted;
 ghost use Rattle.sc_code.specs.Places as places;
-ghost use Rattle.sc_routines.specs.Parts.{site_named};
+ghost use Rattle.sc_routines.specs.Parts.{formal_types, site_named};
 ghost use Rattle.sc_routines.specs.Settings.{setting_in};
 ghost use Rattle.sc_routines.specs.Unlinked.{unlinked_call};
 
@@ -71,7 +70,7 @@ fn passes_one(formal: Option<EntityType>, actual: EntityType) -> bool
 
 /// Whether a call with actuals of these types passes locks to these formals.
 fn declared_types_pass(tables: &Tables, formals: &[Declaration], actuals: &[EntityType]) -> bool
-    ensures { result ≡ emitted.types_pass (map (λ (d : plain.Declaration). names.formal_type (types.declared_type (system_in tables.now) (map declaration_of formals.now) d.declared_type)) (map declaration_of formals.now)) actuals.now }
+    ensures { result ≡ emitted.types_pass (formal_types (system_in tables.now) (map declaration_of formals.now)) actuals.now }
 {
     for number in 0..formals.len() {
         if actuals.len() <= number {

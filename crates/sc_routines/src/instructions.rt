@@ -3,12 +3,13 @@
 ghost use Rattle.std.specs.Prelude.{◌≡◌, ◌+◌, ◌++◌, [], ◌∷◌, IfOk, OnOk, length, map, max, suc};
 ghost use Rattle.sc_tree.specs.View.{branches_of, expr_of, head_of, instr_of, instrs_of};
 ghost use Rattle.sc_typing.specs.Views.{entity_of};
-ghost use Rattle.sc_code.specs.Operations as plain;
-ghost use Rattle.sc_code.specs.Places.{head_types, names_given, with_heads};
-ghost use Rattle.sc_code.specs.Emitted.{branches_depth, branches_slots, expr_code, expr_depth, expr_slots, heads_code, heads_depth, instr_code, instr_depth, instr_slots, instrs_code, instrs_depth, instrs_slots, names_of};
-ghost use Rattle.sc_routines.specs.Jumps.{jumps_of, open_branch, open_branches};
+ghost use Rattle.sc_code.specs.Places.{head_types, with_heads};
+ghost use Rattle.sc_code.specs.Emitted.{branches_depth, branches_slots, heads_depth, instr_code, instr_depth, instr_slots, instrs_code, instrs_depth, instrs_slots, names_of};
+ghost use Rattle.sc_routines.specs.Jumps.{branch_opened, jump_behind, jumps_of, open_branches};
 ghost use Rattle.sc_code.specs.Room.{branches_blocks, instr_blocks, instrs_blocks};
+ghost use Rattle.sc_routines.specs.Parts.{block_code};
 ghost use Rattle.sc_routines.specs.Settings.{setting_in};
+ghost use Rattle.sc_routines.specs.Told.{branch_depth, branch_slots};
 
 use crate::code::Code;
 use crate::instructions::assignment::lower_assignment;
@@ -123,14 +124,14 @@ fn lower_branch<'s>(
     condition: &'s Expr,
 ) -> Result<Needs, AllocError>
     ensures code { let h = setting_in setting.now in let n = map entity_of names.old.items in
-        OnOk result (code.new ≡ code.old ++ open_branch (expr_code h n 0 (expr_of condition.now)) (instrs_code h (names_given h n 0 (expr_of condition.now)) (instrs_of body.now))) }
+        OnOk result (code.new ≡ code.old ++ branch_opened h n (expr_of condition.now) (instrs_of body.now)) }
     ensures jumps { let h = setting_in setting.now in let n = map entity_of names.old.items in
-        OnOk result (jumps.new.items ≡ jumps.old.items ++ (length code.old + length (expr_code h n 0 (expr_of condition.now)) + suc (length (instrs_code h (names_given h n 0 (expr_of condition.now)) (instrs_of body.now)))) ∷ []) }
+        OnOk result (jumps.new.items ≡ jumps.old.items ++ jump_behind h n (length code.old) (expr_of condition.now) (instrs_of body.now) ∷ []) }
     ensures names { OnOk result (map entity_of names.new.items ≡ map entity_of names.old.items) }
     ensures depth { let h = setting_in setting.now in let n = map entity_of names.old.items in
-        IfOk result (λ l. l.depth ≡ max (expr_depth h n 0 (expr_of condition.now)) (instrs_depth h (names_given h n 0 (expr_of condition.now)) (instrs_of body.now))) }
+        IfOk result (λ l. l.depth ≡ branch_depth h n (expr_of condition.now) (instrs_of body.now)) }
     ensures slots { let h = setting_in setting.now in let n = map entity_of names.old.items in
-        IfOk result (λ l. l.slots ≡ max (expr_slots h n 0 (expr_of condition.now)) (instrs_slots h (names_given h n 0 (expr_of condition.now)) (instrs_of body.now))) }
+        IfOk result (λ l. l.slots ≡ branch_slots h n (expr_of condition.now) (instrs_of body.now)) }
     ensures blocks { IfOk result (λ l. l.blocks ≡ instrs_blocks (instrs_of body.now)) }
 {
     let known = names.len();
@@ -166,7 +167,8 @@ fn lower_branches<'s>(
     branches: &'s [Branch],
 ) -> Result<Needs, AllocError>
     ensures code { OnOk result (code.new ≡ code.old ++ open_branches (setting_in setting.now) (map entity_of names.old.items) (branches_of branches.now)) }
-    ensures jumps { OnOk result (jumps.new.items ≡ jumps.old.items ++ jumps_of (setting_in setting.now) (map entity_of names.old.items) (length code.old) (branches_of branches.now)) }
+    ensures jumps { let h = setting_in setting.now in let n = map entity_of names.old.items in
+        OnOk result (jumps.new.items ≡ jumps.old.items ++ jumps_of h n (length code.old) (branches_of branches.now)) }
     ensures names { OnOk result (map entity_of names.new.items ≡ map entity_of names.old.items) }
     ensures depth { IfOk result (λ n. n.depth ≡ branches_depth (setting_in setting.now) (map entity_of names.old.items) (branches_of branches.now)) }
     ensures slots { IfOk result (λ n. n.slots ≡ branches_slots (setting_in setting.now) (map entity_of names.old.items) (branches_of branches.now)) }
@@ -198,7 +200,7 @@ fn lower_block<'s>(
     body: &'s [Instr],
 ) -> Result<Needs, AllocError>
     ensures code { let h = setting_in setting.now in let n = map entity_of names.old.items in let ds = map head_of heads.now in
-        OnOk result (code.new ≡ code.old ++ (heads_code h n ds ++ plain.Open (length n) (length ds) ∷ (instrs_code h (with_heads (names_of ds) (head_types h n ds) n) (instrs_of body.now) ++ plain.Leave ∷ []))) }
+        OnOk result (code.new ≡ code.old ++ block_code h n ds (instrs_of body.now)) }
     ensures names { OnOk result (map entity_of names.new.items ≡ map entity_of names.old.items) }
     ensures depth { let h = setting_in setting.now in let n = map entity_of names.old.items in let ds = map head_of heads.now in
         IfOk result (λ l. l.depth ≡ max (heads_depth h n ds) (instrs_depth h (with_heads (names_of ds) (head_types h n ds) n) (instrs_of body.now))) }

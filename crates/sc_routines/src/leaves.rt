@@ -1,10 +1,9 @@
 //! The code of what has no parts, and what stands behind the operand of an object test.
 
 ghost use Rattle.std.specs.Prelude.{◌≡◌, ◌+◌, ◌++◌, ◌∷◌, [], IfOk, OnOk, Some, length, map, slice_get};
-ghost use Rattle.std.specs.Option.{option_and_then, option_map};
+ghost use Rattle.std.specs.Option.{option_map};
 ghost use Rattle.sc_tree.specs.View.{name_of, type_if_any};
 ghost use Rattle.sc_class.specs.SystemIn.{system_in};
-ghost use Rattle.sc_class.specs.Tables.Features.{feature_named};
 ghost use Rattle.sc_proctype.specs.Conformance.{boolean};
 ghost use Rattle.sc_rules.specs.Names as rules;
 ghost use Rattle.sc_typing.specs.Views.{entity_of};
@@ -12,7 +11,9 @@ ghost use Rattle.sc_code.specs.Emitted as emitted;
 ghost use Rattle.sc_code.specs.Operations as plain;
 ghost use Rattle.sc_routines.specs.Parts as parts;
 ghost use Rattle.sc_code.specs.Places as places;
+ghost use Rattle.sc_routines.specs.Named.{own_named};
 ghost use Rattle.sc_routines.specs.Settings.{setting_in};
+ghost use Rattle.sc_routines.specs.Told.{type_behind};
 ghost use Rattle.sc_routines.specs.Unlinked.{unlinked};
 ghost use Rattle.sc_code.specs.View.{tested_of};
 
@@ -149,7 +150,7 @@ impl<'t, 's> Setting<'t, 's> {
 
     /// What a name of the class is.
     pub fn own_feature(&self, name: &str) -> OwnFeature
-        ensures { result ≡ parts.own_feature (system_in self.now.context.tables.now) (rules.current (places.here (setting_in self.now))) (feature_named (system_in self.now.context.tables.now) (rules.current (places.here (setting_in self.now))).class name.now) }
+        ensures { result ≡ own_named (setting_in self.now) name.now }
     {
         match self.context.qualified_meaning(self.context.current(), name) {
             Meaning::Unknown | Meaning::TargetUntyped => OwnFeature::Unknown,
@@ -165,7 +166,7 @@ impl<'t, 's> Setting<'t, 's> {
 
     /// The type that the feature of this name gives behind a target of this type, where both are known.
     pub fn feature_type(&self, name: &str, target: Option<EntityType>) -> Option<EntityType>
-        ensures { result ≡ option_and_then (λ t. places.feature_type (system_in self.now.context.tables.now) t (feature_named (system_in self.now.context.tables.now) t.class name.now)) target }
+        ensures { result ≡ type_behind (system_in self.now.context.tables.now) name.now target }
     {
         match self.context.qualified_meaning(target?, name) {
             Meaning::Unknown | Meaning::TargetUntyped => None,
@@ -207,8 +208,10 @@ impl<'t, 's> Setting<'t, 's> {
         name: &'s Name,
         tested: Lowered,
     ) -> Result<Lowered, AllocError>
-        ensures code { OnOk result (code.new ≡ code.old ++ plain.Test (emitted.tested (setting_in self.now) (map entity_of names.old.items) (type_if_any declared.now)) (length names.old.items) ∷ []) }
-        ensures names { OnOk result (map entity_of names.new.items ≡ places.with_test (name_of name.now).text (rules.test_type (places.here (setting_in self.now)) (type_if_any declared.now) tested.value) (map entity_of names.old.items)) }
+        ensures code { OnOk result (code.new ≡ code.old ++ parts.test_code (setting_in self.now)
+            (map entity_of names.old.items) (type_if_any declared.now) (length names.old.items)) }
+        ensures names { OnOk result (map entity_of names.new.items ≡ parts.with_tested (setting_in self.now)
+            (type_if_any declared.now) tested.value (name_of name.now).text (map entity_of names.old.items)) }
         ensures told { IfOk result (λ l. l ≡ record { value = Some boolean; depth = tested.depth; olds = tested.olds; slots = length names.old.items + 1 }) }
     {
         let kind = SiteKind::ObjectTest;

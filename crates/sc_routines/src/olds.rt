@@ -1,9 +1,9 @@
 //! The operands of `old` in an expression.
 
 ghost use Rattle.std.specs.Prelude.{◌≡◌, ◌++◌, IfOk, OnOk, length};
-ghost use Rattle.sc_tree.specs.View.{expr_of, exprs_of, name_of, target_of};
-ghost use Rattle.sc_tree.specs.Plain as plain;
+ghost use Rattle.sc_tree.specs.View.{expr_of, exprs_of};
 ghost use Rattle.sc_model.specs.Olds.{olds_of, olds_of_each};
+ghost use Rattle.sc_routines.specs.Parts.{call_in};
 ghost use Rattle.sc_routines.specs.Settings.{operands_of};
 
 use sc_text::Span;
@@ -51,7 +51,7 @@ pub fn add_olds<'s>(olds: &mut Vec<OldValue<'s>>, e: &'s Expr) -> Result<(), All
 #[cycle(olds)]
 #[tactic(auto, unfolding(sc_tree::specs::View::expr_of))]
 fn add_olds_of_call<'s>(olds: &mut Vec<OldValue<'s>>, call: &'s Call) -> Result<(), AllocError>
-    ensures { OnOk result (operands_of olds.new.items ≡ operands_of olds.old.items ++ olds_of (plain.Call call.now.span (target_of call.now.target) (name_of call.now.name) (exprs_of call.now.actuals.items))) }
+    ensures { OnOk result (operands_of olds.new.items ≡ operands_of olds.old.items ++ olds_of (call_in call.now)) }
 {
     if let Some(target) = &call.target {
         add_olds(olds, target)?;

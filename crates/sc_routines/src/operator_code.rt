@@ -1,12 +1,13 @@
 //! Operators.
 
-ghost use Rattle.std.specs.Prelude.{◌≡◌, ◌<◌, ◌++◌, ◌∷◌, [], IfOk, List, OnOk, length, max, take, true, false, Some};
+ghost use Rattle.std.specs.Prelude.{◌≡◌, ◌<◌, ◌++◌, ◌∷◌, [], IfOk, OnOk, length, take, true, false, Some};
 ghost use Rattle.sc_model.specs.Operators as model;
 ghost use Rattle.sc_tree.specs.Properties.{is_and_then};
 ghost use Rattle.sc_code.specs.Emitted as emitted;
 ghost use Rattle.sc_code.specs.Operations as plain;
 ghost use Rattle.sc_code.specs.Places as places;
-ghost use Rattle.sc_routines.specs.Parts.{opened};
+ghost use Rattle.sc_routines.specs.Parts.{ClosesRight, opened};
+ghost use Rattle.sc_routines.specs.Told.{told_of_binary};
 
 use crate::code::Code;
 use crate::lowered::Lowered;
@@ -108,7 +109,7 @@ pub fn close_right(
     place: usize,
 ) -> Result<(), AllocError>
     requires { model.is_short operator ≡ true → place < length code.old }
-    ensures { OnOk result ((base right : List plain.Operation) → code.old ≡ base ++ (opened operator ++ right) → place ≡ length base → code.new ≡ base ++ emitted.right_code operator right) }
+    ensures { OnOk result (ClosesRight operator place code.old code.new) }
 {
     let kind = SiteKind::Binary(operator);
     let site = TextSite { span, kind };
@@ -151,10 +152,10 @@ pub fn close_binary(
     operands: BinaryOperands,
 ) -> Result<Lowered, AllocError>
     requires { model.is_short operator ≡ true → operands.place < length code.old }
-    ensures code { OnOk result ((base right : List plain.Operation) → code.old ≡ base ++ (opened operator ++ right) → operands.place ≡ length base → code.new ≡ base ++ emitted.right_code operator right) }
+    ensures code { OnOk result (ClosesRight operator operands.place code.old code.new) }
     ensures both { is_and_then operator ≡ true → names.new.items ≡ names.old.items }
     ensures none { is_and_then operator ≡ false → names.new.items ≡ take count names.old.items }
-    ensures told { IfOk result (λ l. l ≡ record { value = Some (places.binary_type operator); depth = max operands.left.depth (emitted.operand_depth operator operands.right.depth); olds = operands.right.olds; slots = max operands.left.slots operands.right.slots }) }
+    ensures told { IfOk result (λ l. l ≡ told_of_binary operator operands.left operands.right) }
 {
     forget_names(names, count, operator);
     let BinaryOperands { left, place, right } = operands;

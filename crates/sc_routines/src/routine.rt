@@ -1,17 +1,18 @@
 //! A whole routine: its precondition, its `old`s, its locals' defaults, its body, its postcondition and its exit.
 
-ghost use Rattle.std.specs.Prelude.{◌≡◌, ◌++◌, IfOk, OnOk, length, map, max};
+ghost use Rattle.std.specs.Prelude.{◌≡◌, ◌++◌, IfOk, OnOk, length, map};
 ghost use Rattle.sc_tree.specs.View.{clause_of, declaration_of, type_if_any};
 ghost use Rattle.sc_proctype.specs.declared.entity_type.EntityType.{EntityType};
 ghost use Rattle.sc_typing.specs.Views.{entity_of};
 ghost use Rattle.sc_class.specs.SystemIn.{system_in};
 ghost use Rattle.sc_model.specs.Olds as model;
 ghost use Rattle.sc_model.specs.Routines.{text_of};
-ghost use Rattle.sc_code.specs.Places.{old_types};
 ghost use Rattle.sc_code.specs.Emitted as emitted;
 ghost use Rattle.sc_code.specs.Room.{routine_blocks, routine_olds};
-ghost use Rattle.sc_routines.specs.Settings.{setting_in};
+ghost use Rattle.sc_routines.specs.Parts.{contract_code};
+ghost use Rattle.sc_routines.specs.Settings.{setting_in, with_olds};
 ghost use Rattle.sc_routines.specs.Sources.{source_in};
+ghost use Rattle.sc_routines.specs.Told.{contract_depth};
 
 use crate::calls::known_type;
 use crate::code::Code;
@@ -95,12 +96,12 @@ fn lower_opening<'s>(
     postcondition: &'s [Clause],
 ) -> Result<Opening, AllocError>
     ensures code { let h = setting_in setting.old in let n = map entity_of names.old.items in
-        OnOk result (code.new ≡ code.old ++ (emitted.require_code h n (map clause_of precondition.now) ++ emitted.olds_code h n (model.olds_of_clauses (map clause_of postcondition.now)))) }
+        OnOk result (code.new ≡ code.old ++ contract_code h n (map clause_of precondition.now) (map clause_of postcondition.now)) }
     ensures names { OnOk result (map entity_of names.new.items ≡ map entity_of names.old.items) }
     ensures setting { let h = setting_in setting.old in let n = map entity_of names.old.items in
-        OnOk result (setting_in setting.new ≡ record h { olds = h.olds ++ old_types h n (model.olds_of_clauses (map clause_of postcondition.now)) }) }
+        OnOk result (setting_in setting.new ≡ with_olds h n (model.olds_of_clauses (map clause_of postcondition.now))) }
     ensures depth { let h = setting_in setting.old in let n = map entity_of names.old.items in
-        IfOk result (λ o. o.depth ≡ max (emitted.checks_depth h n (map clause_of precondition.now)) (emitted.olds_depth h n (model.olds_of_clauses (map clause_of postcondition.now)))) }
+        IfOk result (λ o. o.depth ≡ contract_depth h n (map clause_of precondition.now) (map clause_of postcondition.now)) }
     ensures olds { IfOk result (λ o. o.olds ≡ length (model.olds_of_clauses (map clause_of postcondition.now))) }
 {
     let required = lower_precondition(setting, names, code, name, precondition)?;

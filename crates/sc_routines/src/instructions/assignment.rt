@@ -6,7 +6,8 @@ ghost use Rattle.sc_tree.specs.View.{expr_of, name_of, variable_of};
 ghost use Rattle.sc_rules.specs.Names.{assignee};
 ghost use Rattle.sc_typing.specs.Views.{assignee_in, entity_of};
 ghost use Rattle.sc_code.specs.Places.{here};
-ghost use Rattle.sc_code.specs.Emitted.{assign_code, store_code, variable_slot, expr_code, expr_depth};
+ghost use Rattle.sc_code.specs.Emitted.{assign_code, store_code, expr_code, expr_depth};
+ghost use Rattle.sc_routines.specs.Parts.{stored_code};
 ghost use Rattle.sc_routines.specs.Settings.{setting_in};
 
 use crate::code::Code;
@@ -35,7 +36,7 @@ fn push_store_to_name<'s>(
     name: &'s Name,
     assigned: Assignee,
 ) -> Result<(), AllocError>
-    ensures { OnOk result (code.new ≡ code.old ++ store_code (Named (name_of name.now)) (assignee_in assigned) (variable_slot (Named (name_of name.now)) (map entity_of names.now))) }
+    ensures { OnOk result (code.new ≡ code.old ++ stored_code (Named (name_of name.now)) (assignee_in assigned) (map entity_of names.now)) }
 {
     match assigned {
         Assignee::Unknown | Assignee::NotAssignable => Ok(()),

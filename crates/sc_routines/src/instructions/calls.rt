@@ -3,11 +3,11 @@
 ghost use Rattle.std.specs.Prelude.{◌≡◌, ◌++◌, [], IfOk, OnOk, map, max, suc};
 ghost use Rattle.sc_tree.specs.View.{expr_of, exprs_of, instr_of, name_of};
 ghost use Rattle.sc_tree.specs.declared.instruction.Instr.TheVariants as instr;
-ghost use Rattle.sc_tree.specs.Properties as properties;
 ghost use Rattle.sc_rules.specs.CallRules.{count};
 ghost use Rattle.sc_typing.specs.Views.{entity_of};
-ghost use Rattle.sc_code.specs.Places.{expr_type, exprs_types};
-ghost use Rattle.sc_code.specs.Emitted.{expr_code, expr_depth, exprs_code, exprs_depth, feature_call, instr_code, instr_depth, instruction_call, routine_call};
+ghost use Rattle.sc_code.specs.Places.{exprs_types};
+ghost use Rattle.sc_code.specs.Emitted.{expr_depth, exprs_code, exprs_depth, instr_code, instr_depth};
+ghost use Rattle.sc_routines.specs.Parts.{own_call_code, qualified_call_code};
 ghost use Rattle.sc_routines.specs.Settings.{setting_in};
 
 use crate::code::Code;
@@ -31,7 +31,7 @@ fn push_own_call<'s>(
     types: &[EntityType],
     count: usize,
 ) -> Result<(), AllocError>
-    ensures { OnOk result (code.new ≡ code.old ++ instruction_call (properties.is_print (name_of name.now).text) [] (routine_call (setting_in setting.now) (name_of name.now).text count types.now)) }
+    ensures { OnOk result (code.new ≡ code.old ++ own_call_code (setting_in setting.now) (name_of name.now).text [] count types.now) }
 {
     if name.is_print() {
         let kind = SiteKind::Print;
@@ -51,8 +51,8 @@ fn lower_own_call<'s>(
     name: &'s Name,
     actuals: &'s [Expr],
 ) -> Result<Needs, AllocError>
-    ensures code { let h = setting_in setting.now in let n = map entity_of names.old.items in let x = (name_of name.now).text in let es = exprs_of actuals.now in
-        OnOk result (code.new ≡ code.old ++ instruction_call (properties.is_print x) (exprs_code h n 0 es) (routine_call h x (count es) (exprs_types h n 0 es))) }
+    ensures code { let h = setting_in setting.now in let n = map entity_of names.old.items in let es = exprs_of actuals.now in
+        OnOk result (code.new ≡ code.old ++ own_call_code h (name_of name.now).text (exprs_code h n 0 es) (count es) (exprs_types h n 0 es)) }
     ensures names { OnOk result (map entity_of names.new.items ≡ map entity_of names.old.items) }
     ensures depth { IfOk result (λ n. n.depth ≡ exprs_depth (setting_in setting.now) (map entity_of names.old.items) 0 (exprs_of actuals.now)) }
     ensures slots { IfOk result (λ n. n.slots ≡ 0) }
@@ -73,8 +73,8 @@ fn lower_qualified_call<'s>(
     name: &'s Name,
     actuals: &'s [Expr],
 ) -> Result<Needs, AllocError>
-    ensures code { let h = setting_in setting.now in let n = map entity_of names.old.items in let a = expr_of target.now in let es = exprs_of actuals.now in
-        OnOk result (code.new ≡ code.old ++ (expr_code h n 0 a ++ (exprs_code h n 0 es ++ feature_call h (name_of name.now).text (count es) (expr_type h n 0 a) (exprs_types h n 0 es)))) }
+    ensures code { let h = setting_in setting.now in let n = map entity_of names.old.items in
+        OnOk result (code.new ≡ code.old ++ qualified_call_code h n (expr_of target.now) (name_of name.now).text (exprs_of actuals.now)) }
     ensures names { OnOk result (map entity_of names.new.items ≡ map entity_of names.old.items) }
     ensures depth { IfOk result (λ n. n.depth ≡ max (expr_depth (setting_in setting.now) (map entity_of names.old.items) 0 (expr_of target.now))
         (suc (exprs_depth (setting_in setting.now) (map entity_of names.old.items) 0 (exprs_of actuals.now)))) }

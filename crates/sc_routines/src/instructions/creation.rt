@@ -1,18 +1,19 @@
 //! Creations of objects (ECMA-367, 8.20).
 
-ghost use Rattle.std.specs.Prelude.{◌≡◌, ◌++◌, IfOk, OnOk, map, max};
+ghost use Rattle.std.specs.Prelude.{◌≡◌, ◌++◌, IfOk, OnOk, Some, map};
 ghost use Rattle.std.specs.Option.{option_copied};
 ghost use Rattle.sc_tree.specs.View.{creation_call_of, exprs_of, variable_of};
 ghost use Rattle.sc_rules.specs.CallRules.{count};
-ghost use Rattle.sc_rules.specs.Names.{assignee, assignee_type, qualified_meaning};
+ghost use Rattle.sc_rules.specs.Names.{assignee_type, qualified_meaning};
 ghost use Rattle.sc_typing.specs.Views.{assignee_in, entity_of, meaning_in};
 ghost use Rattle.sc_class.specs.SystemIn.{system_in};
 ghost use Rattle.sc_model.specs.Creations.{formals_meant};
 ghost use Rattle.sc_model.specs.Instructions as instructions;
-ghost use Rattle.sc_code.specs.Places.{exprs_types, here};
-ghost use Rattle.sc_code.specs.Emitted.{assign_code, create_code, creation_code, exprs_code, exprs_depth};
+ghost use Rattle.sc_code.specs.Emitted.{create_code};
 ghost use Rattle.sc_code.specs.Emitted as emitted;
+ghost use Rattle.sc_routines.specs.Parts.{created_code};
 ghost use Rattle.sc_routines.specs.Settings.{setting_in};
+ghost use Rattle.sc_routines.specs.Told.{creation_depth};
 
 use crate::calls::types_pass;
 use crate::code::Code;
@@ -96,7 +97,7 @@ fn push_creation_of<'s>(
     types: &[EntityType],
     created: EntityType,
 ) -> Result<(), AllocError>
-    ensures { OnOk result (code.new ≡ code.old ++ creation_code (setting_in setting.now) (option_copied procedure.entry) count types.now created created.tag created.class) }
+    ensures { OnOk result (code.new ≡ code.old ++ create_code (setting_in setting.now) (option_copied procedure.entry) count types.now (Some created)) }
 {
     let ClassId::Declared(class) = created.class else {
         return Ok(());
@@ -151,11 +152,10 @@ pub fn lower_creation<'s>(
     variable: &'s Variable,
     call: &'s Option<CreationCall>,
 ) -> Result<Needs, AllocError>
-    ensures code { let h = setting_in setting.now in let n = map entity_of names.old.items in let es = instructions.actuals_of (creation_call_of call.now) in
-        OnOk result (code.new ≡ code.old ++ (exprs_code h n 0 es ++ (create_code h (instructions.procedure_of (creation_call_of call.now)) (count es) (exprs_types h n 0 es)
-        (assignee_type (assignee (here h) n (variable_of variable.now))) ++ assign_code h n (variable_of variable.now)))) }
+    ensures code { let h = setting_in setting.now in let n = map entity_of names.old.items in
+        OnOk result (code.new ≡ code.old ++ created_code h n (variable_of variable.now) (creation_call_of call.now)) }
     ensures names { OnOk result (map entity_of names.new.items ≡ map entity_of names.old.items) }
-    ensures depth { IfOk result (λ n. n.depth ≡ max 1 (exprs_depth (setting_in setting.now) (map entity_of names.old.items) 0 (instructions.actuals_of (creation_call_of call.now)))) }
+    ensures depth { IfOk result (λ n. n.depth ≡ creation_depth (setting_in setting.now) (map entity_of names.old.items) (creation_call_of call.now)) }
     ensures slots { IfOk result (λ n. n.slots ≡ 0) }
     ensures blocks { IfOk result (λ n. n.blocks ≡ 0) }
 {

@@ -1,10 +1,10 @@
 //! Ends of loops (ECMA-367, 8.17).
 
-ghost use Rattle.std.specs.Prelude.{◌≡◌, ◌<◌, ◌+◌, ◌-◌, ◌++◌, [], ◌∷◌, IfOk, OnOk, length, map, slice_set};
+ghost use Rattle.std.specs.Prelude.{◌≡◌, ◌<◌, ◌+◌, ◌-◌, ◌++◌, [], ◌∷◌, IfOk, OnOk, length, map};
 ghost use Rattle.sc_tree.specs.View.{expr_of};
 ghost use Rattle.sc_typing.specs.Views.{entity_of};
-ghost use Rattle.sc_code.specs.Operations as plain;
 ghost use Rattle.sc_code.specs.Emitted.{expr_code, expr_depth};
+ghost use Rattle.sc_routines.specs.Jumps.{looped};
 ghost use Rattle.sc_routines.specs.Settings.{setting_in};
 
 use crate::code::Code;
@@ -26,8 +26,7 @@ pub fn end_loop<'s>(
     until: &'s Expr,
 ) -> Result<Needs, AllocError>
     requires { jump < length code.old }
-    ensures code { let until = expr_code (setting_in setting.now) (map entity_of names.old.items) 0 (expr_of until.now) in let ahead = length code.old - jump - 1 in
-        OnOk result (code.new ≡ slice_set (code.old ++ (until ++ plain.EndLoop (ahead + length until) ∷ [])) jump (plain.Jump ahead)) }
+    ensures code { OnOk result (code.new ≡ looped jump (expr_code (setting_in setting.now) (map entity_of names.old.items) 0 (expr_of until.now)) code.old) }
     ensures names { OnOk result (map entity_of names.new.items ≡ map entity_of names.old.items) }
     ensures depth { IfOk result (λ n. n.depth ≡ expr_depth (setting_in setting.now) (map entity_of names.old.items) 0 (expr_of until.now)) }
     ensures slots { IfOk result (λ n. n.slots ≡ 0) }

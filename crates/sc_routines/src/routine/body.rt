@@ -3,11 +3,10 @@
 ghost use Rattle.std.specs.Prelude.{◌≡◌, ◌+◌, ◌++◌, IfOk, OnOk, length, map, max};
 ghost use Rattle.sc_tree.specs.View.{declaration_of, instrs_of};
 ghost use Rattle.sc_typing.specs.Views.{entity_of};
-ghost use Rattle.sc_class.specs.SystemIn.{system_in};
-ghost use Rattle.sc_model.specs.Environments.{locals_bound, scope_of};
+ghost use Rattle.sc_model.specs.Environments.{scope_of};
 ghost use Rattle.sc_code.specs.Emitted.{declare_code, instrs_code, instrs_depth, instrs_slots};
 ghost use Rattle.sc_code.specs.Room.{instrs_blocks};
-ghost use Rattle.sc_routines.specs.Settings.{setting_in};
+ghost use Rattle.sc_routines.specs.Settings.{bound_locals, locals_in, setting_in};
 
 use crate::code::Code;
 use crate::instructions::lower_instructions;
@@ -29,8 +28,8 @@ fn lower_locals<'s>(
     code: &mut Code<'s>,
     locals: &'s [Declaration],
 ) -> Result<(), AllocError>
-    ensures code { OnOk result (code.new ≡ code.old ++ declare_code (length (map entity_of names.old.items)) (locals_bound (system_in tables.now) (map declaration_of formals.now) (map declaration_of locals.now))) }
-    ensures names { OnOk result (map entity_of names.new.items ≡ map entity_of names.old.items ++ scope_of (locals_bound (system_in tables.now) (map declaration_of formals.now) (map declaration_of locals.now))) }
+    ensures code { OnOk result (code.new ≡ code.old ++ declare_code (length (map entity_of names.old.items)) (locals_in tables.now formals.now locals.now)) }
+    ensures names { OnOk result (map entity_of names.new.items ≡ map entity_of names.old.items ++ scope_of (locals_in tables.now formals.now locals.now)) }
 {
     for local in locals {
         if let Some(entity_type) = declared_type(tables, formals, &local.declared_type) {
@@ -61,12 +60,12 @@ pub fn lower_body<'s>(
     locals: &'s [Declaration],
     body: &'s [Instr],
 ) -> Result<Needs, AllocError>
-    ensures code { let h = setting_in setting.now in let n = map entity_of names.old.items in let ls = locals_bound h.system h.text.formals (map declaration_of locals.now) in
+    ensures code { let h = setting_in setting.now in let n = map entity_of names.old.items in let ls = bound_locals h (map declaration_of locals.now) in
         OnOk result (code.new ≡ code.old ++ (declare_code (length n) ls ++ instrs_code h (n ++ scope_of ls) (instrs_of body.now))) }
     ensures names { OnOk result (map entity_of names.new.items ≡ map entity_of names.old.items) }
-    ensures depth { let h = setting_in setting.now in let n = map entity_of names.old.items in let ls = locals_bound h.system h.text.formals (map declaration_of locals.now) in
+    ensures depth { let h = setting_in setting.now in let n = map entity_of names.old.items in let ls = bound_locals h (map declaration_of locals.now) in
         IfOk result (λ l. l.depth ≡ instrs_depth h (n ++ scope_of ls) (instrs_of body.now)) }
-    ensures slots { let h = setting_in setting.now in let n = map entity_of names.old.items in let ls = locals_bound h.system h.text.formals (map declaration_of locals.now) in
+    ensures slots { let h = setting_in setting.now in let n = map entity_of names.old.items in let ls = bound_locals h (map declaration_of locals.now) in
         IfOk result (λ l. l.slots ≡ max (length n + length ls) (instrs_slots h (n ++ scope_of ls) (instrs_of body.now))) }
     ensures blocks { IfOk result (λ l. l.blocks ≡ instrs_blocks (instrs_of body.now)) }
 {

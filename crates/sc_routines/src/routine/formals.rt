@@ -1,11 +1,11 @@
 //! The formals that a clause of a precondition names.
 
 ghost use Rattle.std.specs.Prelude.{◌≡◌, ◌++◌, [], ◌∷◌, IfOk, OnOk, map};
-ghost use Rattle.std.specs.List.{filter_map};
 ghost use Rattle.sc_tree.specs.View.{clause_of, expr_of, exprs_of};
 ghost use Rattle.sc_typing.specs.Views.{entity_of};
 ghost use Rattle.sc_model.specs.Preconditions.{names_in, names_in_each};
 ghost use Rattle.sc_code.specs.Emitted as emitted;
+ghost use Rattle.sc_routines.specs.Parts.{slots_of};
 
 use crate::known_names::is_formal;
 use sc_tree::{Call, Clause, Expr};
@@ -30,7 +30,7 @@ fn formal_slot(names: &[Entity], name: &str) -> Option<usize>
 
 /// Adds the slot of the first entity of the name, where that is a formal.
 fn add_formal(names: &[Entity], slots: &mut Vec<usize>, name: &str) -> Result<(), AllocError>
-    ensures { OnOk result (slots.new.items ≡ slots.old.items ++ filter_map (λ x. emitted.formal_slot x (map entity_of names.now)) (name.now ∷ [])) }
+    ensures { OnOk result (slots.new.items ≡ slots.old.items ++ slots_of (map entity_of names.now) (name.now ∷ [])) }
 {
     if let Some(slot) = formal_slot(names, name) {
         slots.push(slot)?;
@@ -42,7 +42,7 @@ fn add_formal(names: &[Entity], slots: &mut Vec<usize>, name: &str) -> Result<()
 #[cycle(names)]
 #[tactic(auto, using(crate::proofs::FormalNames::formals_joined), unfolding(sc_tree::specs::View::expr_of))]
 fn add_formals_in(names: &[Entity], slots: &mut Vec<usize>, e: &Expr) -> Result<(), AllocError>
-    ensures { OnOk result (slots.new.items ≡ slots.old.items ++ filter_map (λ x. emitted.formal_slot x (map entity_of names.now)) (names_in (expr_of e.now))) }
+    ensures { OnOk result (slots.new.items ≡ slots.old.items ++ slots_of (map entity_of names.now) (names_in (expr_of e.now))) }
 {
     match e {
         Expr::Integer(_, _) | Expr::Boolean(_, _) => Ok(()),
@@ -65,7 +65,7 @@ fn add_formals_in_call(
     slots: &mut Vec<usize>,
     call: &Call,
 ) -> Result<(), AllocError>
-    ensures { OnOk result (slots.new.items ≡ slots.old.items ++ filter_map (λ x. emitted.formal_slot x (map entity_of names.now)) (names_in (expr_of (Expr.Call call.now)))) }
+    ensures { OnOk result (slots.new.items ≡ slots.old.items ++ slots_of (map entity_of names.now) (names_in (expr_of (Expr.Call call.now)))) }
 {
     match &call.target {
         None => {
@@ -87,7 +87,7 @@ fn add_formals_in_each(
     slots: &mut Vec<usize>,
     actuals: &[Expr],
 ) -> Result<(), AllocError>
-    ensures { OnOk result (slots.new.items ≡ slots.old.items ++ filter_map (λ x. emitted.formal_slot x (map entity_of names.now)) (names_in_each (exprs_of actuals.now))) }
+    ensures { OnOk result (slots.new.items ≡ slots.old.items ++ slots_of (map entity_of names.now) (names_in_each (exprs_of actuals.now))) }
 {
     for actual in actuals {
         add_formals_in(names, slots, actual)?;

@@ -4,9 +4,8 @@ ghost use Rattle.std.specs.Prelude.{◌≡◌, ◌++◌, IfOk, OnOk, map};
 ghost use Rattle.sc_tree.specs.View.{clause_of};
 ghost use Rattle.sc_typing.specs.Views.{entity_of};
 ghost use Rattle.sc_model.specs.Olds as model;
-ghost use Rattle.sc_code.specs.Places.{old_types};
 ghost use Rattle.sc_code.specs.Emitted.{olds_code, olds_depth};
-ghost use Rattle.sc_routines.specs.Settings.{operands_of, setting_in};
+ghost use Rattle.sc_routines.specs.Settings.{operands_of, setting_in, with_olds};
 
 use crate::code::Code;
 use crate::leaves::push_type;
@@ -44,7 +43,7 @@ pub fn lower_olds<'s>(
 ) -> Result<usize, AllocError>
     ensures code { OnOk result (code.new ≡ code.old ++ olds_code (setting_in setting.old) (map entity_of names.old.items) (operands_of olds.now)) }
     ensures names { OnOk result (map entity_of names.new.items ≡ map entity_of names.old.items) }
-    ensures setting { let h = setting_in setting.old in OnOk result (setting_in setting.new ≡ record h { olds = h.olds ++ old_types h (map entity_of names.old.items) (operands_of olds.now) }) }
+    ensures setting { OnOk result (setting_in setting.new ≡ with_olds (setting_in setting.old) (map entity_of names.old.items) (operands_of olds.now)) }
     ensures depth { IfOk result (λ d. d ≡ olds_depth (setting_in setting.old) (map entity_of names.old.items) (operands_of olds.now)) }
 {
     let mut depth = 0;
