@@ -3,4 +3,6 @@ pub mod Pools
 pub mod Origins
 pub mod Lowerings
 pub mod AttributeBindings
+pub mod ClassCodes
 pub mod Fitting
+pub mod Formulas

@@ -1,7 +1,9 @@
 -- Tables that grow at their ends.
-use Rattle.std.specs.Prelude.{map, string_bytes}
+use Rattle.std.specs.Prelude.{◌≡◌, ℕ, Some, map, slice_get, string_bytes}
+use Rattle.std.specs.Option.{option_and_then}
 use Rattle.sc_lower.specs.declared.link_tables.Linker.{Linker}
-use Rattle.sc_code.specs.View.{Pool}
+use Rattle.sc_code.specs.Operations.{CallSite, CreationSite}
+use Rattle.sc_code.specs.View.{Pool, call_of, creation_of}
 use Rattle.sc_code.specs.Programs.{lists_of}
 use Rattle.sc_lower.specs.Growing.{Extends}
 
@@ -26,3 +28,11 @@ pub record Grows (p q : Pool) : Type 0 where
   pub tests : Extends p.tests q.tests
   pub demands : Extends p.demands q.demands
   pub blocks : Extends p.blocks q.blocks
+
+-- The call of this number in the tables is that of the site,
+abbrev pub IsCallAt : ℕ → Pool → CallSite → Type 0
+IsCallAt number p site = option_and_then (call_of p) (slice_get p.calls number) ≡ Some site
+
+-- or the creation.
+abbrev pub IsCreationAt : ℕ → Pool → CreationSite → Type 0
+IsCreationAt number p site = option_and_then (creation_of p) (slice_get p.creations number) ≡ Some site

@@ -1,10 +1,10 @@
 //! Links operations: what an operation names gets its number in the tables.
 
 ghost use Rattle.std.specs.Prelude.{◌≡◌, ◌<◌, true, Some, IfOk, OnOk, map, slice_get};
-ghost use Rattle.std.specs.Option.{option_map, option_and_then, option_copied};
+ghost use Rattle.std.specs.Option.{option_map, option_copied};
 ghost use Rattle.sc_lower.specs.Fitting.{AllFit, fits};
-ghost use Rattle.sc_lower.specs.Pools.{pool_in, Grows};
-ghost use Rattle.sc_code.specs.View.{named, call_of, creation_of, operation_of, test_of};
+ghost use Rattle.sc_lower.specs.Pools.{pool_in, Grows, IsCallAt, IsCreationAt};
+ghost use Rattle.sc_code.specs.View.{named, operation_of, test_of};
 ghost use Rattle.sc_code.specs.Operations as plain;
 ghost use Rattle.sc_code.specs.declared.site.Heads as heads;
 ghost use Rattle.sc_routines.specs.Unlinked.{operation_in, unlinked, unlinked_call, unlinked_creation};
@@ -38,7 +38,7 @@ fn text(linker: &mut Linker<'_>, text: &str) -> Result<usize, AllocError>
 #[tactic(auto, using(crate::proofs::Growth::growing))]
 fn call<'s>(linker: &mut Linker<'s>, call: &UnlinkedCall<'s>) -> Result<usize, AllocError>
     requires { call.now.count < 17 }
-    ensures found { IfOk result (λ number. option_and_then (call_of (pool_in linker.new)) (slice_get (pool_in linker.new).calls number) ≡ Some (unlinked_call call.now)) }
+    ensures found { IfOk result (λ number. IsCallAt number (pool_in linker.new) (unlinked_call call.now)) }
     ensures grows { OnOk result (Grows (pool_in linker.old) (pool_in linker.new)) }
 {
     let name = name(linker, call.name)?;
@@ -75,7 +75,7 @@ fn creation<'s>(
 ) -> Result<usize, AllocError>
     requires few_actuals { creation.now.count < 17 }
     requires small_class { creation.now.class < 256 }
-    ensures found { IfOk result (λ number. option_and_then (creation_of (pool_in linker.new)) (slice_get (pool_in linker.new).creations number) ≡ Some (unlinked_creation creation.now)) }
+    ensures found { IfOk result (λ number. IsCreationAt number (pool_in linker.new) (unlinked_creation creation.now)) }
     ensures grows { OnOk result (Grows (pool_in linker.old) (pool_in linker.new)) }
 {
     let procedure = procedure(linker, creation.procedure)?;

@@ -1,16 +1,13 @@
 //! The tables of classes.
 
 ghost use Rattle.std.specs.Prelude.{◌≡◌, ◌<◌, ◌≤◌, IfOk, length, map, string_bytes};
-ghost use Rattle.std.specs.List.{range_with_len};
 ghost use Rattle.sc_formula.specs.Plain.{plain_formula};
 ghost use Rattle.std.specs.Prelude.{None};
-ghost use Rattle.sc_tree.specs.View.{clause_of};
 ghost use Rattle.sc_class.specs.SystemIn.{system_in};
-ghost use Rattle.sc_class.specs.declared.identity.ClassId.TheVariants as class_id;
-ghost use Rattle.sc_class.specs.Tables.Conformance as conformance;
 ghost use Rattle.sc_model.specs.Environments.{Binding};
-ghost use Rattle.sc_model.specs.Invariants as m;
 ghost use Rattle.sc_lower.specs.AttributeBindings.{binding_of};
+ghost use Rattle.sc_lower.specs.ClassCodes.{class_codes_of, conforming};
+ghost use Rattle.sc_lower.specs.Formulas.{clauses_over};
 ghost use Rattle.sc_code.specs.Attributes.{known_formulas};
 ghost use Rattle.sc_code.specs.Programs.{attribute_in, class_in, class_code_of};
 
@@ -45,7 +42,7 @@ fn attribute_codes(
 #[tactic(auto, using(crate::proofs::Ranges::ranges))]
 fn conforms(alloc: Global, tables: &Tables, class: usize) -> Result<Vec<bool>, AllocError>
     ensures { IfOk result (λ conforms. conforms.items
-        ≡ map (λ j. conformance.class_conforms (system_in tables.now) (class_id.Declared class) (class_id.Declared j)) (range_with_len 0 (length (system_in tables.now).classes))) }
+        ≡ conforming (system_in tables.now) class) }
 {
     let mut conforms = Vec::new(alloc);
     for other in 0..tables.classes().len() {
@@ -61,7 +58,7 @@ fn formulas(
     clauses: &[&Clause],
 ) -> Result<Vec<Formula>, AllocError>
     requires { length attributes.now ≤ 256 }
-    ensures { IfOk result (λ formulas. map plain_formula formulas.items ≡ known_formulas (m.clauses_of (map binding_of attributes.now) (map (λ c. clause_of c.now) clauses.now))) }
+    ensures { IfOk result (λ formulas. map plain_formula formulas.items ≡ known_formulas (clauses_over attributes.now clauses.now)) }
 {
     match invariant::clauses(alloc, attributes, clauses)? {
         Some(formulas) => Ok(formulas),
@@ -109,7 +106,7 @@ pub fn class_codes(
     names: &[String],
 ) -> Result<Vec<ClassCode>, AllocError>
     ensures { IfOk result (λ codes. map class_in codes.items
-        ≡ map (class_code_of (system_in numbering.now.tables.now) (map string_bytes names.now)) (range_with_len 0 (length (system_in numbering.now.tables.now).classes))) }
+        ≡ class_codes_of (system_in numbering.now.tables.now) (map string_bytes names.now)) }
 {
     let mut codes = Vec::new(alloc);
     for class in 0..numbering.tables.classes().len() {

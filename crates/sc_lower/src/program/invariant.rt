@@ -3,12 +3,12 @@
 ghost use Rattle.std.specs.Prelude.{◌≡◌, ◌≤◌, ◌<◌, Some, length, map, IfOk, IfSome};
 ghost use Rattle.std.specs.Option.{option_map};
 ghost use Rattle.sc_formula.specs.Plain.{plain_term, plain_formula};
-ghost use Rattle.sc_tree.specs.Plain as plain;
-ghost use Rattle.sc_tree.specs.View.{name_of, expr_of, target_of, exprs_of, clause_of};
+ghost use Rattle.sc_tree.specs.View.{expr_of};
 ghost use Rattle.sc_model.specs.Invariants as m;
-ghost use Rattle.sc_model.specs.Operators.{comparison_of};
 ghost use Rattle.sc_model.specs.Values.{default_of};
+ghost use Rattle.sc_routines.specs.Parts.{call_in};
 ghost use Rattle.sc_lower.specs.AttributeBindings.{binding_of};
+ghost use Rattle.sc_lower.specs.Formulas as over;
 ghost use Rattle.sc_code.specs.Attributes.{known_formulas};
 
 use crate::program::attributes::{Attribute, find};
@@ -26,7 +26,7 @@ pub fn clauses(
     clauses: &[&Clause],
 ) -> Result<Option<Vec<Formula>>, AllocError>
     requires { length attributes.now ≤ 256 }
-    ensures { IfOk result (λ formulas. option_map (λ formulas. map plain_formula formulas.items) formulas ≡ m.clauses_of (map binding_of attributes.now) (map (λ c. clause_of c.now) clauses.now)) }
+    ensures { IfOk result (λ formulas. option_map (λ formulas. map plain_formula formulas.items) formulas ≡ over.clauses_over attributes.now clauses.now) }
 {
     let mut formulas = Vec::new(alloc);
     for clause in clauses {
@@ -87,7 +87,7 @@ fn comparison(
     right: &Expr,
 ) -> Result<Option<Formula>, AllocError>
     requires { length attributes.now ≤ 256 }
-    ensures { IfOk result (λ formula. option_map plain_formula formula ≡ m.comparison_formula (comparison_of operator) (m.term_of (map binding_of attributes.now) (expr_of left.now)) (m.term_of (map binding_of attributes.now) (expr_of right.now))) }
+    ensures { IfOk result (λ formula. option_map plain_formula formula ≡ over.comparison_over attributes.now operator left.now right.now) }
 {
     let Some(comparison) = operators::comparison(operator) else {
         return Ok(None);
@@ -101,7 +101,7 @@ fn comparison(
 #[tactic(auto, using(crate::proofs::Views::expr_views, crate::proofs::Formulas::calls, sc_formula::proofs::Plain::plain_trees))]
 fn call_formula(attributes: &[Attribute<'_>], call: &Call) -> Option<Formula>
     requires { length attributes.now ≤ 256 }
-    ensures { option_map plain_formula result ≡ m.formula_of (map binding_of attributes.now) (plain.Call call.now.span (target_of call.now.target) (name_of call.now.name) (exprs_of call.now.actuals.items)) }
+    ensures { option_map plain_formula result ≡ m.formula_of (map binding_of attributes.now) (call_in call.now) }
 {
     match &call.target {
         None => match call.actuals.as_slice() {
@@ -137,7 +137,7 @@ fn void_test(attributes: &[Attribute<'_>], expression: &Expr) -> Option<usize>
 /// The number of the attribute whose name the call is.
 #[tactic(auto, using(crate::proofs::Views::expr_views, crate::proofs::Formulas::calls))]
 fn call_void_test(attributes: &[Attribute<'_>], call: &Call) -> Option<usize>
-    ensures number { result ≡ m.void_test (map binding_of attributes.now) (plain.Call call.now.span (target_of call.now.target) (name_of call.now.name) (exprs_of call.now.actuals.items)) }
+    ensures number { result ≡ m.void_test (map binding_of attributes.now) (call_in call.now) }
     ensures within { IfSome result (λ number. number < length attributes.now) }
 {
     match &call.target {
@@ -203,7 +203,7 @@ fn term(
 #[tactic(auto, using(crate::proofs::Views::expr_views, crate::proofs::Formulas::calls, sc_formula::proofs::Plain::plain_trees))]
 fn call_term(attributes: &[Attribute<'_>], call: &Call) -> Option<Term>
     requires { length attributes.now ≤ 256 }
-    ensures { option_map plain_term result ≡ m.term_of (map binding_of attributes.now) (plain.Call call.now.span (target_of call.now.target) (name_of call.now.name) (exprs_of call.now.actuals.items)) }
+    ensures { option_map plain_term result ≡ m.term_of (map binding_of attributes.now) (call_in call.now) }
 {
     match &call.target {
         None => match call.actuals.as_slice() {
@@ -287,7 +287,7 @@ fn connected(
     connective: Connective,
     right: Option<Formula>,
 ) -> Result<Option<Formula>, AllocError>
-    ensures { IfOk result (λ formula. option_map plain_formula formula ≡ m.connective_formula (Some connective) (option_map plain_formula left) (option_map plain_formula right)) }
+    ensures { IfOk result (λ formula. option_map plain_formula formula ≡ over.connected connective left right) }
 {
     match (left, right) {
         (Some(left), Some(right)) => Ok(Some(Formula::connected(alloc, left, connective, right)?)),
