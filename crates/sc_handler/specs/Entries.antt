@@ -1,6 +1,7 @@
 -- What an entry of the log tells, with the actuals and the handlers of all entries beside it.
 use Rattle.std.specs.Prelude.{ℕ, ◌+◌, ◌≤◌, List, drop}
 use Rattle.sc_region.specs.declared.value.Value.{Value}
+use Rattle.sc_handler.specs.declared.agreement.Beside.{Beside}
 use Rattle.sc_handler.specs.declared.logged.LogEntry.{LogEntry}
 use Rattle.sc_handler.specs.declared.settlement.Settlement.{Settlement}
 use Rattle.sc_handler.specs.Packed.{actuals_in_job, actuals_in_want, handlers_in_job, handlers_in_want, unpacked_job, unpacked_want}
@@ -14,6 +15,9 @@ settlement_in vs ks e = record {
   want = unpacked_want e.want (drop (e.first_actual + actuals_in_job e.job) vs)
       (drop (e.first_handler + handlers_in_job e.job) ks);
 }
+
+abbrev pub settlement_beside : Beside → LogEntry → Settlement
+settlement_beside all e = settlement_in all.actuals.now all.handlers.now e
 
 -- What it tells of lies among so many actuals and handlers, and each list of it has at most 16.
 pub record IsWithin (values numbers : ℕ) (e : LogEntry) : Type 0 where

@@ -1,5 +1,5 @@
 -- How what the core keeps of a handler lies in memory.
-use Rattle.std.specs.Prelude.{ℕ, Bool, true, false, List, [], ◌∷◌, Option, Some, None, map}
+use Rattle.std.specs.Prelude.{◌≡◌, ℕ, Bool, true, false, List, [], ◌∷◌, Option, Some, None, map}
 use Rattle.std.specs.Option.{option_map}
 use Rattle.sc_lockpass.specs.Tables.{Listing, passed_of}
 use Rattle.sc_waitcond.specs.declared.mark.Marked.{Marked}
@@ -10,7 +10,8 @@ use Rattle.sc_handler.specs.declared.handler.HandlerStage as coded_stage
 use Rattle.sc_handler.specs.declared.handler.HandlerStage.TheVariants as stage
 use Rattle.sc_handler.specs.declared.handler.Posting.{Posting}
 use Rattle.sc_handler.specs.declared.handler.Handler as coded
-use Rattle.sc_handler.specs.Handlers.{Posted, posted, Answer, Replied, SupplierFailed, Refused, HandlerStage, Idle, Runs, HasMade, Reserves, Awaits, Service, service, Handler}
+use Rattle.sc_handler.specs.Handlers.{Posted, posted, Answer, Replied, SupplierFailed, Refused, HandlerStage, Idle, Runs, HasMade, Reserves, Awaits, Service, service, Handler, State, is_reserving}
+use Rattle.sc_handler.specs.Picking.{job_at}
 
 -- ---- stages and answers
 
@@ -45,6 +46,10 @@ sent r is_waited passed = record { request = record r { is_waited = is_waited };
 
 abbrev pub posting_of : Posting → Posted
 posting_of p = posted p.request (option_map passed_of p.passed)
+
+-- the request as it then stands at its target
+abbrev pub posted_as : Request → Bool → Option Listing → Posted
+posted_as r is_waited passed = posting_of (sent r is_waited passed)
 
 abbrev pub service_of : Posting → Service
 service_of p = service (posting_of p) (stage_of [] [] p.over)
@@ -115,3 +120,9 @@ fresh = record {
 -- one that is asked for this alone
 abbrev pub asked : Request → coded.Handler
 asked r = record fresh { queue = record { request = r; passed = None; over = stage.Idle } ∷ [] }
+
+-- The second is the first, out with what it has to do, but where that is a reserve step. That is so whatever number and
+-- count of sessions it has, and in each state.
+abbrev pub IsOutWithOwn : coded.Handler → coded.Handler → Type 0
+IsOutWithOwn x y = (n h : ℕ) (s : State) → is_reserving (handler_with n x).stage ≡ false →
+    y ≡ record x { out = job_at h (handler_with n x).stage (handler_with n x) s }

@@ -1,8 +1,14 @@
 -- The settlements that a log has, and the room in it.
 use Rattle.std.specs.Prelude.{ℕ, ◌+◌, ◌*◌, ◌≤◌, List, map, vec_len, vec_capacity}
+use Rattle.sc_region.specs.declared.job.Job.{Job}
+use Rattle.sc_region.specs.declared.job.Want.{Want}
 use Rattle.sc_handler.specs.declared.logged.Log as coded
 use Rattle.sc_handler.specs.declared.settlement.Settlement.{Settlement}
 use Rattle.sc_handler.specs.Entries.{settlement_in}
+
+-- what the log has of so many turns of a handler that was out with the job, the last of which asks this
+abbrev pub settlement : ℕ → Job → ℕ → Want → Settlement
+settlement h j turns w = record { handler = h; job = j; turns = turns; want = w }
 
 abbrev pub settlements_of : coded.Log → List Settlement
 settlements_of l = map (settlement_in l.actuals.items l.handlers.items) l.entries.items

@@ -7,6 +7,7 @@ use Rattle.sc_region.specs.declared.job.Job.{Job}
 use Rattle.sc_region.specs.declared.job.Job.TheVariants as job
 use Rattle.sc_region.specs.declared.job.Want.{Want}
 use Rattle.sc_region.specs.declared.job.Want.TheVariants as want
+use Rattle.sc_handler.specs.declared.agreement.Beside.{Beside}
 use Rattle.sc_handler.specs.declared.packed.PackedRequest.{PackedRequest}
 use Rattle.sc_handler.specs.declared.packed.PackedJob.{PackedJob}
 use Rattle.sc_handler.specs.declared.packed.PackedJob.TheVariants as packed
@@ -163,3 +164,12 @@ unpacked_want (packed_as.Release n) vs ks = want.Release (first_of_all n ks)
 unpacked_want (packed_as.Wait n) vs ks = want.Wait (first_of_all n ks)
 unpacked_want (packed_as.Done v n refused) vs ks = want.Done v (first_of_all n ks) refused
 unpacked_want (packed_as.Fail why) vs ks = want.Fail why
+
+-- ---- beside the entries of a log
+
+-- the job or the want with the actuals and the handlers that lie there
+abbrev pub job_beside : Beside → PackedJob → Job
+job_beside rest p = unpacked_job p rest.actuals.now rest.handlers.now
+
+abbrev pub want_beside : Beside → PackedWant → Want
+want_beside rest p = unpacked_want p rest.actuals.now rest.handlers.now

@@ -1,6 +1,6 @@
 //! Whether what two logs have packed is the same.
 ghost use Rattle.std.specs.Prelude.{◌≡◌, ◌≤◌, ◌↔◌, IsTrue, length};
-ghost use Rattle.sc_handler.specs.Packed.{actuals_in_job, actuals_in_want, first_of_all, handlers_in_job, handlers_in_want, unpacked_job, unpacked_request, unpacked_want};
+ghost use Rattle.sc_handler.specs.Packed.{actuals_in_job, actuals_in_want, first_of_all, handlers_in_job, handlers_in_want, job_beside, unpacked_request, want_beside};
 
 use crate::packed::{PackedJob, PackedRequest, PackedWant};
 use sc_region::{Errand, Value};
@@ -18,7 +18,7 @@ pub(crate) fn same_job(a: &PackedJob, of: Beside<'_>, b: &PackedJob, its: Beside
     requires handlers { handlers_in_job a.now ≤ length of.handlers.now }
     requires its_actuals { actuals_in_job b.now ≤ length its.actuals.now }
     requires its_handlers { handlers_in_job b.now ≤ length its.handlers.now }
-    ensures { IsTrue result ↔ unpacked_job a.now of.entry.actuals.now of.entry.handlers.now ≡ unpacked_job b.now its.entry.actuals.now its.entry.handlers.now }
+    ensures { IsTrue result ↔ job_beside of.entry a.now ≡ job_beside its.entry b.now }
 {
     match (a, b) {
         (PackedJob::Take(x), PackedJob::Take(y)) => same_request(x, of.actuals, y, its.actuals),
@@ -81,7 +81,7 @@ pub(crate) fn same_want(a: &PackedWant, of: Beside<'_>, b: &PackedWant, its: Bes
     requires handlers { handlers_in_want a.now ≤ length of.handlers.now }
     requires its_actuals { actuals_in_want b.now ≤ length its.actuals.now }
     requires its_handlers { handlers_in_want b.now ≤ length its.handlers.now }
-    ensures { IsTrue result ↔ unpacked_want a.now of.entry.actuals.now of.entry.handlers.now ≡ unpacked_want b.now its.entry.actuals.now its.entry.handlers.now }
+    ensures { IsTrue result ↔ want_beside of.entry a.now ≡ want_beside its.entry b.now }
 {
     match (a, b) {
         (PackedWant::Continue, PackedWant::Continue) => true,

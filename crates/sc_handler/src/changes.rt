@@ -2,7 +2,7 @@
 ghost use Rattle.std.specs.Prelude.{◌≡◌, ◌≤◌, ◌<◌, ◌+◌, ◌^◌, ◌∷◌, ℕ, [], IfSome, false, length, map, slice_get, take};
 ghost use Rattle.sc_handler.specs.Handlers.{new_handler};
 ghost use Rattle.sc_handler.specs.Changes.{placed, answered, fallen, takes, takes_answer, without_first};
-ghost use Rattle.sc_handler.specs.InMemory.{answer_of, cleared, handler_with, posting_of, reserves_at, sent, served, service_of};
+ghost use Rattle.sc_handler.specs.InMemory.{answer_of, cleared, handler_with, posted_as, reserves_at, served, service_of};
 
 use crate::handler::{Answer, Handler, HandlerStage, Posting};
 use crate::postings::{append, stand_over, take_all, take_first, write_first};
@@ -94,7 +94,7 @@ impl Handler {
     )
         requires node { length node ≡ 1 }
         requires room { is_callback ≡ false → length self.old.queue + 1 < 2 ^ 63 }
-        ensures handler { (n : ℕ) → handler_with n self.new ≡ placed is_callback (posting_of (sent request.now is_waited passed.old)) (handler_with n self.old) }
+        ensures handler { (n : ℕ) → handler_with n self.new ≡ placed is_callback (posted_as request.now is_waited passed.old) (handler_with n self.old) }
         ensures out { self.new.out ≡ self.old.out }
     {
         write_first(&mut node, request, is_waited, passed);

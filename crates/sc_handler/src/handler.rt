@@ -1,9 +1,9 @@
 //! What the core keeps of a handler.
-ghost use Rattle.std.specs.Prelude.{◌≡◌, ◌&&◌, ◌||◌, ◌↔◌, ℕ, not, false, IfOk, IsTrue, Some, map, is_some};
+ghost use Rattle.std.specs.Prelude.{◌≡◌, ◌&&◌, ◌||◌, ◌↔◌, not, false, IfOk, IsTrue, Some, map, is_some};
 ghost use Rattle.sc_waitcond.specs.Reservations.{is_idle};
-ghost use Rattle.sc_handler.specs.Handlers.{State, has_requests, is_reserving, new_handler, standing_of};
-ghost use Rattle.sc_handler.specs.Picking.{job_answered, job_at, job_awaiting, job_idle};
-ghost use Rattle.sc_handler.specs.InMemory.{answer_of, fresh, asked, handler_of, handler_with, posting_of, first_posted, answers_of};
+ghost use Rattle.sc_handler.specs.Handlers.{has_requests, new_handler, standing_of};
+ghost use Rattle.sc_handler.specs.Picking.{job_answered, job_awaiting, job_idle};
+ghost use Rattle.sc_handler.specs.InMemory.{IsOutWithOwn, answer_of, fresh, asked, handler_of, posting_of, first_posted, answers_of};
 
 use crate::copy::copy_request;
 use crate::job_slot::JobSlot;
@@ -195,7 +195,7 @@ impl Handler {
 
     /// It is out with what it has to do, but where that is a reserve step.
     pub fn set_own(&mut self)
-        ensures { (n h : ℕ) (s : State) → is_reserving (handler_with n self.old).stage ≡ false → self.new ≡ record self.old { out = job_at h (handler_with n self.old).stage (handler_with n self.old) s } }
+        ensures { IsOutWithOwn self.old self.new }
     {
         match self.stage {
             HandlerStage::Idle => self.set_idle(),

@@ -1,7 +1,7 @@
 //! The log of settlements.
 ghost use Rattle.std.specs.Prelude.{◌≡◌, ◌≤◌, ◌+◌, ◌++◌, ◌==◌, ◌↔◌, IsTrue, drop, length, vec_capacity, vec_len};
 ghost use Rattle.std.specs.List.{All};
-ghost use Rattle.sc_handler.specs.Entries.{IsWithin, settlement_in};
+ghost use Rattle.sc_handler.specs.Entries.{IsWithin, settlement_beside, settlement_in};
 ghost use Rattle.sc_handler.specs.Packed.{actuals_in_job, handlers_in_job};
 
 use crate::agreement::{Beside, same_job, same_want};
@@ -40,7 +40,7 @@ pub struct Log {
 impl Log {
     ghost use Rattle.std.specs.Prelude.{◌∷◌, [], ℕ, OnErr, OnOk, slice_get};
     ghost use Rattle.std.specs.Option.{option_map};
-    ghost use Rattle.sc_handler.specs.Logged.{HasPlaces, settlements_of};
+    ghost use Rattle.sc_handler.specs.Logged.{HasPlaces, settlement, settlements_of};
 
     /// One with no settlement. What grows takes its memory from this allocator.
     pub fn new(alloc: Global) -> Log
@@ -150,7 +150,7 @@ impl Log {
     /// Adds the settlement of a handler, where there is room.
     pub fn push(&mut self, handler: u16, job: &Job, turns: u32, want: &Want)
         requires room { HasPlaces 1 self.old }
-        ensures settlements { settlements_of self.new ≡ settlements_of self.old ++ record { handler = handler; job = job.now; turns = turns; want = want.now } ∷ [] }
+        ensures settlements { settlements_of self.new ≡ settlements_of self.old ++ settlement handler job.now turns want.now ∷ [] }
         ensures len { vec_len self.new.entries ≡ vec_len self.old.entries + 1 }
         ensures kept { (n : ℕ) → HasPlaces (n + 1) self.old → HasPlaces n self.new }
     {
@@ -214,7 +214,7 @@ fn settlement_at(entry: LogEntry, actuals: &[Value], handlers: &[u16]) -> Settle
 fn same_settlement(a: &LogEntry, all: Beside<'_>, b: &LogEntry, its: Beside<'_>) -> bool
     requires within { IsWithin (length all.actuals.now) (length all.handlers.now) a.now }
     requires its_within { IsWithin (length its.actuals.now) (length its.handlers.now) b.now }
-    ensures { IsTrue result ↔ settlement_in all.entry.actuals.now all.entry.handlers.now a.now ≡ settlement_in its.entry.actuals.now its.entry.handlers.now b.now }
+    ensures { IsTrue result ↔ settlement_beside all.entry a.now ≡ settlement_beside its.entry b.now }
 {
     a.handler == b.handler
         && a.turns == b.turns
