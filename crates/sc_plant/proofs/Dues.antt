@@ -18,7 +18,7 @@ use Rattle.sc_request.specs.declared.center.Core as coded
 use Rattle.sc_request.specs.Candidates.{is_granting}
 use Rattle.sc_request.specs.Cores.{center_of, state_of, log_of}
 use Rattle.sc_request.specs.Logs.{Center, Plays, after, next, pick_for, picked, picked_if, picks, put_back, put_back_with, settles}
-use Rattle.sc_request.specs.Rooms.{settlement}
+use Rattle.sc_handler.specs.Logged.{settlement}
 use Rattle.sc_request.specs.Settling.{settled}
 use Rattle.sc_request.specs.Tables.{out_total}
 use Rattle.sc_world.specs.Worlds.{max_handlers, opened}

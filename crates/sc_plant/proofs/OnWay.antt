@@ -12,7 +12,7 @@ use Rattle.sc_handler.specs.declared.settlement.Settlement.{Settlement}
 use Rattle.sc_request.specs.declared.center.Core as coded
 use Rattle.sc_request.specs.Cores.{center_of, log_of}
 use Rattle.sc_request.specs.Logs.{Center, settles}
-use Rattle.sc_request.specs.Rooms.{settlement}
+use Rattle.sc_handler.specs.Logged.{settlement}
 use Rattle.sc_play.specs.Regions.{IsRefused, PlainRegion, Plays, new_region, outcome}
 use Rattle.sc_worklog.specs.Replaying.{AreMade, Replays, entry_of, played, refused}
 use Rattle.sc_worklog.proofs.ReplayedTurns.{turns_replay}

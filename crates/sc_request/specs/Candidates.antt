@@ -1,5 +1,5 @@
 -- Who may have something to do: sets that have at least those who do.
-use Rattle.std.specs.Prelude.{◌≡◌, ◌≤◌, ◌<◌, ◌==◌, ◌||◌, ℕ, Bool, true, false, List, [], ◌∷◌, Option, Some, None, is_some, map, nat_lt, not, ◌&&◌}
+use Rattle.std.specs.Prelude.{◌≡◌, ◌≤◌, ◌<◌, ◌==◌, ◌||◌, ℕ, Bool, true, false, List, [], ◌∷◌, Option, Some, None, is_some, map, nat_lt, not, ◌&&◌, if◌then◌else◌}
 use Rattle.std.specs.List.{list_all}
 use Rattle.sc_lockpass.specs.Rights.{is_among, is_handler}
 use Rattle.sc_lockpass.specs.Tables.{is_member}
@@ -27,6 +27,19 @@ pub record IsFirstIn (words : List ℕ) (from to k : ℕ) : Type 0 where
   pub below : k < to
   pub member : is_member words k ≡ true
   pub least : HasNoneIn words from k
+
+-- The last set has what the first one has, and what the other one has, where it is so.
+abbrev pub AddsIf : Bool → List ℕ → List ℕ → List ℕ → Type 0
+AddsIf is_so others before after =
+    (k : ℕ) → is_member after k ≡ (is_member before k || (is_so && is_member others k))
+
+-- It has what the first one has, and each that is one of these.
+abbrev pub Adds : (ℕ → Bool) → List ℕ → List ℕ → Type 0
+Adds is_one before after = (k : ℕ) → k < 512 → is_member after k ≡ (is_one k || is_member before k)
+
+-- It has this number or not, as is said, and of the others those that the first one has.
+abbrev pub Puts : ℕ → Bool → List ℕ → List ℕ → Type 0
+Puts n is_in before after = (k : ℕ) → is_member after k ≡ (if k == n then is_in else is_member before k)
 
 -- ---- what the core keeps
 
@@ -92,6 +105,17 @@ touches h (Ask r passing) s k = k == r.target.handler
 touches h (Create class procedure actuals passing) s k = k == s.count
 touches h (Done v ks refused) s k = may_hear_from (s.handlers h) k
 touches h w s k = false
+
+-- The handler itself and whom its turn touches are added to the set.
+abbrev pub AddsTouched : ℕ → Want → State → List ℕ → List ℕ → Type 0
+AddsTouched h w s before after =
+    (k : ℕ) → k < 512 → is_member after k ≡ (k == h || (touches h w s k || is_member before k))
+
+-- Where the handler has failed, all are added to the set; else those that wait to reserve, where something is freed.
+abbrev pub Wakes : Handler → Bool → List ℕ → List ℕ → List ℕ → Type 0
+Wakes x is_freeing reserving before after =
+    (k : ℕ) → k < 512 →
+    is_member after k ≡ (is_some x.failure || (is_member before k || (is_freeing && is_member reserving k)))
 
 -- Beside the handler that is out with the job no other one has anything to do, and the job frees nothing. So as long as
 -- its turns ask nothing, it is the next one again.

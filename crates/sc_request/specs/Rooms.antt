@@ -1,8 +1,5 @@
 -- Room for settlements: what one takes is kept for each handler that is out.
 use Rattle.std.specs.Prelude.{◌≡◌, ◌≤◌, ◌+◌, ◌*◌, ℕ, Bool, true, false, Result, Ok, Err, length, vec_len, vec_capacity}
-use Rattle.sc_region.specs.declared.job.Job.{Job}
-use Rattle.sc_region.specs.declared.job.Want.{Want}
-use Rattle.sc_handler.specs.declared.settlement.Settlement.{Settlement}
 use Rattle.sc_request.specs.declared.center.Core as coded
 use Rattle.sc_request.specs.declared.settlement.SettleFault.{SettleFault}
 use Rattle.sc_request.specs.declared.settlement.SettleFault.TheVariants.{NotOut, OutOfMemory}
@@ -32,7 +29,3 @@ abbrev pub is_short : Result Unit SettleFault → Bool
 is_short (Ok u) = false
 is_short (Err (NotOut h)) = false
 is_short (Err OutOfMemory) = true
-
--- what the log has of so many turns of a handler that was out with the job, the last of which asks this
-abbrev pub settlement : ℕ → Job → ℕ → Want → Settlement
-settlement h j turns w = record { handler = h; job = j; turns = turns; want = w }

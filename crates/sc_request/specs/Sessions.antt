@@ -1,5 +1,5 @@
 -- What a settlement does to other handlers: sessions end, answers come, requests are sent, and a failure is told.
-use Rattle.std.specs.Prelude.{ℕ, ◌+◌, Bool, true, false, ◌&&◌, List, Option, Some, None, ◌==◌, if◌then◌else◌}
+use Rattle.std.specs.Prelude.{◌≡◌, ◌<◌, ℕ, ◌+◌, Bool, true, false, ◌&&◌, List, Option, Some, None, ◌==◌, length, if◌then◌else◌}
 use Rattle.std.specs.List.{list_any}
 use Rattle.sc_lockpass.specs.Rights as rights
 use Rattle.sc_lockpass.specs.Rights.{Rights, is_among, is_handler, release_all}
@@ -8,6 +8,7 @@ use Rattle.sc_waitcond.specs.Reservations.{ends_session}
 use Rattle.sc_waitcond.specs.declared.session.Release.{Release}
 use Rattle.sc_waitcond.specs.declared.session.Release.TheVariants as release_at
 use Rattle.sc_model.specs.declared.cause.Cause.{Cause}
+use Rattle.sc_model.specs.Limits.{max_queue}
 use Rattle.sc_handler.specs.Handlers.{Posted, Answer, State, new_handler, put}
 use Rattle.sc_handler.specs.Changes.{session_ended, placed, answered, requests_at, is_waited_by, told, fallen}
 
@@ -40,6 +41,10 @@ send is_callback k p s = put k (placed is_callback p (s.handlers k)) s
 -- Where the handler may push on the target's waiting stack, its request is a callback.
 abbrev pub is_callback : ℕ → ℕ → State → Bool
 is_callback h k s = is_handler h (s.rights.top k)
+
+-- The target has room for a request of the handler: it is a callback, or the queue isn't full.
+abbrev pub HasRoomAt : ℕ → ℕ → State → Type 0
+HasRoomAt h k s = is_callback h k s ≡ false → length (s.handlers k).queue < max_queue
 
 abbrev pub given_to : ℕ → Option ℕ → (ℕ → Option ℕ) → ℕ → Option ℕ
 given_to k holder of j = if j == k then holder else of j

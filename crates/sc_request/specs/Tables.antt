@@ -1,5 +1,5 @@
 -- How the state of the core lies in memory.
-use Rattle.std.specs.Prelude.{ℕ, ◌+◌, List, [], ◌∷◌, Option, Some, None, is_some, slice_get, slice_index, if◌then◌else◌}
+use Rattle.std.specs.Prelude.{◌≡◌, ℕ, ◌+◌, Bool, List, [], ◌∷◌, Option, Some, None, is_some, slice_get, slice_index, if◌then◌else◌}
 use Rattle.std.specs.Option.{option_and_then}
 use Rattle.sc_lockpass.specs.Tables.{Table, rights_of}
 use Rattle.sc_region.specs.declared.job.Job.{Job}
@@ -19,6 +19,11 @@ handler_at xs sessions k = record (handler_in (slice_get xs k)) { sessions = sli
 abbrev pub state_of : ℕ → List coded.Handler → List ℕ → Table → State
 state_of count xs sessions rights =
     record { count = count; handlers = handler_at xs sessions; rights = rights_of rights }
+
+-- Each count of a handler that is one of these has grown by one, and each other one is as it was.
+abbrev pub CountsUp : (ℕ → Bool) → List ℕ → List ℕ → Type 0
+CountsUp is_one ns ms =
+    (k : ℕ) → slice_index ms k ≡ (if is_one k then slice_index ns k + 1 else slice_index ns k)
 
 -- the job that the handler of the number is out with
 abbrev pub out_at : List coded.Handler → ℕ → Option Job

@@ -5,6 +5,7 @@ ghost use Rattle.sc_lockpass.specs.Tables.{rights_of};
 ghost use Rattle.sc_handler.specs.InMemory.{answer_of, posting_of};
 ghost use Rattle.sc_request.specs.Places.{lets_go, outs_of, plain, tells};
 ghost use Rattle.sc_request.specs.Sessions.{answer_to, fail};
+ghost use Rattle.sc_request.specs.Tables.{CountsUp};
 ghost use Rattle.sc_request.specs.Sound.{ArePlaced, IsHeldBelow, IsSound, placed_poster};
 
 use crate::state::State;
@@ -79,7 +80,7 @@ fn count_held(counts: &mut Vec<u64>, rights: &Rights, handler: u16)
     requires places { vec_len counts.old ≡ 512 }
     requires room { (k : ℕ) → slice_index counts.old.items k + 1 < 2 ^ 64 }
     requires held { IsHeldBelow (rights_of rights.now) }
-    ensures counted { (k : ℕ) → slice_index counts.new.items k ≡ (if is_handler handler ((rights_of rights.now).queue k) then slice_index counts.old.items k + 1 else slice_index counts.old.items k) }
+    ensures counted { CountsUp (λ k. is_handler handler ((rights_of rights.now).queue k)) counts.old.items counts.new.items }
     ensures len { vec_len counts.new ≡ vec_len counts.old }
 {
     for k in 0..512_u16 {

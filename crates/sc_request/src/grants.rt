@@ -1,9 +1,9 @@
 //! What a reserve step is granted is reserved from its pick on.
-ghost use Rattle.std.specs.Prelude.{◌≡◌, ◌<◌, ◌&&◌, ◌||◌, ℕ};
+ghost use Rattle.std.specs.Prelude.{◌≡◌, ◌<◌, ◌&&◌, ◌||◌};
 ghost use Rattle.std.specs.List.{All};
 ghost use Rattle.sc_lockpass.specs.Versions.{most_handlers};
-ghost use Rattle.sc_lockpass.specs.Tables.{is_member, rights_of};
-ghost use Rattle.sc_request.specs.Candidates.{granted_items, is_granting};
+ghost use Rattle.sc_lockpass.specs.Tables.{rights_of};
+ghost use Rattle.sc_request.specs.Candidates.{AddsIf, granted_items, is_granting};
 ghost use Rattle.sc_request.specs.Logs.{granted, ungranted};
 
 use crate::handler_set::HandlerSet;
@@ -22,7 +22,7 @@ pub(crate) fn reserve_granted(
     requires { All (λ k. k < most_handlers rights.old.version) (granted_items job.now) }
     ensures rights { rights_of rights.new ≡ granted handler job.now (rights_of rights.old) }
     ensures version { rights.new.version ≡ rights.old.version }
-    ensures candidates { (k : ℕ) → is_member candidates.new.words k ≡ (is_member candidates.old.words k || (is_granting job.now && is_member reserving.now.words k)) }
+    ensures candidates { AddsIf (is_granting job.now) reserving.now.words candidates.old.words candidates.new.words }
 {
     if let Job::Granted(handlers) = job {
         reserve_each(rights, handler, handlers.as_slice());
@@ -39,7 +39,7 @@ pub(crate) fn release_granted(
 )
     ensures rights { rights_of rights.new ≡ ungranted job.now (rights_of rights.old) }
     ensures version { rights.new.version ≡ rights.old.version }
-    ensures candidates { (k : ℕ) → is_member candidates.new.words k ≡ (is_member candidates.old.words k || (is_granting job.now && is_member reserving.now.words k)) }
+    ensures candidates { AddsIf (is_granting job.now) reserving.now.words candidates.old.words candidates.new.words }
 {
     if let Job::Granted(handlers) = job {
         release_each(rights, handlers.as_slice());

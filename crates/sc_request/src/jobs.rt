@@ -1,13 +1,13 @@
 //! What handlers have to do.
-ghost use Rattle.std.specs.Prelude.{◌≡◌, ◌≤◌, ◌<◌, ◌-◌, Some, is_some, length, map, slice_get, slice_set, true};
+ghost use Rattle.std.specs.Prelude.{◌≡◌, ◌≤◌, ◌<◌, ◌-◌, Some, is_some, length, map, true};
 ghost use Rattle.std.specs.List.{list_all};
 ghost use Rattle.std.specs.Option.{option_map};
 ghost use Rattle.sc_lockpass.specs.Tables.{rights_of};
 ghost use Rattle.sc_waitcond.specs.Reservations.{is_lost, may_be_reserved, reserve_fails};
 ghost use Rattle.sc_handler.specs.Handlers.{is_reserving, standing_in};
-ghost use Rattle.sc_handler.specs.Picking.{job_at, job_for_entry, needs};
+ghost use Rattle.sc_handler.specs.Picking.{job_for_entry, needs};
 ghost use Rattle.sc_request.specs.Candidates.{AreCandidates};
-ghost use Rattle.sc_request.specs.Places.{center_at, plain};
+ghost use Rattle.sc_request.specs.Places.{IsSetOut, center_at, plain};
 ghost use Rattle.sc_request.specs.Logs.{first_with_job, next, numbers_from, pick_for};
 
 use crate::handler_set::HandlerSet;
@@ -76,7 +76,7 @@ impl State {
     /// A handler is out with what it has to do, as it stands.
     pub(crate) fn set_out(&mut self, handler: u16)
         requires there { handler < 512 }
-        ensures handlers { let y = (plain self.old).handlers handler in (x : Handler) → slice_get self.old.handlers.items handler ≡ Some x → self.new.handlers.items ≡ slice_set self.old.handlers.items handler (record x { out = job_at handler y.stage y (plain self.old) }) }
+        ensures handlers { IsSetOut handler self.old self.new }
         ensures count { self.new.count ≡ self.old.count }
         ensures rights { self.new.rights ≡ self.old.rights }
         ensures sessions { self.new.sessions ≡ self.old.sessions }
@@ -93,7 +93,7 @@ impl State {
     fn set_reserving(&mut self, handler: u16)
         requires there { handler < 512 }
         requires reserves { is_reserving ((plain self.old).handlers handler).stage ≡ true }
-        ensures handlers { let y = (plain self.old).handlers handler in (x : Handler) → slice_get self.old.handlers.items handler ≡ Some x → self.new.handlers.items ≡ slice_set self.old.handlers.items handler (record x { out = job_at handler y.stage y (plain self.old) }) }
+        ensures handlers { IsSetOut handler self.old self.new }
         ensures count { self.new.count ≡ self.old.count }
         ensures rights { self.new.rights ≡ self.old.rights }
         ensures sessions { self.new.sessions ≡ self.old.sessions }

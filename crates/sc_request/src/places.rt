@@ -1,9 +1,10 @@
 //! What settlements change of one handler, in its place.
 ghost use Rattle.std.specs.Prelude.{◌≡◌, ◌≤◌, ◌<◌, ◌+◌, ◌^◌, ◌∷◌, ℕ, [], length, map, false};
-ghost use Rattle.sc_handler.specs.InMemory.{reserves_at, answer_of, posting_of, sent, stage_of};
+ghost use Rattle.sc_handler.specs.InMemory.{reserves_at, answer_of, posted_as, posting_of, stage_of};
 ghost use Rattle.sc_handler.specs.Handlers.{Reserves, new_handler, put, with_stage};
-ghost use Rattle.sc_handler.specs.Changes.{answered, fallen, placed, to_list, takes, takes_answer};
+ghost use Rattle.sc_handler.specs.Changes.{answered, fallen, to_list, takes, takes_answer};
 ghost use Rattle.sc_request.specs.Places.{outs_of, plain};
+ghost use Rattle.sc_request.specs.Sessions.{send};
 ghost use Rattle.sc_request.specs.Settling.{reserves};
 
 use crate::state::State;
@@ -102,7 +103,7 @@ impl State {
         requires there { handler < 512 }
         requires node { length node ≡ 1 }
         requires room { is_callback ≡ false → length ((plain self.old).handlers handler).queue + 1 < 2 ^ 63 }
-        ensures plain { plain self.new ≡ put handler (placed is_callback (posting_of (sent request.now is_waited passed.old)) ((plain self.old).handlers handler)) (plain self.old) }
+        ensures plain { plain self.new ≡ send is_callback handler (posted_as request.now is_waited passed.old) (plain self.old) }
         ensures outs { outs_of self.new ≡ outs_of self.old }
         ensures rights { self.new.rights ≡ self.old.rights }
         ensures sessions { self.new.sessions ≡ self.old.sessions }

@@ -4,9 +4,9 @@ ghost use Rattle.std.specs.Option.{option_map};
 ghost use Rattle.sc_lockpass.specs.Tables.{passed_of};
 ghost use Rattle.sc_lockpass.specs.Versions.{most_handlers};
 ghost use Rattle.sc_model.specs.Limits.{max_queue};
-ghost use Rattle.sc_handler.specs.Handlers.{posted};
+ghost use Rattle.sc_handler.specs.InMemory.{posted_as};
 ghost use Rattle.sc_request.specs.Places.{outs_of, plain};
-ghost use Rattle.sc_request.specs.Sessions.{is_callback, passed_if, send};
+ghost use Rattle.sc_request.specs.Sessions.{HasRoomAt, is_callback, passed_if, send};
 ghost use Rattle.sc_request.specs.Settling.{asks, awaits_if, sends};
 ghost use Rattle.sc_request.specs.Sessions as sessions;
 ghost use Rattle.sc_request.specs.Sound.{IsSound};
@@ -66,7 +66,7 @@ impl State {
         requires there { handler < most_handlers self.old.rights.version }
         requires target { request.now.target.handler < 512 }
         requires spare { 1 ≤ length spare.old }
-        requires room { is_callback handler request.now.target.handler (plain self.old) ≡ false → length ((plain self.old).handlers request.now.target.handler).queue < max_queue }
+        requires room { HasRoomAt handler request.now.target.handler (plain self.old) }
         ensures plain { plain self.new ≡ sends handler request.now.target.handler request.now passes is_waited (plain self.old) }
         ensures places { length spare.old ≤ length spare.new + 1 }
         ensures outs { outs_of self.new ≡ outs_of self.old }
@@ -149,7 +149,7 @@ impl State {
         requires there { target < 512 }
         requires spare { 1 ≤ length spare.old }
         requires room { is_callback ≡ false → length ((plain self.old).handlers target).queue < max_queue }
-        ensures plain { plain self.new ≡ send is_callback target (posted (record request.now { is_waited = is_waited }) (option_map passed_of passed.old)) (plain self.old) }
+        ensures plain { plain self.new ≡ send is_callback target (posted_as request.now is_waited passed.old) (plain self.old) }
         ensures places { length spare.old ≤ length spare.new + 1 }
         ensures outs { outs_of self.new ≡ outs_of self.old }
         ensures rights { self.new.rights ≡ self.old.rights }

@@ -9,6 +9,7 @@ ghost use Rattle.sc_waitcond.specs.declared.session.Release.TheVariants as relea
 ghost use Rattle.sc_request.specs.Places.{outs_of, plain};
 ghost use Rattle.sc_request.specs.Sessions.{given_to, release};
 ghost use Rattle.sc_request.specs.Settling.{waits_again};
+ghost use Rattle.sc_request.specs.Tables.{CountsUp};
 
 use crate::state::State;
 use sc_lockpass::Rights;
@@ -94,7 +95,7 @@ impl State {
 fn count_each(counts: &mut Vec<u64>, handlers: &[u16])
     requires there { All (λ k. k < vec_len counts.old) handlers.now }
     requires room { (k : ℕ) → slice_index counts.old.items k + 1 < 2 ^ 64 }
-    ensures counted { (k : ℕ) → slice_index counts.new.items k ≡ (if is_among k handlers.now then slice_index counts.old.items k + 1 else slice_index counts.old.items k) }
+    ensures counted { CountsUp (λ k. is_among k handlers.now) counts.old.items counts.new.items }
     ensures len { vec_len counts.new ≡ vec_len counts.old }
 {
     for at in 0..handlers.len() {

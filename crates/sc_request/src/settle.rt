@@ -8,8 +8,7 @@ ghost use Rattle.sc_handler.specs.Kinds.{of_kind};
 ghost use Rattle.sc_request.specs.Candidates.{granted_items};
 ghost use Rattle.sc_request.specs.Places.{outs_of, plain};
 ghost use Rattle.sc_request.specs.Settling.{asked_in, settled};
-ghost use Rattle.sc_request.specs.Logs.{settles};
-ghost use Rattle.sc_request.specs.Rooms.{HasRoomFor, IsNamed, is_not_out, is_short, settlement};
+ghost use Rattle.sc_request.specs.Rooms.{HasRoomFor, IsNamed, is_not_out, is_short};
 ghost use Rattle.sc_request.specs.Sound.{IsSound};
 
 use crate::center::Core;
@@ -21,7 +20,7 @@ use sc_region::{Job, Want};
 use std::collections::LinkedList;
 
 impl Core {
-    ghost use Rattle.sc_request.specs.Cores.{center_of, log_of};
+    ghost use Rattle.sc_request.specs.Cores.{LogsSettlement, Settles, center_of, log_of};
 
     /// Settles so many turns of a handler that is out, the last of which asks this. It isn't out from then on. What fits
     /// no case for the job that was picked fails its handler: by F13 where it posts to a handler that isn't held, else by
@@ -30,8 +29,8 @@ impl Core {
     /// S1 with the handler's number where it isn't out, and S9 where there is no memory. Nothing has changed then. S9
     /// doesn't come where there is room for a settlement.
     pub fn settle(&mut self, handler: u16, turns: u32, want: &Want) -> Result<(), SettleFault>
-        ensures center { OnOk result ((job : Job) → (center_of self.old).out handler ≡ Some job → center_of self.new ≡ settles (most_handlers self.old.state.rights.version) handler job turns want.now (center_of self.old)) }
-        ensures log { OnOk result ((job : Job) → (center_of self.old).out handler ≡ Some job → log_of self.new ≡ log_of self.old ++ settlement handler job turns want.now ∷ []) }
+        ensures center { OnOk result (Settles handler turns want.now self.old self.new) }
+        ensures log { OnOk result (LogsSettlement handler turns want.now self.old self.new) }
         ensures not_out { is_not_out result ≡ not (is_some ((center_of self.old).out handler)) }
         ensures named { IfErr result (IsNamed handler) }
         ensures short { HasRoomFor 0 self.old → is_short result ≡ false }
@@ -62,8 +61,8 @@ impl Core {
         requires out { is_some ((center_of self.old).out handler) ≡ true }
         requires places { 1 ≤ length self.old.spare }
         requires entries { HasPlaces 1 self.old.log }
-        ensures center { (job : Job) → (center_of self.old).out handler ≡ Some job → center_of self.new ≡ settles (most_handlers self.old.state.rights.version) handler job turns want.now (center_of self.old) }
-        ensures log { (job : Job) → (center_of self.old).out handler ≡ Some job → log_of self.new ≡ log_of self.old ++ settlement handler job turns want.now ∷ [] }
+        ensures center { Settles handler turns want.now self.old self.new }
+        ensures log { LogsSettlement handler turns want.now self.old self.new }
         ensures outs { self.old.outs ≡ self.new.outs + 1 }
         ensures room { (n : ℕ) → HasRoomFor n self.old → HasRoomFor n self.new }
         ensures version { self.new.state.rights.version ≡ self.old.state.rights.version }

@@ -1,10 +1,9 @@
 //! Whom a settlement gives something to do.
-ghost use Rattle.std.specs.Prelude.{◌≡◌, ◌==◌, ◌<◌, ◌&&◌, ◌||◌, ℕ, if◌then◌else◌, is_some, map};
+ghost use Rattle.std.specs.Prelude.{◌≡◌, ◌==◌, ◌<◌, ◌&&◌, ◌||◌, if◌then◌else◌, map};
 ghost use Rattle.sc_lockpass.specs.Rights.{is_handler};
-ghost use Rattle.sc_lockpass.specs.Tables.{is_member};
 ghost use Rattle.sc_handler.specs.Handlers.{is_reserving};
 ghost use Rattle.sc_handler.specs.InMemory.{posting_of};
-ghost use Rattle.sc_request.specs.Candidates.{may_hear_from, posted_first, touches};
+ghost use Rattle.sc_request.specs.Candidates.{Adds, AddsTouched, Puts, Wakes, may_hear_from, posted_first};
 ghost use Rattle.sc_request.specs.Places.{plain};
 
 use crate::handler_set::HandlerSet;
@@ -18,7 +17,7 @@ impl State {
     /// fail.
     pub(crate) fn touch(&self, handler: u16, want: &Want, candidates: &mut HandlerSet)
         requires { handler < 512 }
-        ensures { (k : ℕ) → k < 512 → is_member candidates.new.words k ≡ (k == handler || (touches handler want.now (plain self.now) k || is_member candidates.old.words k)) }
+        ensures { AddsTouched handler want.now (plain self.now) candidates.old.words candidates.new.words }
     {
         match want {
             Want::Post(request) => candidates.admit(request.target.handler as usize),
@@ -45,7 +44,7 @@ impl State {
     /// Adds those that posted what a handler serves, or takes next.
     fn touch_posters(&self, handler: usize, candidates: &mut HandlerSet)
         requires { handler < 512 }
-        ensures { (k : ℕ) → k < 512 → is_member candidates.new.words k ≡ (may_hear_from ((plain self.now).handlers handler) k || is_member candidates.old.words k) }
+        ensures { Adds (may_hear_from ((plain self.now).handlers handler)) candidates.old.words candidates.new.words }
     {
         let place = &self.handlers[handler];
         touch_first(&place.callback, candidates);
@@ -63,8 +62,8 @@ impl State {
         candidates: &mut HandlerSet,
     )
         requires { handler < 512 }
-        ensures reserving { (k : ℕ) → is_member reserving.new.words k ≡ (if k == handler then is_reserving ((plain self.now).handlers handler).stage else is_member reserving.old.words k) }
-        ensures candidates { (k : ℕ) → k < 512 → is_member candidates.new.words k ≡ (is_some ((plain self.now).handlers handler).failure || (is_member candidates.old.words k || (is_freeing && is_member reserving.new.words k))) }
+        ensures reserving { Puts handler (is_reserving ((plain self.now).handlers handler).stage) reserving.old.words reserving.new.words }
+        ensures candidates { Wakes ((plain self.now).handlers handler) is_freeing reserving.new.words candidates.old.words candidates.new.words }
     {
         reserving.set(handler as usize, self.is_reserving(handler as usize));
         if self.has_failed(handler as usize) {
@@ -94,7 +93,7 @@ impl State {
 
 /// Adds the poster of the first of these, if there is one.
 fn touch_first(postings: &LinkedList<Posting>, candidates: &mut HandlerSet)
-    ensures { (k : ℕ) → k < 512 → is_member candidates.new.words k ≡ (posted_first k (map posting_of postings.now) || is_member candidates.old.words k) }
+    ensures { Adds (λ k. posted_first k (map posting_of postings.now)) candidates.old.words candidates.new.words }
 {
     let Some(first) = postings.front() else {
         return;

@@ -6,7 +6,7 @@ use Rattle.sc_lockpass.specs.declared.version.Version.{Version}
 use Rattle.sc_handler.specs.declared.settlement.Settlement.{Settlement}
 use Rattle.sc_request.specs.Cores.{center_of}
 use Rattle.sc_request.specs.Logs.{Center, settles}
-use Rattle.sc_request.specs.Rooms.{settlement}
+use Rattle.sc_handler.specs.Logged.{settlement}
 use Rattle.sc_request.proofs.Settles.{out_counted}
 use Rattle.sc_request.proofs.JobKinds.{some_of}
 use Rattle.sc_request.proofs.center.Core.settle.Goals as goal

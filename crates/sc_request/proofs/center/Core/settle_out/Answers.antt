@@ -13,7 +13,7 @@ use Rattle.sc_request.specs.Candidates.{AreCandidates, AreReserving, HasGrantsBe
 use Rattle.std.specs.List.{All}
 use Rattle.sc_region.specs.declared.job.Job.{Job}
 use Rattle.sc_request.specs.Logs.{settles}
-use Rattle.sc_request.specs.Rooms.{settlement}
+use Rattle.sc_handler.specs.Logged.{settlement}
 use Rattle.sc_request.proofs.JobKinds.{granted_kind, job_is, one_job, settled_kind}
 use Rattle.sc_request.specs.Cores.{center_of, log_of}
 use Rattle.sc_request.specs.Sound.{IsSound}
