@@ -4,9 +4,7 @@ ghost use Rattle.std.specs.Option.{option_and_then};
 ghost use Rattle.sc_code.specs.declared.operation.Operation.TheVariants as coded;
 ghost use Rattle.sc_code.specs.Programs.{pool_of};
 ghost use Rattle.sc_region.specs.Frames.{PlainActivation, top_activation};
-ghost use Rattle.sc_region.specs.Objects.{PlainObject, object_numbered};
-ghost use Rattle.sc_interp.specs.Playing.{IsAttribute, IsLast, Plays, Remains, written_if};
-ghost use Rattle.sc_interp.specs.Serving.{attribute_in};
+ghost use Rattle.sc_interp.specs.Playing.{IsAttribute, IsLast, Plays, Remains, named_attribute, written_if};
 ghost use Rattle.sc_acts.specs.Tables.{version_in, listed};
 ghost use Rattle.sc_interp.specs.Standing.{stepped};
 
@@ -20,7 +18,7 @@ use sc_region::{Reference, Store, Value};
 
 /// The number of the attribute of this name of the object.
 fn attribute_number(store: &Store<'_>, object: u32, name: usize) -> Option<usize>
-    ensures { result ≡ option_and_then (λ (o : PlainObject). attribute_in (version_in store.now.program o.class name)) (object_numbered object store.now.objects) }
+    ensures { result ≡ named_attribute store.now object name }
 {
     let class = store.class_of(object)?;
     match version_in(store.program(), class, name)? {

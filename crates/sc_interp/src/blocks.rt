@@ -1,12 +1,11 @@
 //! Separate blocks: the slots of their heads.
 ghost use Rattle.std.specs.Prelude.{◌≡◌, ℕ, slice_get};
-ghost use Rattle.sc_region.specs.declared.value.Reference as code;
 ghost use Rattle.sc_region.specs.Frames.{activation_of};
 ghost use Rattle.sc_code.specs.declared.operation.Operation.TheVariants as coded;
 ghost use Rattle.sc_code.specs.declared.program.Image.{Image};
 ghost use Rattle.sc_code.specs.Operations as plain;
 ghost use Rattle.sc_code.specs.Programs.{pool_of};
-ghost use Rattle.sc_interp.specs.Standing.{Follows, Hops};
+ghost use Rattle.sc_interp.specs.Standing.{FollowsAnywhere, Hops};
 ghost use Rattle.sc_interp.specs.Told.{HasBlock, Tells};
 
 use crate::hops::Hop;
@@ -43,7 +42,7 @@ fn open_block(activation: &Activation, block: Heads) -> Hop
 
 /// A separate block begins, by its number.
 pub fn open(program: &Program, activation: &Activation, number: usize) -> Hop
-    ensures follows { (me : code.Reference) (count : ℕ) → Follows program.now.image me count (coded.Open number) result (activation_of activation.now) (activation_of activation.now) }
+    ensures follows { FollowsAnywhere program.now.image (coded.Open number) result (activation_of activation.now) }
     ensures told { Tells program.now.image result (activation_of activation.now) }
 {
     match block_at(program, number) {

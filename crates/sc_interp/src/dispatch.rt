@@ -1,8 +1,7 @@
 //! One operation that asks nothing of the attributes of objects.
 ghost use Rattle.std.specs.Prelude.{◌≡◌, IfNone, IfOk, IfSome, OnErr, false, is_some, true};
-ghost use Rattle.sc_code.specs.declared.program.Image.{Image};
 ghost use Rattle.sc_region.specs.Frames.{activation_of};
-ghost use Rattle.sc_interp.specs.Standing.{Follows, Stays, is_simple, is_step, stepped};
+ghost use Rattle.sc_interp.specs.Standing.{Follows, FollowsInEach, Stays, is_simple, is_step, stepped};
 ghost use Rattle.sc_interp.specs.Told.{OnComes, Tells};
 
 use crate::blocks::open;
@@ -30,7 +29,7 @@ pub fn step_on(
     count: usize,
     operation: Operation,
 ) -> Option<Result<(), Cause>>
-    ensures follows { IfSome result (λ step. (p : Image) → Follows p me count operation (stepped step) (activation_of activation.old) (activation_of activation.new)) }
+    ensures follows { IfSome result (λ step. FollowsInEach me count operation (stepped step) (activation_of activation.old) (activation_of activation.new)) }
     ensures stays { Stays (activation_of activation.old) (activation_of activation.new) }
     ensures none { IfNone result (activation_of activation.new ≡ activation_of activation.old) }
     ensures taken { is_some result ≡ is_step operation }

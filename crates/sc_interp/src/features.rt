@@ -1,17 +1,14 @@
 //! Calls with a target.
-ghost use Rattle.std.specs.Prelude.{◌≡◌, ℕ, ◌<◌, ◌+◌, ◌||◌, IfSome, Some, drop, is_some, length, nat_lt, not, slice_get};
-ghost use Rattle.std.specs.Option.{option_map, option_and_then};
-ghost use Rattle.sc_model.specs.Steps as steps;
-ghost use Rattle.sc_code.specs.Machine as flat;
+ghost use Rattle.std.specs.Prelude.{◌≡◌, ◌<◌, ◌+◌, ◌||◌, IfSome, Some, drop, length, nat_lt, not, slice_get};
+ghost use Rattle.std.specs.Option.{option_and_then};
 ghost use Rattle.sc_code.specs.declared.operation.Operation.TheVariants as coded;
 ghost use Rattle.sc_code.specs.declared.program.Image.{Image};
 ghost use Rattle.sc_code.specs.Programs.{pool_of};
 ghost use Rattle.sc_region.specs.Frames.{PlainActivation, activation_of, top_activation};
-ghost use Rattle.sc_interp.specs.Features.{Calls, IsFeature, IsFeatureAt, IsSite, IsUnder, calls_found, calls_seen, reads};
+ghost use Rattle.sc_interp.specs.Features.{CallsFound, CallsSeen, EntersRoutine, IsFeature, IsFeatureAt, IsSite, IsUnder, ReadsAttribute, ReadsInPlace, RequestsFeature};
 ghost use Rattle.sc_interp.specs.Playing.{Plays, Remains};
 ghost use Rattle.sc_interp.specs.Standing.{Stays};
 ghost use Rattle.sc_acts.specs.Tables.{listed};
-ghost use Rattle.sc_interp.specs.Values.{reference_of, value_of};
 ghost use Rattle.sc_interp.specs.Told.{IsCallIn, IsDone, IsTold, OnComes, Tells};
 
 use crate::attributes::{attribute_value, value_under};
@@ -93,7 +90,7 @@ fn read_in_place(
     value: Option<Value>,
 ) -> Hop
     requires { site.count < length (activation_of activation.old).operands.values }
-    ensures calls { Calls count site (λ c k us f. flat.replaces c (flat.read is_attached (option_map value_of value)) f) result (activation_of activation.old) (activation_of activation.new) }
+    ensures calls { ReadsInPlace count site is_attached value result (activation_of activation.old) (activation_of activation.new) }
     ensures stays { Stays (activation_of activation.old) (activation_of activation.new) }
     ensures done { IsDone result }
 {
@@ -107,7 +104,7 @@ fn read_in_place(
 /// An attribute of the target is read.
 fn read_on(activation: &mut Activation, count: usize, site: CallSite, value: Option<Value>) -> Hop
     requires { site.count < length (activation_of activation.old).operands.values }
-    ensures calls { Calls count site (λ c k us f. reads c k.gives (option_map value_of value) f) result (activation_of activation.old) (activation_of activation.new) }
+    ensures calls { ReadsAttribute count site value result (activation_of activation.old) (activation_of activation.new) }
     ensures stays { Stays (activation_of activation.old) (activation_of activation.new) }
     ensures done { IsDone result }
 {
@@ -120,8 +117,7 @@ fn read_on(activation: &mut Activation, count: usize, site: CallSite, value: Opt
 /// A routine of the target is entered.
 fn enter_on(activation: &mut Activation, object: Reference, site: CallSite) -> Hop
     requires { site.count < length (activation_of activation.old).operands.values }
-    ensures calls { (count : ℕ) → Calls count site (λ c k us f. flat.awaits c (is_some k.gives) (flat.Enters steps.Qualified (reference_of object) k.name us (is_some k.gives)) f)
-        result (activation_of activation.old) (activation_of activation.new) }
+    ensures calls { EntersRoutine object site result (activation_of activation.old) (activation_of activation.new) }
     ensures stays { Stays (activation_of activation.old) (activation_of activation.new) }
     ensures told { (p : Image) → IsCallIn p site → Tells p result (activation_of activation.new) }
     ensures kept { OnComes result (activation_of activation.new ≡ activation_of activation.old) }
@@ -142,7 +138,7 @@ fn enter_on(activation: &mut Activation, object: Reference, site: CallSite) -> H
 /// A feature of an object of another handler is asked for.
 fn request_on(activation: &mut Activation, object: Reference, site: CallSite) -> Hop
     requires { site.count < length (activation_of activation.old).operands.values }
-    ensures calls { (count : ℕ) → Calls count site (λ c k us f. flat.requests c (reference_of object) k us f) result (activation_of activation.old) (activation_of activation.new) }
+    ensures calls { RequestsFeature object site result (activation_of activation.old) (activation_of activation.new) }
     ensures stays { Stays (activation_of activation.old) (activation_of activation.new) }
     ensures told { (p : Image) → IsCallIn p site → Tells p result (activation_of activation.new) }
     ensures kept { OnComes result (activation_of activation.new ≡ activation_of activation.old) }
@@ -172,7 +168,7 @@ fn call_found(
     found: Option<FoundFeature>,
 ) -> Hop
     requires { site.count < length (activation_of activation.old).operands.values }
-    ensures calls { Calls count site (λ c k us f. calls_found c (reference_of object) k us found f) result (activation_of activation.old) (activation_of activation.new) }
+    ensures calls { CallsFound count object site found result (activation_of activation.old) (activation_of activation.new) }
     ensures stays { Stays (activation_of activation.old) (activation_of activation.new) }
     ensures told { (p : Image) → IsCallIn p site → Tells p result (activation_of activation.new) }
     ensures kept { OnComes result (activation_of activation.new ≡ activation_of activation.old) }
@@ -194,7 +190,7 @@ fn call_on(
     found: Option<FoundFeature>,
 ) -> Hop
     requires { site.count < length (activation_of activation.old).operands.values }
-    ensures calls { Calls count site (λ c k us f. calls_seen c (reference_of me) k (value_of target) us found f) result (activation_of activation.old) (activation_of activation.new) }
+    ensures calls { CallsSeen count me target site found result (activation_of activation.old) (activation_of activation.new) }
     ensures stays { Stays (activation_of activation.old) (activation_of activation.new) }
     ensures told { (p : Image) → IsCallIn p site → Tells p result (activation_of activation.new) }
     ensures kept { OnComes result (activation_of activation.new ≡ activation_of activation.old) }

@@ -1,9 +1,9 @@
 //! Operations that pass on in the code: in place, on the activation.
-ghost use Rattle.std.specs.Prelude.{◌<◌, ◌+◌, ◌∷◌, ◌↔◌, IsTrue, drop, length};
+ghost use Rattle.std.specs.Prelude.{◌<◌, ◌+◌, ◌∷◌, ◌↔◌, IsTrue, length};
 ghost use Rattle.sc_code.specs.Machine as flat;
 ghost use Rattle.sc_region.specs.Frames.{activation_of};
 ghost use Rattle.sc_interp.specs.Values.{value_of, evaluated};
-ghost use Rattle.sc_interp.specs.Standing.{Passes, Stays, stepped};
+ghost use Rattle.sc_interp.specs.Standing.{Drops, Passes, Stays, stepped};
 
 use sc_model::Cause;
 use sc_region::{Activation, Value};
@@ -96,7 +96,7 @@ pub fn replace(
 
 /// The last operand goes, and on.
 pub fn pass_last(activation: &mut Activation, count: usize) -> Result<(), Cause>
-    ensures passes { Passes count (λ c f. flat.goes_on c (record f { values = drop 1 f.values })) (stepped result) (activation_of activation.old) (activation_of activation.new) }
+    ensures passes { Drops count (stepped result) (activation_of activation.old) (activation_of activation.new) }
     ensures stays { Stays (activation_of activation.old) (activation_of activation.new) }
 {
     activation.operands.drop_last(1);

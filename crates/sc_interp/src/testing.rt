@@ -1,6 +1,6 @@
 //! Object tests: what they ask of a value, and the slot that they fill.
 ghost use Rattle.std.specs.Prelude.{◌≡◌, ◌<◌, true, length, slice_get};
-ghost use Rattle.std.specs.Option.{option_map, option_and_then};
+ghost use Rattle.std.specs.Option.{option_and_then};
 ghost use Rattle.sc_class.specs.declared.identity.ClassId.TheVariants as class_id;
 ghost use Rattle.sc_class.specs.Tables.Conformance.{class_conforms};
 ghost use Rattle.sc_tree.specs.Plain.{System};
@@ -12,7 +12,7 @@ ghost use Rattle.sc_code.specs.Programs.{pool_of};
 ghost use Rattle.sc_code.specs.View.{residence_of, tested_of};
 ghost use Rattle.sc_region.specs.Frames.{activation_of};
 ghost use Rattle.sc_interp.specs.Serving.{TellsConformance, conforms_in};
-ghost use Rattle.sc_interp.specs.Standing.{Follows, Passes, Stays, Tested};
+ghost use Rattle.sc_interp.specs.Standing.{BindsIf, Follows, IsTestOf, Stays, Tested};
 ghost use Rattle.sc_interp.specs.Values.{value_of, values_of};
 ghost use Rattle.sc_interp.specs.Told.{IsDone};
 
@@ -96,7 +96,7 @@ fn is_tested(
     value: Value,
     tested: Option<TestedType>,
 ) -> bool
-    ensures { (s : System) → TellsConformance s program.now.image → result ≡ flat.is_tested s me (values_of slots.now) (value_of value) (option_map tested_of tested) }
+    ensures { IsTestOf program.now.image me slots.now value tested result }
 {
     match tested {
         None => !matches!(value, Value::Void),
@@ -107,7 +107,7 @@ fn is_tested(
 /// The object test is true, and the slot gets the value.
 fn bind(activation: &mut Activation, count: usize, slot: usize, value: Value) -> Hop
     requires { length (activation_of activation.old).operands.values < (activation_of activation.old).operands.depth }
-    ensures passes { Passes count (λ c f. flat.binds_if true c slot (value_of value) f) result (activation_of activation.old) (activation_of activation.new) }
+    ensures passes { BindsIf count true slot value result (activation_of activation.old) (activation_of activation.new) }
     ensures stays { Stays (activation_of activation.old) (activation_of activation.new) }
     ensures done { IsDone result }
 {
@@ -124,7 +124,7 @@ fn bind_if(
     value: Value,
 ) -> Hop
     requires { length (activation_of activation.old).operands.values < (activation_of activation.old).operands.depth }
-    ensures passes { Passes count (λ c f. flat.binds_if is_tested c slot (value_of value) f) result (activation_of activation.old) (activation_of activation.new) }
+    ensures passes { BindsIf count is_tested slot value result (activation_of activation.old) (activation_of activation.new) }
     ensures stays { Stays (activation_of activation.old) (activation_of activation.new) }
     ensures done { IsDone result }
 {

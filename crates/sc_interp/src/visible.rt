@@ -7,7 +7,7 @@ ghost use Rattle.sc_code.specs.declared.program.Image.{Image};
 ghost use Rattle.sc_region.specs.declared.value.Reference as code;
 ghost use Rattle.sc_region.specs.Frames.{PlainActivation, activation_of};
 ghost use Rattle.sc_code.specs.Operations as flat;
-ghost use Rattle.sc_interp.specs.Standing.{Demands, Follows, Hops, Stays};
+ghost use Rattle.sc_interp.specs.Standing.{ComesToUntil, Demands, Follows, FollowsOnEach, Hops, Stays};
 ghost use Rattle.sc_interp.specs.Told.{HasDemand, OnComes, Tells};
 
 use crate::hops::{Hop, stepped};
@@ -84,7 +84,7 @@ fn demand_on(activation: &mut Activation, count: usize, number: usize) -> Hop
 
 /// The same, where the program has such a list.
 pub fn demand(program: &Program, activation: &mut Activation, count: usize, number: usize) -> Hop
-    ensures follows { (me : code.Reference) → Follows program.now.image me count (coded.Demand number) result (activation_of activation.old) (activation_of activation.new) }
+    ensures follows { FollowsOnEach program.now.image count (coded.Demand number) result (activation_of activation.old) (activation_of activation.new) }
     ensures stays { Stays (activation_of activation.old) (activation_of activation.new) }
     ensures told { Tells program.now.image result (activation_of activation.new) }
     ensures kept { OnComes result (activation_of activation.new ≡ activation_of activation.old) }
@@ -99,7 +99,7 @@ pub fn demand(program: &Program, activation: &mut Activation, count: usize, numb
 /// What the `until` comes to whose value is the last operand, where that is a truth value: the loop ends, or so many
 /// operations come again.
 pub fn until(activation: &Activation, back: usize) -> Option<Option<usize>>
-    ensures hops { IfSome result (λ next. (count : ℕ) → Hops count (flat.EndLoop back) (outcome.Comes (act.Until next)) (activation_of activation.now) (activation_of activation.now)) }
+    ensures hops { IfSome result (λ next. ComesToUntil back next (activation_of activation.now)) }
     ensures told { IfSome result (λ next. (p : Image) → Tells p (outcome.Comes (act.Until next)) (activation_of activation.now)) }
 {
     match activation.operands.last() {
