@@ -117,6 +117,10 @@ abbrev pub Begins : Bool → ℕ → (PlainStore → Want → Type 0) → PlainS
 Begins true h First x y w = First y w
 Begins false h First x y w = (y ≡ x) × (w ≡ want.Continue) × ((z : PlainStore) (v : Want) → TurnOf h x z v → First z v)
 
+-- The same of the first turn under the job, which begins in the first store.
+abbrev pub BeginsUnder : Bool → ℕ → Bool → Job → PlainStore → PlainStore → Want → Type 0
+BeginsUnder made h is_told j x y w = Begins made h (λ z v. FirstTurn h is_told j x z v) (begun is_told j x) y w
+
 -- ---- turns
 
 -- So many turns under the job lead from the first store to this one, and the last of them asks this. None before it

@@ -10,7 +10,7 @@ ghost use Rattle.sc_interp.specs.declared.hops.Hop.TheVariants as hop;
 ghost use Rattle.sc_interp.specs.Hopping.{LeadsTo};
 ghost use Rattle.sc_interp.specs.Playing.{Remains};
 ghost use Rattle.sc_region.specs.declared.job.Want.TheVariants as want;
-ghost use Rattle.sc_play.specs.Turns.{Becomes, Begins, FirstTurn, GoesOn, IsAhead, TurnMade, TurnOf, TurnUnder, asks_done, begun, done, is_going, rested};
+ghost use Rattle.sc_play.specs.Turns.{Becomes, Begins, BeginsUnder, GoesOn, IsAhead, TurnMade, TurnOf, TurnUnder, asks_done, begun, done, is_going, rested};
 
 use crate::jobs::{grant, reply, resume, take, tell, top_stage};
 use sc_acts::{act_on, unless_failed};
@@ -211,7 +211,7 @@ pub fn first_turn(
     asked: &mut Want,
 ) -> Result<bool, AllocError>
     requires { asked.old ≡ want.Continue }
-    ensures ok { IfOk result (λ made. Begins made handler (λ z v. FirstTurn handler is_told job.now store.old z v) (begun is_told job.now store.old) store.new asked.new) }
+    ensures ok { IfOk result (λ made. BeginsUnder made handler is_told job.now store.old store.new asked.new) }
     ensures going { IfOk result (λ made. made ≡ false → is_going job.now ≡ true) }
     ensures err { OnErr result (store.new ≡ begun is_told job.now store.old) }
     ensures other { OnErr result (is_going job.now ≡ false) }
