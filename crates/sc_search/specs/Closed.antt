@@ -7,6 +7,7 @@ use Rattle.sc_world.specs.Reports.{statuses}
 use Rattle.sc_world.specs.Turning.{IsTurn, Runs}
 use Rattle.sc_world.specs.Worlds.{PlainWorld, opened}
 use Rattle.sc_search.specs.declared.aims.Aim.{Aim}
+use Rattle.sc_search.specs.declared.replay.Subject.{Subject}
 use Rattle.sc_search.specs.Aims.{IsMet}
 
 -- Turns of some handlers lead to the world from the opening of the program, and what is kept of it is this state.
@@ -41,3 +42,7 @@ pub record IsClosed (p : Image) (v : Version) (a : Aim) (ks : List PlainKept) : 
   pub opens : IsAmong ks (kept (opened p v))
   pub unmet : (i : ℕ) (k : PlainKept) → slice_get ks i ≡ Some k → IsUnmet p v a k
   pub tried : (i : ℕ) (k : PlainKept) → slice_get ks i ≡ Some k → (h : ℕ) → IsTried p v ks k h
+
+-- These are the states of what is searched.
+abbrev pub IsClosedFor : Subject → List PlainKept → Type 0
+IsClosedFor s ks = IsClosed s.program.now.image s.version s.aim ks

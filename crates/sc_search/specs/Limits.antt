@@ -6,6 +6,7 @@ use Rattle.sc_world.specs.Kept.{PlainKept}
 use Rattle.sc_world.specs.Turning.{Runs}
 use Rattle.sc_world.specs.Worlds.{PlainWorld, opened}
 use Rattle.sc_search.specs.declared.aims.Aim.{Aim}
+use Rattle.sc_search.specs.declared.replay.Subject.{Subject}
 use Rattle.sc_search.specs.declared.verdict.Finding.{Finding}
 use Rattle.sc_search.specs.declared.verdict.Finding.TheVariants as finding
 use Rattle.sc_search.specs.Closed.{IsUnmet}
@@ -59,3 +60,6 @@ SaysWhy p v a limit is_whole finding.Nothing = NothingSays p v a limit is_whole
 SaysWhy p v a limit is_whole (finding.Stuck order) = Unit {0}
 SaysWhy p v a limit is_whole (finding.Fails order) = Unit {0}
 SaysWhy p v a limit is_whole finding.Undecided = GivesUp p v a limit
+-- the same of what is searched
+abbrev pub SaysWhyFor : Subject → ℕ → Bool → Finding → Type 0
+SaysWhyFor s limit is_whole found = SaysWhy s.program.now.image s.version s.aim limit is_whole found

@@ -13,10 +13,11 @@ use Rattle.sc_search.specs.declared.movers.Rest.TheVariants as rest
 use Rattle.sc_search.specs.declared.progress.Progress.{Progress}
 use Rattle.sc_search.specs.declared.progress.Stop.{Stop}
 use Rattle.sc_search.specs.declared.progress.Stop.TheVariants as stop
+use Rattle.sc_search.specs.declared.replay.Subject.{Subject}
 use Rattle.sc_search.specs.declared.verdict.Finding.{Finding}
 use Rattle.sc_search.specs.declared.verdict.Finding.TheVariants as finding
 use Rattle.sc_search.specs.Aims.{IsMet}
-use Rattle.sc_search.specs.Limits.{ArePlayed, GivesUp}
+use Rattle.sc_search.specs.Limits.{ArePlayed, GivesUp, SaysWhyFor}
 use Rattle.sc_search.specs.Views.{orders_of, states_of}
 
 -- The order of the number leads to a world in the state, whose handlers don't stand as is looked for.
@@ -69,6 +70,11 @@ ChoiceStopsFor p v a limit stop.Endless = Unit {0}
 abbrev pub HasStopped : Image → Version → Aim → ℕ → Option Stop → Type 0
 HasStopped p v a limit None = ⊥
 HasStopped p v a limit (Some s) = StopsFor p v a limit s
+
+-- Where it has stopped so at a limit, what is found and isn't whole says why.
+abbrev pub SaysWhyAt : Subject → Option Stop → Finding → Type 0
+SaysWhyAt s why found =
+    (limit : ℕ) → HasStopped s.program.now.image s.version s.aim limit why → SaysWhyFor s limit false found
 
 -- A search over all turns follows one over choices that has played all, or in which movers went on and on.
 abbrev pub goes_on : Option Stop → Bool

@@ -1,7 +1,7 @@
 //! The search over all turns.
 ghost use Rattle.std.specs.Prelude.{◌≡◌, ◌<◌, [], IfNone, IfOk, IfSome, length};
 ghost use Rattle.sc_world.specs.Views.{world_of};
-ghost use Rattle.sc_search.specs.Closed.{IsClosed};
+ghost use Rattle.sc_search.specs.Closed.{IsClosedFor};
 ghost use Rattle.sc_search.specs.Steps.{IsLedTo, Opens, Stands, Tries, TriesAll};
 ghost use Rattle.sc_search.specs.Stops.{HasReached, StopsFor};
 ghost use Rattle.sc_search.specs.Views.{states_of};
@@ -24,7 +24,7 @@ pub(crate) fn play_all<'p, W: Watch>(
 ) -> Result<Option<Stop>, AllocError>
     requires none { states_of progress.old ≡ [] }
     requires reached { HasReached subject.program.now.image subject.version subject.aim progress.old }
-    ensures closed { IfOk result (λ stop. IfNone stop (IsClosed subject.entry.program.now.image subject.entry.version subject.entry.aim (states_of progress.new))) }
+    ensures closed { IfOk result (λ stop. IfNone stop (IsClosedFor subject.entry (states_of progress.new))) }
     ensures stops { IfOk result (λ stop. IfSome stop (StopsFor subject.entry.program.now.image subject.entry.version subject.entry.aim limit)) }
 {
     if let Some(stop) = keep_opening(subject, progress, limit)? {

@@ -1,9 +1,9 @@
 //! The search.
-ghost use Rattle.std.specs.Prelude.{◌≡◌, ℕ, IfOk, IfSome, None, false, length, min, true};
+ghost use Rattle.std.specs.Prelude.{◌≡◌, IfOk, IfSome, None, false, length, min, true};
 ghost use Rattle.sc_search.specs.Ends.{AreEnds};
 ghost use Rattle.sc_search.specs.Found.{IsFirst, IsFound};
-ghost use Rattle.sc_search.specs.Limits.{SaysWhy};
-ghost use Rattle.sc_search.specs.Stops.{HasStopped, goes_on, is_undecided};
+ghost use Rattle.sc_search.specs.Limits.{SaysWhy, SaysWhyFor};
+ghost use Rattle.sc_search.specs.Stops.{SaysWhyAt, goes_on, is_undecided};
 ghost use Rattle.sc_search.specs.Verdicts.{IsShown};
 ghost use Rattle.sc_search.specs.Views.{states_of};
 
@@ -84,7 +84,7 @@ fn search_all<W: Watch>(
     ensures first { IfOk result (λ verdict. IsFirst subject.entry.program.now.image subject.entry.version subject.entry.aim verdict.finding) }
     ensures ends { IfOk result (λ verdict. AreEnds subject.entry.program.now.image subject.entry.version verdict.ends.items) }
     ensures whole { IfOk result (IsShown subject.entry.program.now.image subject.entry.version subject.entry.aim) }
-    ensures why { IfOk result (λ verdict. SaysWhy subject.entry.program.now.image subject.entry.version subject.entry.aim limit verdict.is_whole verdict.finding) }
+    ensures why { IfOk result (λ verdict. SaysWhyFor subject.entry limit verdict.is_whole verdict.finding) }
 {
     let mut progress = Progress::new(subject)?;
     let stop = play_all(subject, &mut progress, limit, watch)?;
@@ -104,7 +104,7 @@ fn verdict_of(
     ensures states { IfOk result (λ verdict. verdict.states ≡ min (length (states_of progress.entry)) 4294967295) }
     ensures whole { IfOk result (λ verdict. verdict.is_whole ≡ true → (is_all ≡ true) × (stop ≡ None) × (verdict.finding ≡ Finding.Nothing)) }
     ensures done { stop ≡ None → IfOk result (λ verdict. (verdict.finding ≡ Finding.Nothing) × (verdict.is_whole ≡ is_all)) }
-    ensures why { IfOk result (λ verdict. (limit : ℕ) → HasStopped subject.entry.program.now.image subject.entry.version subject.entry.aim limit stop → SaysWhy subject.entry.program.now.image subject.entry.version subject.entry.aim limit false verdict.finding) }
+    ensures why { IfOk result (λ verdict. SaysWhyAt subject.entry stop verdict.finding) }
 {
     let states = progress.states.len();
     let is_whole = is_all && stop.is_none();
@@ -131,7 +131,7 @@ fn finding_of(subject: Subject<'_>, stop: Option<Stop>) -> Result<Finding, Alloc
     ensures found { IfOk result (IsFound subject.entry.program.now.image subject.entry.version) }
     ensures first { IfOk result (IsFirst subject.entry.program.now.image subject.entry.version subject.entry.aim) }
     ensures none { stop ≡ None → IfOk result (λ finding. finding ≡ Finding.Nothing) }
-    ensures why { IfOk result (λ finding. (limit : ℕ) → HasStopped subject.entry.program.now.image subject.entry.version subject.entry.aim limit stop → SaysWhy subject.entry.program.now.image subject.entry.version subject.entry.aim limit false finding) }
+    ensures why { IfOk result (λ finding. SaysWhyAt subject.entry stop finding) }
 {
     match stop {
         None => Ok(Finding::Nothing),
