@@ -13,7 +13,8 @@ use Rattle.sc_tree.proofs.Looks.{expect_self, sees_self}
 use Rattle.sc_tree.proofs.Lists.{some_tokens, skip_none, skip_all}
 use Rattle.sc_tree.proofs.CompleteTypes.{NamesRead, names_read, names_are_read, complete_names, complete_type}
 use Rattle.sc_tree.proofs.CompleteAssertions.{ClausesEnd, complete_assertion}
-use Rattle.sc_tree.proofs.CompleteInstructions.{Ends, ends_by, end_ends, complete_body}
+use Rattle.sc_tree.proofs.SimpleInstructions.{Ends, ends_by, end_ends}
+use Rattle.sc_tree.proofs.CompleteInstructions.{complete_body}
 use Rattle.sc_tree.proofs.Order.{Behind, behind, later, named_unseen, routine_ends_clauses, routine_rank, unseen}
 use Rattle.sc_tree.proofs.CompleteDeclarations.{colon_no_comma, complete_formals, complete_locals, complete_result_type, names_named, no_formals_read, skip_optional}
 
