@@ -17,7 +17,7 @@ use Rattle.sc_class.specs.declared.faults.scopes.features.Part.TheVariants.{Inhe
 use Rattle.sc_class.specs.Internal.ScopeSearch.{names_of_part, names_clash}
 use Rattle.sc_class.proofs.SearchLemmas.{first_same, first_either}
 use Rattle.sc_class.proofs.Items.{some_is, item_in}
-use Rattle.sc_class.proofs.ScopesFound.{names_found}
+use Rattle.sc_class.proofs.NamesFound.{names_found}
 
 no_faults_before : (s : System) (P : ℕ → Class → Span → Type 0) (p : Span) → FaultBefore s P 0 p → ⊥
 no_faults_before s P p (k, c, l, e, y) = absurd (omega arith)

@@ -12,6 +12,7 @@ pub mod FeatureLemmas
 pub mod RedefinitionLemmas
 pub mod FaultLemmas
 pub mod ScopeSteps
+pub mod NamesFound
 pub mod ScopesFound
 pub mod FeaturePlaces
 pub mod LimitLemmas
