@@ -24,7 +24,8 @@ use Rattle.sc_rules.specs.Laws.{are_declared, is_result_declared, is_declared, A
 use Rattle.sc_rules.specs.SystemLaws.{IsText, body, precondition, postcondition, invariant, Stands, stands_in, EachIsTyped}
 use Rattle.sc_rules.specs.Judging.{Judged}
 use Rattle.sc_rules.proofs.Refusals.{Gave, gave, refuses}
-use Rattle.sc_rules.proofs.Sound.{up, told}
+use Rattle.sc_rules.proofs.ToldActuals.{up}
+use Rattle.sc_rules.proofs.Sound.{told}
 use Rattle.sc_rules.proofs.Typings.{all_append, some_map, every_typed, gives_typed}
 use Rattle.sc_rules.proofs.TypeLaws.{declared, names_typed}
 use Rattle.sc_rules.proofs.WellFormed.{none_fails, text_fails}

@@ -1,6 +1,8 @@
 pub mod Refusals
 pub mod Complete
+pub mod ToldActuals
 pub mod Sound
+pub mod RefusedParts
 pub mod Refused
 pub mod Typings
 pub mod TextComplete

@@ -19,7 +19,7 @@ use Rattle.sc_rules.specs.JudgingText.{judge_clause, judge_instrs}
 use Rattle.sc_rules.specs.JudgingSystem.{judge_clauses, judge_declarations, judge_result_type, judge_feature, is_late, is_same_span, judge_form, judge_invariant, judge_listed, judge_creator, judge_class, judge_classes, judge_system}
 use Rattle.sc_rules.proofs.Refusals.{Refused, stops, stops_behind, unmet, refused_each}
 use Rattle.sc_rules.proofs.TextComplete.{refused, clause_refused}
-use Rattle.sc_rules.proofs.Refused.{type_refused}
+use Rattle.sc_rules.proofs.RefusedParts.{type_refused}
 
 any_refused : {A : Type 0} {P : A → Type 0} (judge : A → Judged (Unit {0})) (xs : List A) →
     ((x : A) → P x → Refused (judge x)) → Any P xs →

@@ -19,7 +19,7 @@ use Rattle.sc_rules.specs.JudgingText.{judge_clause}
 use Rattle.sc_rules.specs.JudgingSystem.{judge_declarations, judge_result_type, judge_feature, is_late, is_same_span, judge_form, judge_invariant, judge_listed, judge_creator, judge_class, judge_classes, judge_system}
 use Rattle.sc_rules.proofs.Refusals.{Tells, passes, tells, tells_more, tells_then, tells_each, tells_gave}
 use Rattle.sc_rules.proofs.TextSound.{tells_required, tells_clause, tells_instrs}
-use Rattle.sc_rules.proofs.Sound.{told_type}
+use Rattle.sc_rules.proofs.ToldActuals.{told_type}
 
 -- ---- features
 

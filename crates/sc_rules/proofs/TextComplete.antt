@@ -23,7 +23,8 @@ use Rattle.sc_rules.specs.Judging.{Judged, ◌>>=◌, required, judged_types, fo
 use Rattle.sc_rules.specs.JudgingText.{conforms_if_any, is_boolean_if_any, judge_condition, judge_clause, judge_assignee, judge_variable, is_untagged, creation_meaning, judge_creation, judge_heads, judge_instr, judge_instrs, judge_branches}
 use Rattle.sc_rules.proofs.Refusals.{bind_ok, Refused, stops, stops_behind, stops_at, unmet, refused_each}
 use Rattle.sc_rules.proofs.Complete.{typed, given}
-use Rattle.sc_rules.proofs.Refused.{RefusedAt, receiver_refused, actual_refused, mismatch_refused, meant_refused_by_actuals, meant_refused_by_name, called_refused_inside, call_refused, expression_refused, expression_part_refused}
+use Rattle.sc_rules.proofs.RefusedParts.{actual_refused, mismatch_refused}
+use Rattle.sc_rules.proofs.Refused.{RefusedAt, receiver_refused, meant_refused_by_actuals, meant_refused_by_name, called_refused_inside, call_refused, expression_refused, expression_part_refused}
 
 -- what is refused is, whatever comes behind each way
 refused_further : {A B C : Type 0} (m : Judged A) (f : A → Judged B) (g : B → Judged C) → Refused (m >>= f) →

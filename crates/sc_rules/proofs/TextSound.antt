@@ -23,7 +23,8 @@ use Rattle.sc_rules.specs.Judging.{Judged, ◌>>=◌, required, judge_actuals_an
 use Rattle.sc_rules.specs.JudgingText.{conforms_if_any, is_boolean_if_any, judge_condition, judge_clause, judge_assignee, judge_variable, is_made_without_procedure_if_any, is_made_by_if_any, is_untagged, creation_meaning, judge_creation, judge_heads, judge_instr, judge_instrs, judge_branches}
 use Rattle.sc_rules.proofs.Refusals.{Tells, passes, tells, tells_more, tells_then, tells_each, Gave, gave, refuses, gave_then, gave_more, gave_map, gave_required, tells_gave, any_first, any_later}
 use Rattle.sc_rules.proofs.TextComplete.{head_required, also_known}
-use Rattle.sc_rules.proofs.Sound.{up, TargetFails, in_target, at_target, in_actual, mismatch, passed_reference, MeantFails, by_actuals, by_name, told_meant, meant_call, told, told_receiver, told_found, told_given}
+use Rattle.sc_rules.proofs.ToldActuals.{up, TargetFails, in_target, at_target, in_actual, mismatch, passed_reference}
+use Rattle.sc_rules.proofs.Sound.{MeantFails, by_actuals, by_name, told_meant, meant_call, told, told_receiver, told_found, told_given}
 
 pub tells_required : (P : Rule → Span → Type 0) (b : Bool) (r : Rule) (p : Span) → (b ≡ false → P r p) →
     Tells P (required b r p)

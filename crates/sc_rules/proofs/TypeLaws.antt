@@ -21,7 +21,8 @@ use Rattle.sc_rules.specs.Judging.{Judged, judge, judge_type}
 use Rattle.sc_rules.specs.Laws.{SomeFails, are_declared, is_result_declared, is_declared, AllDeclared, are_typed}
 use Rattle.sc_rules.proofs.Refusals.{Refused, Gave, gave, refuses, any_first, any_later}
 use Rattle.sc_rules.proofs.Complete.{typed}
-use Rattle.sc_rules.proofs.Sound.{Told, told, told_type}
+use Rattle.sc_rules.proofs.ToldActuals.{Told, told_type}
+use Rattle.sc_rules.proofs.Sound.{told}
 use Rattle.sc_rules.proofs.Refused.{same_ok}
 use Rattle.sc_rules.proofs.TextComplete.{refused}
 use Rattle.sc_rules.proofs.Typings.{all_append, some_map}
