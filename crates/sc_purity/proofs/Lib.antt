@@ -1,6 +1,7 @@
 pub mod CallerLemmas
 pub mod Called
 pub mod Marked
+pub mod ImpureEffects
 pub mod ImpureSearchSteps
 pub mod Runners
 pub mod EffectSteps

@@ -25,7 +25,8 @@ use Rattle.sc_purity.specs.Internal.ImpureSearch.{AreMarked, RunsNumber, IsNamed
 use Rattle.sc_typing.proofs.FeatureLemmas.{same_routine}
 use Rattle.sc_typing.proofs.FeatureNumbers.{Numbered, number_stands, is_declared, all_named, class_there}
 use Rattle.sc_purity.proofs.Marked.{marked_on, seen_now}
-use Rattle.sc_purity.proofs.ImpureSearchSteps.{grows_as, StandsAt}
+use Rattle.sc_purity.proofs.ImpureEffects.{grows_as}
+use Rattle.sc_purity.proofs.ImpureSearchSteps.{StandsAt}
 
 number_is : (k c : ℕ) → (k == c) ≡ true → k ≡ c
 number_is k c e = grind arith

@@ -5,7 +5,8 @@ use Rattle.sc_class.specs.SystemIn.{system_in}
 use Rattle.sc_purity.specs.Internal.Effects.{effect_of}
 use Rattle.sc_purity.specs.declared.effects.Effect as held
 use Rattle.sc_purity.specs.Internal.ImpureSearch.{IsRecorded}
-use Rattle.sc_purity.proofs.ImpureSearchSteps.{recorded_side_effect, recorded_nothing, recorded_call, number_within, entry_number}
+use Rattle.sc_purity.proofs.ImpureEffects.{recorded_side_effect, recorded_nothing, recorded_call}
+use Rattle.sc_purity.proofs.ImpureSearchSteps.{number_within, entry_number}
 use Rattle.sc_purity.proofs.impure_search.record_effect.Goals as goal
 
 -- `called` is what a call of the routine leads to: its number is that of the routine
