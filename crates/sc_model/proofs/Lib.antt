@@ -5,7 +5,9 @@ pub mod Joins
 pub mod Idle
 pub mod Defaults
 pub mod Fewer
+pub mod SmallerCalls
 pub mod Silent
 pub mod Follows
 pub mod Outputs
+pub mod ReadOperators
 pub mod InvariantFormulas
