@@ -16,7 +16,9 @@ pub mod Operators
 pub mod Rows
 pub mod Slots
 pub mod TypingEntries
+pub mod TypedOperands
 pub mod TypingExpressions
+pub mod LyingTypes
 pub mod TypingInstructions
 pub mod TypingOrigins
 pub mod TypingRoutines

@@ -1,21 +1,15 @@
 -- The instructions of a well-formed text have their types in flat code.
-use Rattle.std.proofs.Common.{◌≡◌, ◌<◌, ℕ, suc, ◌+◌, Bool, true, false, List, [], ◌∷◌, ◌++◌, length, Option, Some, None, refl, sym, ap, ◌∙◌, subst, arith}
+use Rattle.std.proofs.Common.{◌≡◌, ℕ, suc, ◌+◌, Bool, true, false, List, [], ◌∷◌, ◌++◌, length, Option, Some, None, refl, sym, ap, ◌∙◌, subst, arith}
 use Rattle.std.specs.Prelude.{Contains, ◌||◌, not, is_some, bytes_eq, if◌then◌else◌}
-use Rattle.std.specs.Option.{option_map}
-use Rattle.std.specs.List.{list_all}
 use Rattle.sc_text.specs.declared.token.Span.{Span}
 use Rattle.sc_tree.specs.Plain as tree
-use Rattle.sc_tree.specs.Plain.{System, DeclaredType, FeatureKind, Name, Variable, Named, ResultVariable, CreationCall, Creation, Expr, Exprs, no_exprs, expr_then, Target, Head, Clause, Conditional, Iteration, SeparateBlock, Instr, Instrs, no_instrs, instr_then, Branches, no_branches, branch_then}
-use Rattle.sc_class.specs.declared.identity.ClassId.{ClassId}
+use Rattle.sc_tree.specs.Plain.{FeatureKind, Name, Variable, Named, ResultVariable, CreationCall, Creation, Expr, Exprs, no_exprs, expr_then, Target, Head, Clause, Conditional, Iteration, SeparateBlock, Instr, Instrs, no_instrs, instr_then, Branches, no_branches, branch_then}
 use Rattle.sc_class.specs.declared.identity.ClassId.TheVariants as class
 use Rattle.sc_tree.specs.Properties.{is_print}
-use Rattle.sc_class.specs.Tables.Conformance.{is_expanded}
 use Rattle.sc_class.specs.Tables.Features.{DeclaredFeature, feature_named}
-use Rattle.sc_class.proofs.Items.{some_is}
 use Rattle.sc_proctype.specs.declared.tag.Tag.{Tag}
 use Rattle.sc_proctype.specs.declared.tag.Tag.TheVariants as tag
 use Rattle.sc_proctype.specs.declared.entity_type.EntityType.{EntityType}
-use Rattle.sc_rules.specs.Combiners.{combined_result}
 use Rattle.sc_rules.specs.declared.position.Context.{Context}
 use Rattle.sc_rules.specs.declared.position.Context.TheVariants as context
 use Rattle.sc_rules.specs.declared.position.Position.{Position}
@@ -24,20 +18,19 @@ use Rattle.sc_rules.specs.declared.position.Role.TheVariants as role
 use Rattle.sc_rules.specs.declared.position.Use.TheVariants.{Instruction}
 use Rattle.sc_rules.specs.Types.{declared_type}
 use Rattle.sc_rules.specs.Positions.{is_ensure, is_condition}
-use Rattle.sc_rules.specs.Names.{RoutineName, RoutineContext, Entity, Entities, entity, entity_named, Signature, named, current, signature_of, entity_signature, print_signature, meaning_of_feature, entity_or, meaning_of, is_local, blocks, block_type, test_type, unknown_assignee, unassignable, to_local, to_attribute, assignee_of_kind, assignee_of_feature, assignee_of_result, assignee_or, assignee}
-use Rattle.sc_rules.specs.Typing.{Typing, HasReceiver, explicit, Gives, by_test, by_both, nothing}
+use Rattle.sc_rules.specs.Names.{RoutineName, Entity, Entities, entity, entity_named, Signature, named, current, signature_of, entity_signature, print_signature, meaning_of_feature, entity_or, meaning_of, is_local, blocks, block_type, unassignable, to_local, to_attribute, assignee_of_kind, assignee_of_feature, assignee_of_result, assignee_or, assignee}
+use Rattle.sc_rules.specs.Typing.{Typing, HasReceiver, explicit, Gives}
 use Rattle.sc_rules.specs.Sites.{Site, expression, instruction, instructions, branches, IsActual, first_actual, later_actual, Reserves, no_more, one_more, Part, source_part, call_target_part, call_actual_part, creation_actual_part, condition_part, then_part, elseif_part, else_part, from_part, until_part, loop_part, check_part, block_part, first_part, others_part, branch_condition_part, branch_part, later_branches_part, itself, inside}
 use Rattle.sc_rules.specs.CallRules.{count}
 use Rattle.sc_rules.specs.Purity.{IsPurity}
-use Rattle.sc_rules.specs.TextRules.{is_tagged, is_made_without_procedure, is_made_by}
+use Rattle.sc_rules.specs.TextRules.{is_tagged}
 use Rattle.sc_rules.specs.SystemRules.{WellFormed}
 use Rattle.sc_rules.specs.SystemLaws.{Stands, stands_in, as_instruction}
-use Rattle.sc_rules.specs.InstructionLaws as laws
-use Rattle.sc_rules.specs.InstructionLaws.{IsOfType, is_attribute, assigns, MayBeCreated, made_without_procedure, made_by}
+use Rattle.sc_rules.specs.InstructionLaws.{IsOfType, assigns}
 use Rattle.sc_rules.specs.Laws.{AllDeclared, HasResult, are_typed}
 use Rattle.sc_rules.proofs.WellFormed.{further}
 use Rattle.sc_rules.proofs.TypeLaws.{declared}
-use Rattle.sc_rules.proofs.Typings.{all_append, found_holds}
+use Rattle.sc_rules.proofs.Typings.{found_holds}
 use Rattle.sc_rules.proofs.EachTyped.{stands_typed, each_is_typed_lem}
 use Rattle.sc_rules.proofs.CallLaws.{calls_stand_lem}
 use Rattle.sc_rules.proofs.InstructionLaws.{variables_stand_lem, creations_stand_lem}
@@ -50,108 +43,9 @@ use Rattle.sc_code.specs.Emitted.{names_of}
 use Rattle.sc_code.specs.Typed as typed
 use Rattle.sc_code.specs.Typed.{IsTyped, AreTyped, AreHeads, AreClauses, IsVariable, IsInstr, AreInstrs, AreBranches}
 use Rattle.sc_code.proofs.Codes.{type_is}
-use Rattle.sc_code.proofs.TypingExpressions.{slot_there, some_there, same_signature, judged, ResultKept, without_olds, condition_typed, gives_is_given}
-
--- ---- lists
-
-pub first_of : {A : Type 0} (x : A) (xs : List A) → Contains (x ∷ xs) x
-first_of x xs = (0, omega arith, refl)
-
-pub later_of : {A : Type 0} (y : A) (xs : List A) (x : A) → Contains xs x → Contains (y ∷ xs) x
-later_of y xs x (k, l, e) = (suc k, more l, e)
-  where
-    more : k < length xs → suc k < suc (length xs)
-    more l = omega arith
-
--- ---- where objects are
-
--- A tag other than `none` says on which handler objects are, or that they are on any.
-abbrev pub is_somewhere : Tag → Bool
-is_somewhere tag.Own = true
-is_somewhere tag.Any = true
-is_somewhere (tag.With x) = true
-is_somewhere tag.None = false
-
-abbrev pub lies_somewhere : Option EntityType → Bool
-lies_somewhere None = true
-lies_somewhere (Some t) = is_somewhere t.tag
-
-abbrev pub lies_if_local : Entity → Bool
-lies_if_local e = not (is_local e.role) || lies_somewhere e.type
-
--- the types of locals are such
-abbrev pub locals_lie : Entities → Bool
-locals_lie n = list_all lies_if_local n
-
-pub somewhere : (g : Tag) → (g ≡ tag.None → ⊥) → is_somewhere g ≡ true
-somewhere tag.Own f = refl
-somewhere tag.Any f = refl
-somewhere (tag.With x) f = refl
-somewhere tag.None f = absurd (f refl)
-
--- that of an attribute of Current
-pub own_attribute_lies : (k : ℕ) (o : Option EntityType) (t : EntityType) → ((u : EntityType) → o ≡ Some u → u.tag ≡ tag.None → ⊥) →
-    option_map (combined_result (record { attached = true; tag = tag.Own; class = class.Declared k })) o ≡ Some t → is_somewhere t.tag ≡ true
-own_attribute_lies k None t f e = cc
-own_attribute_lies k (Some u) t f e = by (is_expanded u.class) e
-  where
-    by : (b : Bool) →
-        Some (if b then record { attached = true; tag = tag.Own; class = u.class }
-        else record { attached = u.attached; tag = u.tag; class = u.class }) ≡ Some t →
-        is_somewhere t.tag ≡ true
-    by true e = ap (λ (t : EntityType). is_somewhere t.tag) (sym (some_is _ _ e))
-    by false e = ap (λ (t : EntityType). is_somewhere t.tag) (sym (some_is _ _ e)) ∙ somewhere u.tag (f u refl)
-
--- ---- what is assigned or created
-
-of_local : {t : EntityType} {o : Option EntityType} → IsOfType t (to_local o) → o ≡ Some t
-of_local laws.is_local = refl
-
-of_attribute : {t : EntityType} {o : Option EntityType} → IsOfType t (to_attribute o) → o ≡ Some t
-of_attribute is_attribute = refl
-
-of_nothing : {t : EntityType} → IsOfType t unassignable → ⊥
-of_nothing h = elim h [ ]
-
-of_unknown : {t : EntityType} → IsOfType t unknown_assignee → ⊥
-of_unknown h = elim h [ ]
-
-made_of_class : (s : System) (c : ClassId) → is_made_without_procedure s c ≡ true → (k : ℕ) × (c ≡ class.Declared k)
-made_of_class s (class.Declared k) e = (k, refl)
-made_of_class s class.Any e = cc
-made_of_class s class.None e = cc
-made_of_class s class.Integer e = cc
-made_of_class s class.Boolean e = cc
-
-made_by_class : (s : System) (c : ClassId) (x : Name) → is_made_by s c x ≡ true → (k : ℕ) × (c ≡ class.Declared k)
-made_by_class s (class.Declared k) x e = (k, refl)
-made_by_class s class.Any x e = cc
-made_by_class s class.None x e = cc
-made_by_class s class.Integer x e = cc
-made_by_class s class.Boolean x e = cc
-
-class_made : {h : RoutineContext} {t : EntityType} {o : Option CreationCall} → MayBeCreated h t o → (k : ℕ) × (t.class ≡ class.Declared k)
-class_made {h} {t} (made_without_procedure e) = made_of_class h.system t.class e
-class_made {h} {t} (made_by {k = k} e m c) = made_by_class h.system t.class k.name e
-
-gives_nothing : (o : Option (Option EntityType)) → is_some o ≡ false → o ≡ None
-gives_nothing None e = refl
-gives_nothing (Some t) e = cc
-
-gives_none : (k g : Signature) → named k ≡ named g → is_some g.gives ≡ false → k.gives ≡ None
-gives_none k g m e = ap (λ (g : Signature). g.gives) (same_signature k g m) ∙ gives_nothing g.gives e
-
--- ---- names that become known
-
-given_lie : {h : RoutineContext} {c : Context} {n m : Entities} {e : Expr} → Gives h c n e m → locals_lie n ≡ true → locals_lie m ≡ true
-given_lie {h} {n} (by_test {d = d} {x = x} {t = t} v) l = all_append lies_if_local n (entity x.text (test_type h d t.type) role.Test ∷ []) l refl
-given_lie (by_both k f g) l = given_lie g (given_lie f l)
-given_lie (nothing f) l = l
-
-reserved_lie : {h : RoutineContext} {n m o : Entities} {ds : List Head} → Reserves h n m ds o → locals_lie m ≡ true → locals_lie o ≡ true
-reserved_lie no_more l = l
-reserved_lie (one_more {m = m} {d = d} {t = t} v w) l =
-    reserved_lie w (all_append lies_if_local m (entity d.name.text (block_type (blocks m) t.type) role.Block ∷ []) l refl)
+use Rattle.sc_code.proofs.TypedOperands.{slot_there, some_there, same_signature, judged, ResultKept}
+use Rattle.sc_code.proofs.TypingExpressions.{without_olds, condition_typed, gives_is_given}
+use Rattle.sc_code.proofs.LyingTypes.{class_made, first_of, given_lie, gives_none, is_somewhere, later_of, lies_if_local, lies_somewhere, locals_lie, of_attribute, of_local, of_nothing, of_unknown, own_attribute_lies, reserved_lie}
 
 module _ (h : Setting) (pure : RoutineName → Bool) (well : WellFormed h.system) (tells : IsPurity h.system pure) (has : HasResult (judged pure h))
     (own : h.result ≡ known_type h.text.result) (lies : (t : EntityType) → h.text.result ≡ Some (Some t) → is_somewhere t.tag ≡ true) where
@@ -161,7 +55,7 @@ module _ (h : Setting) (pure : RoutineName → Bool) (well : WellFormed h.system
   kept : ResultKept h
   kept t e = let type = some_there t (has t e) in (type.0, own ∙ ap known_type (e ∙ ap (λ t. Some t) type.1))
 
-  abbrev There : Site → Type 0
+  abbrev pub There : Site → Type 0
   There b = Stands h.system pure (judged pure h) b
 
   part_there : {a b : Site} → There a → Part (judged pure h) a b → There b

@@ -43,8 +43,10 @@ use Rattle.sc_code.specs.Lowered.{IsTypedRoutine, RoutinesAreTyped, RoutinesStan
 use Rattle.sc_code.proofs.Codes.{type_is}
 use Rattle.sc_code.proofs.Beginning.{lowered_stands}
 use Rattle.sc_code.proofs.Steps.{moves_follow}
-use Rattle.sc_code.proofs.TypingExpressions.{Each, each_both, OldTyped, SomeType, OldsKept, ResultKept, olds_typed, kept_left, kept_right, expression_typed, without_olds}
-use Rattle.sc_code.proofs.TypingInstructions.{is_somewhere, somewhere, lies_if_local, lies_somewhere, locals_lie, first_of, later_of, instructions_typed}
+use Rattle.sc_code.proofs.TypedOperands.{Each, each_both, OldTyped, SomeType, OldsKept, ResultKept, olds_typed, kept_left, kept_right}
+use Rattle.sc_code.proofs.TypingExpressions.{expression_typed, without_olds}
+use Rattle.sc_code.proofs.LyingTypes.{is_somewhere, somewhere, lies_if_local, lies_somewhere, locals_lie, first_of, later_of}
+use Rattle.sc_code.proofs.TypingInstructions.{instructions_typed}
 use Rattle.sc_code.proofs.TypingOrigins.{origin_is}
 
 both : (a b : Bool) → (a && b) ≡ true → (a ≡ true) × (b ≡ true)
