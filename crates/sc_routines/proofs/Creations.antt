@@ -9,7 +9,7 @@ use Rattle.sc_rules.specs.Names.{Entities, Assignee, assignee, assignee_type}
 use Rattle.sc_code.specs.Operations.{Operation}
 use Rattle.sc_code.specs.Places.{Setting, here, exprs_types}
 use Rattle.sc_code.specs.Emitted.{expr_code, exprs_code, assign_code, create_code}
-use Rattle.sc_routines.proofs.LoweredExpressions.{count_is}
+use Rattle.sc_routines.proofs.ExpressionParts.{count_is}
 
 module _ (h : Setting) (n m : Entities) (v : Variable) (base c1 c2 c3 : List Operation) (em : m ≡ n) where
   pub assigned : (e : Expr) → c1 ≡ base ++ expr_code h n 0 e → c2 ≡ c1 ++ assign_code h m v → c2 ≡ base ++ (expr_code h n 0 e ++ assign_code h n v)

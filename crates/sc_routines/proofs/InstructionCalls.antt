@@ -9,7 +9,7 @@ use Rattle.sc_rules.specs.Names.{Entities}
 use Rattle.sc_code.specs.Operations.{Operation, Print}
 use Rattle.sc_code.specs.Places.{Setting, expr_type, exprs_types}
 use Rattle.sc_code.specs.Emitted.{expr_code, exprs_code, instruction_call, routine_call, feature_call}
-use Rattle.sc_routines.proofs.LoweredExpressions.{count_is}
+use Rattle.sc_routines.proofs.ExpressionParts.{count_is}
 
 behind_actuals : (b : Bool) (base actuals call : List Operation) → (base ++ actuals) ++ instruction_call b [] call ≡ base ++ instruction_call b actuals call
 behind_actuals true base actuals call = append_assoc base actuals (Print ∷ [])

@@ -3,6 +3,7 @@ pub mod Contexts
 pub mod Decisions
 pub mod OwnFeatures
 pub mod Given
+pub mod ExpressionParts
 pub mod LoweredExpressions
 pub mod Creations
 pub mod FormalNames

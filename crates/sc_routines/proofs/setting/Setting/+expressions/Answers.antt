@@ -11,7 +11,8 @@ use Rattle.sc_routines.specs.Settings.{setting_in}
 use Rattle.sc_code.specs.Places.{expr_type, names_given, exprs_types, slot_named}
 use Rattle.sc_code.specs.Emitted.{expr_code, expr_depth, expr_slots, exprs_code, exprs_depth}
 use Rattle.sc_routines.proofs.Given.{forgotten_in}
-use Rattle.sc_routines.proofs.LoweredExpressions.{always, leaf_code, leaf_told, result_code, result_told, old_code, old_told, unary_code, unary_told, unary_names, test_code, test_names, test_told, close_code, close_told, close_names, place_within, Told, routine_code_left, routine_told, feature_code_left, feature_told, next_code, next_types, next_depth, next_olds}
+use Rattle.sc_routines.proofs.ExpressionParts.{next_code, next_types, next_depth, next_olds}
+use Rattle.sc_routines.proofs.LoweredExpressions.{always, leaf_code, leaf_told, result_code, result_told, old_code, old_told, unary_code, unary_told, unary_names, test_code, test_names, test_told, close_code, close_told, close_names, place_within, Told, routine_code_left, routine_told, feature_code_left, feature_told}
 use Rattle.sc_typing.specs.declared.declarations.names.Entity.{Entity}
 use Rattle.sc_routines.specs.Named.{own_named, routine_given}
 use Rattle.sc_routines.specs.Parts.{call_in}
