@@ -18,7 +18,7 @@ use Rattle.sc_request.specs.Candidates.{AreCandidates, AreReserving, HasGrantsBe
 use Rattle.sc_request.specs.Logs.{Center, pick_for, granted, ungranted}
 use Rattle.sc_request.specs.Sound.{IsHeldBelow, IsSound}
 use Rattle.sc_request.proofs.Outs.{IsGrant, all_among_below, back_with, grant_is, out_is, out_set, picked_center, with_job}
-use Rattle.sc_request.proofs.Sounds.{release_below, reserve_below}
+use Rattle.sc_request.proofs.SoundHandlers.{release_below, reserve_below}
 use Rattle.sc_request.proofs.Elsewhere.{same_job}
 
 -- ---- who is picked isn't out

@@ -17,7 +17,9 @@ mod Rounds
 mod Bits
 pub mod GrantedReservations
 mod ChangedTables
+mod BegunCounts
 mod Counted
+pub mod SoundHandlers
 pub mod Sounds
 mod Releases
 mod Settles

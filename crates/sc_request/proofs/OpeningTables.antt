@@ -16,7 +16,8 @@ use Rattle.sc_request.specs.Tables.{handler_in, handler_at, state_of, center, ou
 use Rattle.sc_request.specs.Candidates.{AreCandidates, AreReserving, HasGrantsBelow, HasOutsBelow, is_granted}
 use Rattle.sc_request.specs.Logs.{opening, opened}
 use Rattle.sc_request.specs.Sound.{IsPlaced, IsServed, IsSound, IsSoundHandler, placed_poster}
-use Rattle.sc_request.proofs.Sounds.{all_more, if_is, new_is, none_passed}
+use Rattle.sc_request.proofs.SoundHandlers.{new_is}
+use Rattle.sc_request.proofs.Sounds.{all_more, if_is, none_passed}
 
 fresh_at : (n k : ℕ) → handler_in (slice_get (replicate n fresh) k) ≡ new_handler
 fresh_at zero k = refl
