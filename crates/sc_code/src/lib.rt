@@ -19,6 +19,5 @@ pub use program::lookup::Program;
 pub use program::{
     AttributeCode, ClassCode, ConstantPool, FeatureCode, Image, RoutineCode, RoutineText,
 };
-pub use sc_model::Cause;
 pub use site::{CallSite, CreationSite, Heads, ObjectTest, Residence, TestedType};
 pub use text_site::{Assertion, NameSpan, SiteKind, TextSite};

@@ -1,6 +1,6 @@
 -- What regions hold.
 use Rattle.std.specs.Prelude.{ℕ, Bool, false, List, [], Option, Some, None, slice_get}
-use Rattle.sc_code.specs.Cause.{Cause}
+use Rattle.sc_model.specs.declared.cause.Cause.{Cause}
 use Rattle.sc_region.specs.Objects.{PlainObject}
 use Rattle.sc_region.specs.Frames.{PlainFrame}
 use Rattle.sc_play.specs.Regions.{PlainRegion}

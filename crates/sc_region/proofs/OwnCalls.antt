@@ -2,7 +2,7 @@
 use Rattle.std.proofs.Common.{get_or, ◌≡◌, ◌≢◌, ◌≤◌, ◌<◌, ℕ, zero, suc, List, [], ◌∷◌, ◌++◌, Some, Bool, true, false, length, refl, sym, ap, ◌∙◌, arith}
 use Rattle.std.proofs.lemmas.Bool.Decides.{nat_tests}
 use Rattle.std.specs.Prelude.{Result, Ok, Err, OnOk, ◌==◌, nat_lt, slice_set, if◌then◌else◌}
-use Rattle.sc_code.specs.Cause.TheVariants as cause
+use Rattle.sc_model.specs.declared.cause.Cause.TheVariants as cause
 use Rattle.sc_code.specs.declared.program.RoutineCode.{RoutineCode}
 use Rattle.sc_region.specs.Calls.{called_on, calls, in_call, last_values, on_top, top_frame, top_operands}
 use Rattle.sc_region.specs.Classes.{routine_at}

@@ -1,8 +1,8 @@
 -- The store of a handler, and what its calls make of it.
 use Rattle.std.specs.Prelude.{ℕ, ◌+◌, ◌-◌, ◌≡◌, ◌==◌, ◌&&◌, Bool, true, not, List, [], ◌∷◌, ◌++◌, Option, Some, None, length, replicate, nat_lt, if◌then◌else◌}
 use Rattle.std.specs.Option.{is_none, option_map}
-use Rattle.sc_code.specs.Cause.{Cause}
-use Rattle.sc_code.specs.Cause.TheVariants as cause
+use Rattle.sc_model.specs.declared.cause.Cause.{Cause}
+use Rattle.sc_model.specs.declared.cause.Cause.TheVariants as cause
 use Rattle.sc_region.specs.declared.value.Value.{Value}
 use Rattle.sc_region.specs.declared.value.Value.TheVariants.{Void}
 use Rattle.sc_region.specs.declared.value.Reference.{Reference}

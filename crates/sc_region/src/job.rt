@@ -2,7 +2,7 @@
 
 use crate::value::{Reference, Value};
 use arrayvec::ArrayVec;
-use sc_code::Cause;
+use sc_model::Cause;
 
 /// What a request is for.
 #[derive(Clone, Copy)]

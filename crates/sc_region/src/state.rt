@@ -7,7 +7,7 @@ ghost use Rattle.sc_region.specs.Calls.{calls, top_operands};
 ghost use Rattle.sc_region.specs.Stores.{failed, is_settled, settled, written, entered, left, with_new, born, born_for, made, made_for, printed};
 ghost use Rattle.sc_region.specs.States.{state_of};
 ghost use Rattle.sc_region.specs.Values.{atoms_of};
-ghost use Rattle.sc_code.specs.Cause.TheVariants as cause;
+ghost use Rattle.sc_model.specs.declared.cause.Cause.TheVariants as cause;
 
 use crate::breakdown::{Breakdown, BrokenInvariant, Point};
 use crate::frame::{Activation, Origin, OwnCall};
@@ -15,8 +15,9 @@ use crate::object::{Object, Objects};
 use crate::program::{class_at, routine_at};
 use crate::stack::Stack;
 use crate::value::{Reference, Value};
-use sc_code::{Cause, Program};
+use sc_code::Program;
 use sc_formula::{Atom, Formula};
+use sc_model::Cause;
 use std::alloc::{AllocError, Global};
 
 /// The most objects of a handler.

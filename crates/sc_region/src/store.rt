@@ -12,7 +12,8 @@ use crate::object::Objects;
 use crate::stack::Stack;
 use crate::state::{self, State};
 use crate::value::{Reference, Value};
-use sc_code::{Cause, Program};
+use sc_code::Program;
+use sc_model::Cause;
 use std::alloc::{AllocError, Global};
 use std::marker::Model;
 
