@@ -135,7 +135,7 @@ impl<'p> Region<'p> {
     ghost use Rattle.std.specs.Prelude.{◌&&◌, is_some, length};
     ghost use Rattle.sc_region.specs.Classes.{MeetsAt};
     ghost use Rattle.sc_region.specs.Objects.{object_numbered};
-    ghost use Rattle.sc_region.specs.Stores.{AreSame, is_settled};
+    ghost use Rattle.sc_region.specs.Stores.{AreSame, SettledObjectsMeet, is_settled};
     ghost use Rattle.sc_play.specs.Contents.{contents_of, new_contents};
     ghost use Rattle.sc_play.specs.Regions.{IsRefused, Plays, new_region, outcome};
 
@@ -208,6 +208,13 @@ impl<'p> Region<'p> {
         ensures meets { IsTrue result → MeetsAt self.now.store.program (object_numbered number self.now.store.objects) }
     {
         self.store.settled(number)
+    }
+
+    /// Each settled object of a region meets its class invariant, as in its store. Nothing is done.
+    pub fn settled_objects_meet(&self)
+        ensures { SettledObjectsMeet self.now.store }
+    {
+        self.store.settled_objects_meet();
     }
 
     /// Whether there is an object of the number, and it meets its class invariant.

@@ -3,7 +3,7 @@ ghost use Rattle.std.specs.Prelude.{◌≡◌, ◌<◌, ◌≤◌, ◌↔◌, �
 ghost use Rattle.sc_region.specs.Calls.{calls, top_operands};
 ghost use Rattle.sc_region.specs.Objects.{PlainObject, object_numbered, attribute_of};
 ghost use Rattle.sc_region.specs.Classes.{MeetsAt};
-ghost use Rattle.sc_region.specs.Stores.{AreSame, new_store, is_settled, failed, written, entered, left, born, born_for, made, made_for, printed};
+ghost use Rattle.sc_region.specs.Stores.{AreSame, SettledObjectsMeet, new_store, is_settled, failed, written, entered, left, born, born_for, made, made_for, printed};
 ghost use Rattle.sc_region.specs.declared.frame.Origin.TheVariants as origin;
 
 use crate::breakdown::Breakdown;
@@ -229,6 +229,13 @@ impl<'p> Store<'p> {
     {
         let number = number as usize;
         self.state.objects.get(number).is_some() && state::is_settled(&self.state, number)
+    }
+
+    /// Each settled object of a store meets its class invariant. The type keeps it, so nothing is done.
+    pub fn settled_objects_meet(&self)
+        ensures { SettledObjectsMeet self.now }
+    {
+        let _ = &self.state;
     }
 
     /// Whether there is an object of the number, and it meets its class invariant.
