@@ -1,5 +1,5 @@
 -- Turns keep that each handler serves in the core what its region serves, and what follows of handlers that are free.
-use Rattle.std.proofs.Common.{Bor, option_copied, ◌≡◌, inl, inr, ◌&&◌, not, ℕ, zero, suc, Bool, true, false, List, [], ◌∷◌, Option, Some, None, Result, Ok, Err, IfOk, OnErr, IsTrue, is_none, is_some, length, slice_get, slice_set, min, take, refl, sym, ap, subst, ◌∙◌}
+use Rattle.std.proofs.Common.{Bor, option_copied, ◌≡◌, inl, inr, ◌&&◌, not, ℕ, zero, suc, Bool, true, false, List, [], ◌∷◌, Option, Some, None, Result, Ok, Err, IfOk, OnErr, is_none, length, slice_get, slice_set, min, take, refl, sym, ap, subst, ◌∙◌}
 use Rattle.std.proofs.lemmas.Option.{slice_get_past, slice_get_read}
 use Rattle.std.specs.Slice.{IsGetResult}
 use Rattle.sc_lockpass.specs.declared.version.Version.{Version}
@@ -7,16 +7,16 @@ use Rattle.sc_lockpass.specs.Versions.{most_handlers}
 use Rattle.sc_model.specs.declared.cause.Cause.{Cause}
 use Rattle.sc_code.specs.declared.program.Image.{Image}
 use Rattle.sc_region.specs.declared.job.Job.{Job}
-use Rattle.sc_region.specs.Classes.{MeetsAt, MeetsInvariant}
+use Rattle.sc_region.specs.Classes.{MeetsInvariant}
 use Rattle.sc_region.specs.Frames.{PlainFrame, is_current}
 use Rattle.sc_region.specs.Objects.{object_numbered}
-use Rattle.sc_region.specs.Stores.{is_settled, new_store}
+use Rattle.sc_region.specs.Stores.{SettledObjectsMeet, is_settled, new_store}
 use Rattle.sc_request.specs.Logs.{Center, first_from, first_with_job, next, pick_for, picked, put_back, round, settles}
 use Rattle.sc_play.specs.Regions.{PlainRegion, new_region}
 use Rattle.sc_request_counts.specs.Free.{AreLinked}
 use Rattle.sc_request_counts.proofs.Links as linking
 use Rattle.sc_request_counts.proofs.Links.{free_regions_rest, refused_turns_stay_linked, turns_stay_linked}
-use Rattle.sc_world.specs.Free.{FreeObjectMeets, IsLinked, OpeningsAreLinked, RoundsStayLinked, RunsStayLinked, StoppedRoundsStayLinked, StoppedRunsStayLinked}
+use Rattle.sc_world.specs.Free.{FreeObjectsMeet, IsLinked, OpeningsAreLinked, RoundsStayLinked, RunsStayLinked, StoppedRoundsStayLinked, StoppedRunsStayLinked}
 use Rattle.sc_world.specs.Rounds.{IsRefusedNext, Played, Rounds, StopsNext, TurnsOfNext, more, none, turns_of_picked}
 use Rattle.sc_world.specs.Turning.{HeldUpUnder, IsHeldUp, IsRefusedTurn, IsTurn, Makes, PutsBack, Settles, TurnsUnder}
 use Rattle.sc_world.specs.Worlds.{PlainWorld, max_handlers, new_regions, opened}
@@ -132,31 +132,18 @@ turns_of_next_linked left turns x y linked turned = of_next (next x.center) left
 
 -- ---- handlers that are free
 
-both_true : (a b : Bool) → a ≡ true → b ≡ true → (a && b) ≡ true
-both_true true true e f = refl
-both_true true false e f = cc
-both_true false b e f = cc
-
--- where an object that is settled meets its invariant, one of a handler that is free does
-pub free_meets : (h number : ℕ) (w : PlainWorld) (r : PlainRegion) (b : Bool) → IsLinked w → slice_get w.regions h ≡ Some r →
-    b ≡ (is_settled number r.store && is_some (object_numbered number r.store.objects)) → (IsTrue b → MeetsAt r.store.program (object_numbered number r.store.objects)) →
-    FreeObjectMeets h number w
-free_meets h number w r b linked stands is meets x o free there found =
+-- where the settled objects of a region meet their invariants, all objects of a handler that is free do
+pub free_meet : (h : ℕ) (w : PlainWorld) (r : PlainRegion) → IsLinked w → slice_get w.regions h ≡ Some r → SettledObjectsMeet r.store → FreeObjectsMeet h w
+free_meet h w r linked stands meet number x o free there found =
     let rest = free_regions_rest h w.center w.regions r linked free stands in
     let settled : is_settled number r.store ≡ true =
     ap (λ (f : Option Cause). is_none f && not (is_current number r.store.frames)) rest.1 ∙ ap (λ (fs : List PlainFrame). not (is_current number fs)) rest.0 in
     let same : x ≡ r = some_same x r (sym there ∙ stands) in
-    let object : object_numbered number r.store.objects ≡ Some o = ap (λ (z : PlainRegion). object_numbered number z.store.objects) (sym same) ∙ found in
-    let true_is : b ≡ true = is ∙ both_true (is_settled number r.store) (is_some (object_numbered number r.store.objects)) settled (ap is_some object) in
     subst (λ (z : PlainRegion). MeetsInvariant z.store.program o) (sym same)
-    (subst (MeetsAt r.store.program) object (meets (told b true_is)))
+    (meet number o settled (ap (λ (z : PlainRegion). object_numbered number z.store.objects) (sym same) ∙ found))
   where
     some_same : (x y : PlainRegion) → Some x ≡ Some y → x ≡ y
     some_same x y e = cc
-
-    told : (b : Bool) → b ≡ true → IsTrue b
-    told true e = refl
-    told false e = cc
 
 -- ---- what a world in memory has
 

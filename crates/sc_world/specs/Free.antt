@@ -16,12 +16,11 @@ use Rattle.sc_world.specs.Worlds.{PlainWorld, opened}
 abbrev pub IsLinked : PlainWorld → Type 0
 IsLinked w = AreLinked w.center w.regions
 
--- If there is an object of this number on the handler, and that is free, so it hasn't failed, the object meets its
--- class invariant (ECMA-367, 8.9.16).
-abbrev pub FreeObjectMeets : ℕ → ℕ → PlainWorld → Type 0
-FreeObjectMeets h number w =
-    (x : PlainRegion) (o : PlainObject) → status_for h w.center ≡ Some Free → slice_get w.regions h ≡ Some x →
-    object_numbered number x.store.objects ≡ Some o → MeetsInvariant x.store.program o
+-- If the handler is free, so it hasn't failed, each of its objects meets its class invariant (ECMA-367, 8.9.16).
+abbrev pub FreeObjectsMeet : ℕ → PlainWorld → Type 0
+FreeObjectsMeet h w =
+    (number : ℕ) (x : PlainRegion) (o : PlainObject) → status_for h w.center ≡ Some Free →
+    slice_get w.regions h ≡ Some x → object_numbered number x.store.objects ≡ Some o → MeetsInvariant x.store.program o
 
 -- ---- laws
 

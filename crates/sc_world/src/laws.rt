@@ -1,6 +1,9 @@
 //! What holds in each world that turns lead to, each the contract of a function that does nothing.
-ghost use Rattle.sc_world.specs.Free.{OpeningsAreLinked, RoundsStayLinked, RunsStayLinked, StoppedRoundsStayLinked, StoppedRunsStayLinked};
+ghost use Rattle.sc_world.specs.Free.{FreeObjectsMeet, OpeningsAreLinked, RoundsStayLinked, RunsStayLinked, StoppedRoundsStayLinked, StoppedRunsStayLinked};
 ghost use Rattle.sc_world.specs.Kept.{AttemptsStayOf, KeptAlikeAreAlike, OpeningsAreOf, RunsStayOf};
+ghost use Rattle.sc_world.specs.Views.{world_of};
+
+use crate::world::World;
 
 /// At the opening each handler serves in the core what its region serves.
 pub fn openings_are_linked()
@@ -26,6 +29,17 @@ pub fn rounds_stay_linked()
 pub fn stopped_rounds_stay_linked()
     ensures { StoppedRoundsStayLinked }
 {}
+
+/// In each world that there is, each object of a handler that is free, and so hasn't failed, meets its class invariant.
+///
+/// What a store keeps is known where it stands, so the region is looked up. Nothing of it is tested.
+pub fn free_objects_meet(world: &World<'_>, handler: u16)
+    ensures { FreeObjectsMeet handler (world_of world.now) }
+{
+    if let Some(region) = world.regions.get(handler as usize) {
+        region.settled_objects_meet();
+    }
+}
 
 /// At the opening of a program all regions are of it, and nobody is out,
 pub fn openings_are_of_their_program()

@@ -8,7 +8,6 @@ ghost use Rattle.sc_handler.specs.Logged.{settlements_of};
 ghost use Rattle.sc_request.specs.Cores.{center_of, log_of};
 ghost use Rattle.sc_request.specs.Rooms.{HasRoomFor};
 ghost use Rattle.sc_request.specs.Logs as core;
-ghost use Rattle.sc_world.specs.Free.{FreeObjectMeets};
 ghost use Rattle.sc_world.specs.Reports as told;
 ghost use Rattle.sc_world.specs.Rounds.{AreCutShort, EndsRounds, IsRefusedNext, PlaysAtOnce, PlaysOut, StopsRounds, TurnsOfNext, turns_at_once};
 ghost use Rattle.sc_world.specs.Turning.{IsRefusedTurn, IsTried, IsTurn, PutsOutBack, Runs, StopsBehind, StopsShort, TurnsUnderJob, turned_by};
@@ -39,7 +38,7 @@ const MAX_HANDLERS: u16 = 512;
 /// A world of handlers, of which number 0 begins with the creation of the root object.
 ///
 /// Each handler serves in the core what its region serves. So the region of a handler that is free has no frames, and each
-/// of its objects meets its class invariant.
+/// of its objects meets its class invariant ([`free_objects_meet`](crate::laws::free_objects_meet)).
 ///
 /// Turns that were made, and turns that memory was refused to, lead to the world from the opening of a program, in any mix. A turn
 /// that was refused leaves the core and the other regions as they are, and its own region but for silent operations of a routine
@@ -51,7 +50,7 @@ pub struct World<'p> {
     /// The region of each handler by number, and places for those that there may be.
     pub(crate) regions: Vec<Region<'p>>,
     ghost places: { vec_len regions ≡ 512 },
-    ghost linked: { AreLinked (center_of core) regions.items } by { linked_prop (center_of core) regions.items },
+    pub(crate) ghost linked: { AreLinked (center_of core) regions.items } by { linked_prop (center_of core) regions.items },
     pub ghost tried: { ∥ IsTried (world_with core regions.items) ∥₁ },
 }
 
@@ -229,16 +228,6 @@ impl<'p> World<'p> {
         ensures { result ≡ core.status_for handler (world_of self.now).center }
     {
         self.core.status(handler)
-    }
-
-    /// If there is an object of this number on a handler, and the handler is free, so it hasn't failed, the object meets its
-    /// class invariant.
-    pub fn free_object_meets(&self, handler: u16, number: u32)
-        ensures { FreeObjectMeets handler number (world_of self.now) }
-    {
-        if let Some(region) = self.regions.get(handler as usize) {
-            let _ = region.settled(number);
-        }
     }
 
     /// How each handler stands, in order of number.
