@@ -10,13 +10,11 @@ ghost use Rattle.sc_routines.specs.Parts.{call_in};
 ghost use Rattle.sc_routines.specs.Settings.{setting_in};
 
 use crate::code::Code;
-use crate::leaves::{push_leaf, push_type};
+use crate::leaves::{push_boolean, push_integer, push_type, push_void};
 use crate::lowered::{Lowered, LoweredActuals};
 use crate::operator_code::{BinaryOperands, close_binary, close_unary, open_right};
 use crate::setting::Setting;
 use crate::sums::sum;
-use crate::unlinked::UnlinkedOperation;
-use sc_proctype::EntityType;
 use sc_tree::{Call, Expr};
 use sc_typing::Entity;
 use std::alloc::AllocError;
@@ -42,22 +40,10 @@ impl<'t, 's> Setting<'t, 's> {
     {
         let count = names.len();
         match e {
-            Expr::Integer(span, value) => {
-                let operation = UnlinkedOperation::PushInteger(*value);
-                push_leaf(code, *span, operation, EntityType::integer(), olds)
-            }
-            Expr::Boolean(span, value) => {
-                let operation = UnlinkedOperation::PushBoolean(*value);
-                push_leaf(code, *span, operation, EntityType::boolean(), olds)
-            }
-            Expr::Void(span) => {
-                let operation = UnlinkedOperation::PushVoid;
-                push_leaf(code, *span, operation, EntityType::void(), olds)
-            }
-            Expr::Current(span) => {
-                let operation = UnlinkedOperation::PushCurrent;
-                push_leaf(code, *span, operation, self.context.current(), olds)
-            }
+            Expr::Integer(span, value) => push_integer(code, *span, *value, olds),
+            Expr::Boolean(span, value) => push_boolean(code, *span, *value, olds),
+            Expr::Void(span) => push_void(code, *span, olds),
+            Expr::Current(span) => self.push_current(olds, code, *span),
             Expr::Result(span) => self.lower_result(olds, code, *span),
             Expr::Call(call) => self.lower_call(names, olds, code, call),
             Expr::Unary(span, operator, operand) => {

@@ -4,7 +4,7 @@ ghost use Rattle.std.specs.Prelude.{◌≡◌, ◌+◌, ◌++◌, ◌∷◌, [],
 ghost use Rattle.std.specs.Option.{option_map};
 ghost use Rattle.sc_tree.specs.View.{name_of, type_if_any};
 ghost use Rattle.sc_class.specs.SystemIn.{system_in};
-ghost use Rattle.sc_proctype.specs.Conformance.{boolean};
+ghost use Rattle.sc_proctype.specs.Conformance.{boolean, integer, void};
 ghost use Rattle.sc_rules.specs.Names as rules;
 ghost use Rattle.sc_typing.specs.Views.{entity_of};
 ghost use Rattle.sc_code.specs.Emitted as emitted;
@@ -13,7 +13,7 @@ ghost use Rattle.sc_routines.specs.Parts as parts;
 ghost use Rattle.sc_code.specs.Places as places;
 ghost use Rattle.sc_routines.specs.Named.{own_named};
 ghost use Rattle.sc_routines.specs.Settings.{setting_in};
-ghost use Rattle.sc_routines.specs.Told.{type_behind};
+ghost use Rattle.sc_routines.specs.Told.{told_of_leaf, type_behind};
 ghost use Rattle.sc_routines.specs.Unlinked.{unlinked};
 ghost use Rattle.sc_code.specs.View.{tested_of};
 
@@ -46,7 +46,7 @@ pub fn leaf(value: Option<EntityType>, olds: usize) -> Lowered
 }
 
 /// Adds the operation of a constant or of Current, whose value is of this type.
-pub fn push_leaf<'s>(
+fn push_leaf<'s>(
     code: &mut Code<'s>,
     span: Span,
     operation: UnlinkedOperation<'s>,
@@ -54,11 +54,48 @@ pub fn push_leaf<'s>(
     olds: usize,
 ) -> Result<Lowered, AllocError>
     ensures code { OnOk result (code.new ≡ code.old ++ unlinked operation.entry ∷ []) }
-    ensures told { IfOk result (λ l. l ≡ record { value = Some value; depth = 1; olds = olds; slots = 0 }) }
+    ensures told { IfOk result (λ l. l ≡ told_of_leaf (Some value) olds) }
 {
     let kind = SiteKind::Constant;
     code.push(TextSite { span, kind }, operation)?;
     Ok(leaf(Some(value), olds))
+}
+
+/// Adds that an integer is pushed.
+pub fn push_integer(
+    code: &mut Code,
+    span: Span,
+    value: i64,
+    olds: usize,
+) -> Result<Lowered, AllocError>
+    ensures code { OnOk result (code.new ≡ code.old ++ plain.PushInteger value ∷ []) }
+    ensures told { IfOk result (λ l. l ≡ told_of_leaf (Some integer) olds) }
+{
+    let operation = UnlinkedOperation::PushInteger(value);
+    push_leaf(code, span, operation, EntityType::integer(), olds)
+}
+
+/// Adds that a truth value is pushed.
+pub fn push_boolean(
+    code: &mut Code,
+    span: Span,
+    value: bool,
+    olds: usize,
+) -> Result<Lowered, AllocError>
+    ensures code { OnOk result (code.new ≡ code.old ++ plain.PushBoolean value ∷ []) }
+    ensures told { IfOk result (λ l. l ≡ told_of_leaf (Some boolean) olds) }
+{
+    let operation = UnlinkedOperation::PushBoolean(value);
+    push_leaf(code, span, operation, EntityType::boolean(), olds)
+}
+
+/// Adds that Void is pushed.
+pub fn push_void(code: &mut Code, span: Span, olds: usize) -> Result<Lowered, AllocError>
+    ensures code { OnOk result (code.new ≡ code.old ++ plain.PushVoid ∷ []) }
+    ensures told { IfOk result (λ l. l ≡ told_of_leaf (Some void) olds) }
+{
+    let operation = UnlinkedOperation::PushVoid;
+    push_leaf(code, span, operation, EntityType::void(), olds)
 }
 
 /// Adds a type, if it is known.
@@ -114,6 +151,20 @@ pub fn push_attribute<'s>(
 }
 
 impl<'t, 's> Setting<'t, 's> {
+    /// Adds that Current is pushed.
+    pub fn push_current(
+        &self,
+        olds: usize,
+        code: &mut Code<'s>,
+        span: Span,
+    ) -> Result<Lowered, AllocError>
+        ensures code { OnOk result (code.new ≡ code.old ++ plain.PushCurrent ∷ []) }
+        ensures told { IfOk result (λ l. l ≡ told_of_leaf (Some (rules.current (places.here (setting_in self.now)))) olds) }
+    {
+        let operation = UnlinkedOperation::PushCurrent;
+        push_leaf(code, span, operation, self.context.current(), olds)
+    }
+
     /// Adds that Result is read.
     pub fn lower_result(
         &self,

@@ -7,8 +7,10 @@ use Rattle.sc_tree.specs.View.{expr_of, exprs_of, name_of, type_if_any, target_o
 use Rattle.sc_tree.proofs.ViewLemmas.{expr_of-boolean, expr_of-void, expr_of-current, expr_of-call, expr_of-result, expr_of-unary, expr_of-binary, expr_of-object_test}
 use Rattle.sc_model.specs.Olds.{olds_in, olds_of_each}
 use Rattle.sc_typing.specs.Views.{entity_of}
+use Rattle.sc_proctype.specs.Conformance.{boolean, void}
+use Rattle.sc_rules.specs.Names.{current}
 use Rattle.sc_routines.specs.Settings.{setting_in}
-use Rattle.sc_code.specs.Places.{expr_type, names_given, exprs_types, slot_named}
+use Rattle.sc_code.specs.Places.{expr_type, here, names_given, exprs_types, slot_named}
 use Rattle.sc_code.specs.Emitted.{expr_code, expr_depth, expr_slots, exprs_code, exprs_depth}
 use Rattle.sc_routines.proofs.Given.{forgotten_in}
 use Rattle.sc_routines.proofs.ExpressionParts.{next_code, next_types, next_depth, next_olds}
@@ -26,10 +28,10 @@ lower_condition-returns-in-Boolean t c =
     let i = c.args.olds in
     let q = tree.Boolean c.in-Boolean.span c.in-Boolean.value in
     let ep : expr_of c.args.e.now ≡ q = ap expr_of c.in-Boolean.is ∙ expr_of-boolean c.in-Boolean.span c.in-Boolean.value in
-    let r = c.push_leaf-in-Boolean.result in
-    let told = leaf_told h n i (expr_of c.args.e.now) q r ep c.boolean.result _ c.boolean.ensures refl refl (omega arith) refl c.push_leaf-in-Boolean.ensures.told in
+    let r = c.push_boolean.result in
+    let told = leaf_told h n i (expr_of c.args.e.now) q r ep boolean _ refl refl refl (omega arith) refl c.push_boolean.ensures.told in
     record {
-      code = leaf_code h n i (expr_of c.args.e.now) q r ep _ c.args.code.now c.push_leaf-in-Boolean.new.code refl c.push_leaf-in-Boolean.ensures.code;
+      code = leaf_code h n i (expr_of c.args.e.now) q r ep _ c.args.code.now c.push_boolean.new.code refl c.push_boolean.ensures.code;
       names = always r (sym (ap (names_given h n i) ep));
       value = told.value;
       depth = told.depth;
@@ -44,10 +46,10 @@ lower_condition-returns-in-Void t c =
     let i = c.args.olds in
     let q = tree.Void c.in-Void.span in
     let ep : expr_of c.args.e.now ≡ q = ap expr_of c.in-Void.is ∙ expr_of-void c.in-Void.span in
-    let r = c.push_leaf-in-Void.result in
-    let told = leaf_told h n i (expr_of c.args.e.now) q r ep c.void.result _ c.void.ensures refl refl (omega arith) refl c.push_leaf-in-Void.ensures.told in
+    let r = c.push_void.result in
+    let told = leaf_told h n i (expr_of c.args.e.now) q r ep void _ refl refl refl (omega arith) refl c.push_void.ensures.told in
     record {
-      code = leaf_code h n i (expr_of c.args.e.now) q r ep _ c.args.code.now c.push_leaf-in-Void.new.code refl c.push_leaf-in-Void.ensures.code;
+      code = leaf_code h n i (expr_of c.args.e.now) q r ep _ c.args.code.now c.push_void.new.code refl c.push_void.ensures.code;
       names = always r (sym (ap (names_given h n i) ep));
       value = told.value;
       depth = told.depth;
@@ -62,10 +64,10 @@ lower_condition-returns-in-Current t c =
     let i = c.args.olds in
     let q = tree.Current c.in-Current.span in
     let ep : expr_of c.args.e.now ≡ q = ap expr_of c.in-Current.is ∙ expr_of-current c.in-Current.span in
-    let r = c.push_leaf-in-Current.result in
-    let told = leaf_told h n i (expr_of c.args.e.now) q r ep c.current.result _ c.current.ensures refl refl (omega arith) refl c.push_leaf-in-Current.ensures.told in
+    let r = c.push_current.result in
+    let told = leaf_told h n i (expr_of c.args.e.now) q r ep (current (here h)) _ refl refl refl (omega arith) refl c.push_current.ensures.told in
     record {
-      code = leaf_code h n i (expr_of c.args.e.now) q r ep _ c.args.code.now c.push_leaf-in-Current.new.code refl c.push_leaf-in-Current.ensures.code;
+      code = leaf_code h n i (expr_of c.args.e.now) q r ep _ c.args.code.now c.push_current.new.code refl c.push_current.ensures.code;
       names = always r (sym (ap (names_given h n i) ep));
       value = told.value;
       depth = told.depth;
