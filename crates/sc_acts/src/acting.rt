@@ -14,6 +14,7 @@ use crate::printing::{print_boolean, print_integer, print_text};
 use crate::refusing::refuse;
 use crate::requesting::request;
 use crate::steps::{end_round, start, unless_failed};
+use sc_lockpass::HandlerNumber;
 use sc_region::{Store, Want};
 use std::alloc::AllocError;
 
@@ -21,7 +22,7 @@ use std::alloc::AllocError;
 #[tactic(auto, using(crate::proofs::Failed::asked_twice))]
 fn dispatch(
     store: &mut Store<'_>,
-    handler: u16,
+    handler: HandlerNumber,
     act: Act,
     asked: &mut Want,
 ) -> Result<(), AllocError>
@@ -86,7 +87,7 @@ fn dispatch(
 /// is told. Err where there is no memory; nothing has changed then.
 pub fn act_on(
     store: &mut Store<'_>,
-    handler: u16,
+    handler: HandlerNumber,
     act: Act,
     asked: &mut Want,
 ) -> Result<(), AllocError>

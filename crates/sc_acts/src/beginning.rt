@@ -6,10 +6,11 @@ ghost use Rattle.sc_region.specs.declared.job.Want.TheVariants as want;
 ghost use Rattle.sc_acts.specs.Entering.{asks_beginning, asks_reserving, handler_of, handlers_in};
 
 use arrayvec::ArrayVec;
+use sc_lockpass::HandlerNumber;
 use sc_region::{Store, Value, Want};
 
 /// The handler of the value in the slot, where it is an object.
-fn handler_at(slots: &[Value], slot: usize) -> Option<u16>
+fn handler_at(slots: &[Value], slot: usize) -> Option<HandlerNumber>
     ensures { result ≡ handler_of (slice_get slots.now slot) }
 {
     match slots.get(slot) {
@@ -20,7 +21,7 @@ fn handler_at(slots: &[Value], slot: usize) -> Option<u16>
 
 /// The handler that was found, if one was, where there are fewer than 16.
 #[tactic(auto, using(crate::proofs::FirstItems::take_full, crate::proofs::FirstItems::take_none, crate::proofs::FirstItems::take_one))]
-fn add(handlers: &mut ArrayVec<u16, 16>, found: Option<u16>)
+fn add(handlers: &mut ArrayVec<HandlerNumber, 16>, found: Option<HandlerNumber>)
     ensures { handlers.new.items ≡ take 16 (handlers.old.items ++ cons_option found []) }
 {
     if handlers.is_full() {
@@ -33,7 +34,7 @@ fn add(handlers: &mut ArrayVec<u16, 16>, found: Option<u16>)
 }
 
 /// The handlers of the values in these slots, at most 16.
-fn handlers_in(slots: &[Value], separate: &[usize]) -> ArrayVec<u16, 16>
+fn handlers_in(slots: &[Value], separate: &[usize]) -> ArrayVec<HandlerNumber, 16>
     ensures { result.items ≡ handlers_in slots.now separate.now }
 {
     let mut handlers = ArrayVec::new();

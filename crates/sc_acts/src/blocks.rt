@@ -11,6 +11,7 @@ use crate::operands::{has_actuals, last_values};
 use crate::stages::misfit;
 use crate::steps::go_past;
 use arrayvec::ArrayVec;
+use sc_lockpass::HandlerNumber;
 use sc_region::{Activation, Stage, Store, Value, Want};
 
 // ---- the heads of a block
@@ -78,7 +79,7 @@ fn open_top(store: &mut Store<'_>, first: usize, heads: &[Value])
 }
 
 /// The handler of the value, where it is an object.
-fn handler_of(value: Value) -> Option<u16>
+fn handler_of(value: Value) -> Option<HandlerNumber>
     ensures { result ≡ handler_of (Some value) }
 {
     match value {
@@ -88,7 +89,7 @@ fn handler_of(value: Value) -> Option<u16>
 }
 
 /// The handler that was found, if one was.
-fn add(handlers: &mut ArrayVec<u16, 16>, found: Option<u16>)
+fn add(handlers: &mut ArrayVec<HandlerNumber, 16>, found: Option<HandlerNumber>)
     requires { length handlers.old.items < 16 }
     ensures items { handlers.new.items ≡ handlers.old.items ++ cons_option found [] }
     ensures few { length handlers.new.items ≤ length handlers.old.items + 1 }
@@ -100,7 +101,7 @@ fn add(handlers: &mut ArrayVec<u16, 16>, found: Option<u16>)
 }
 
 /// The handlers of the values that are objects.
-fn handlers_of(values: &[Value]) -> ArrayVec<u16, 16>
+fn handlers_of(values: &[Value]) -> ArrayVec<HandlerNumber, 16>
     requires { length values.now ≤ 16 }
     ensures { result.items ≡ handlers_of values.now }
 {
@@ -132,7 +133,7 @@ pub fn open(store: &mut Store<'_>, first: usize, count: usize, asked: &mut Want)
 // ---- a block ends
 
 /// The innermost block, if there is one, is open no more; what it newly reserved is told.
-fn close_on(activation: &mut Activation) -> Option<ArrayVec<u16, 16>>
+fn close_on(activation: &mut Activation) -> Option<ArrayVec<HandlerNumber, 16>>
     ensures reserved { option_map (λ handlers. handlers.items) result ≡ innermost (activation_of activation.old).blocks }
     ensures closed { IfSome result (λ handlers. activation_of activation.new ≡ closing (activation_of activation.old)) }
     ensures same { IfNone result (activation_of activation.new ≡ activation_of activation.old) }
@@ -143,7 +144,7 @@ fn close_on(activation: &mut Activation) -> Option<ArrayVec<u16, 16>>
 }
 
 /// The same of the topmost routine.
-fn close_top(store: &mut Store<'_>) -> Option<ArrayVec<u16, 16>>
+fn close_top(store: &mut Store<'_>) -> Option<ArrayVec<HandlerNumber, 16>>
     ensures reserved { option_map (λ handlers. handlers.items) result ≡ innermost_in (top_activation store.old.frames) }
     ensures closed { IfSome result (λ handlers. store.new ≡ on_top closing store.old) }
     ensures same { IfNone result (store.new ≡ store.old) }

@@ -15,6 +15,7 @@ use crate::numbers::class_number;
 use crate::stages::misfit;
 use crate::steps::{pass, unless_failed};
 use crate::versions::routine_of;
+use sc_lockpass::HandlerNumber;
 use sc_model::Cause;
 use sc_region::{Activation, Reference, Store, Value, Want};
 use std::alloc::AllocError;
@@ -183,7 +184,7 @@ fn create_by(
 // ---- of the class of a number
 
 /// The reference to the next object of this handler; where no number can say which it is, to the last that one can.
-fn next_reference(store: &Store<'_>, handler: u16, class: u8) -> Reference
+fn next_reference(store: &Store<'_>, handler: HandlerNumber, class: u8) -> Reference
     ensures { result ≡ nearest_reference handler class store.now }
 {
     let number = store.object_count().min(u32::MAX as usize - 1) as u32 + 1;
@@ -222,7 +223,7 @@ fn create_by_name(
 /// has changed then.
 fn create_by_number(
     store: &mut Store<'_>,
-    handler: u16,
+    handler: HandlerNumber,
     class: u8,
     procedure: Option<usize>,
     count: usize,
@@ -246,7 +247,7 @@ fn create_by_number(
 /// no memory; nothing has changed then.
 pub fn create_object(
     store: &mut Store<'_>,
-    handler: u16,
+    handler: HandlerNumber,
     class: usize,
     procedure: Option<usize>,
     count: usize,

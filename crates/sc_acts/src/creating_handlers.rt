@@ -10,6 +10,7 @@ use crate::numbers::{class_number, procedure_number};
 use crate::operands::{has_actuals, last_values};
 use crate::stages::{await_if, misfit};
 use crate::steps::go_past;
+use sc_lockpass::HandlerNumber;
 use sc_region::{Activation, Reference, Store, Value, Want};
 
 /// Whether the routine has the operands of the creation, and room for the reference in their place.
@@ -75,7 +76,7 @@ fn begin(store: &mut Store<'_>, first: Reference, creation: RemoteCreation)
 #[inline(never)]
 pub fn create_handler(
     store: &mut Store<'_>,
-    handler: u16,
+    handler: HandlerNumber,
     creation: RemoteCreation,
     asked: &mut Want,
 )

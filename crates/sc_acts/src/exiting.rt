@@ -11,11 +11,12 @@ ghost use Rattle.sc_acts.specs.Turning.{unless_failed};
 use crate::steps::unless_failed;
 use arrayvec::ArrayVec;
 use sc_code::Program;
+use sc_lockpass::HandlerNumber;
 use sc_model::Cause;
 use sc_region::{Activation, Origin, Stage, Store, Value, Want};
 
 /// The same handlers.
-pub fn copy_handlers(handlers: &ArrayVec<u16, 16>) -> ArrayVec<u16, 16>
+pub fn copy_handlers(handlers: &ArrayVec<HandlerNumber, 16>) -> ArrayVec<HandlerNumber, 16>
     ensures { result.items ≡ handlers.now.items }
 {
     let mut copy = ArrayVec::new();
@@ -111,7 +112,7 @@ fn ask_returning(activation: &Activation, asked: &mut Want)
 /// The release of these handlers is asked. (A call of its own, since most routines have none: what it makes is big, and
 /// would be cleared at the end of each.)
 #[inline(never)]
-fn ask_release(reserved: &ArrayVec<u16, 16>, asked: &mut Want)
+fn ask_release(reserved: &ArrayVec<HandlerNumber, 16>, asked: &mut Want)
     ensures { asked.new ≡ want.Release (record { items = reserved.now.items }) }
 {
     *asked = Want::Release(copy_handlers(reserved));

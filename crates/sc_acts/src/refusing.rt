@@ -11,11 +11,12 @@ ghost use Rattle.sc_acts.specs.Turning.{unless_failed};
 use crate::exiting::{copy_handlers, meets};
 use crate::steps::unless_failed;
 use sc_code::Program;
+use sc_lockpass::HandlerNumber;
 use sc_model::Cause;
 use sc_region::{Activation, Origin, Reference, Stage, Store, Value, Want};
 
 /// Whether the handler is one of these.
-fn is_listed(handler: u16, handlers: &[u16]) -> bool
+fn is_listed(handler: HandlerNumber, handlers: &[HandlerNumber]) -> bool
     ensures { result ≡ is_among handler handlers.now }
 {
     handlers.iter().any(|other| *other == handler)

@@ -11,6 +11,7 @@ use crate::operands::{add_last_values, has_call};
 use crate::stages::{await_if, misfit};
 use crate::steps::go_past;
 use arrayvec::ArrayVec;
+use sc_lockpass::HandlerNumber;
 use sc_region::{Activation, Errand, Request, Store, Want};
 
 /// Whether the answer is waited for: that of a query, and of a call that passes locks.
@@ -21,7 +22,13 @@ fn is_waited(call: RemoteCall) -> bool
 }
 
 /// The call of the routine is asked, and waited for.
-fn ask_waited(activation: &Activation, poster: u16, call: RemoteCall, name: u32, asked: &mut Want)
+fn ask_waited(
+    activation: &Activation,
+    poster: HandlerNumber,
+    call: RemoteCall,
+    name: u32,
+    asked: &mut Want,
+)
     requires few { call.count < 17 }
     requires enough { call.count ≤ length (activation_of activation.now).operands.values }
     ensures { asked.new ≡ want.Ask (record (request_by poster call name (activation_of activation.now)) { is_waited = true }) call.passes }
@@ -42,7 +49,13 @@ fn ask_waited(activation: &Activation, poster: u16, call: RemoteCall, name: u32,
 }
 
 /// The call of the routine is asked, and not waited for.
-fn ask_posted(activation: &Activation, poster: u16, call: RemoteCall, name: u32, asked: &mut Want)
+fn ask_posted(
+    activation: &Activation,
+    poster: HandlerNumber,
+    call: RemoteCall,
+    name: u32,
+    asked: &mut Want,
+)
     requires few { call.count < 17 }
     requires enough { call.count ≤ length (activation_of activation.now).operands.values }
     ensures { asked.new ≡ want.Post (record (request_by poster call name (activation_of activation.now)) { is_waited = false }) }
@@ -61,7 +74,13 @@ fn ask_posted(activation: &Activation, poster: u16, call: RemoteCall, name: u32,
 
 /// The call of the routine is asked, by its name's number.
 #[tactic(auto, using(crate::proofs::Asked::asks_waited, crate::proofs::Asked::asks_posted))]
-fn ask_by(activation: &Activation, poster: u16, call: RemoteCall, name: u32, asked: &mut Want)
+fn ask_by(
+    activation: &Activation,
+    poster: HandlerNumber,
+    call: RemoteCall,
+    name: u32,
+    asked: &mut Want,
+)
     requires few { call.count < 17 }
     requires enough { call.count ≤ length (activation_of activation.now).operands.values }
     ensures { asked.new ≡ asks_sent (request_by poster call name (activation_of activation.now)) call.passes }
@@ -74,7 +93,12 @@ fn ask_by(activation: &Activation, poster: u16, call: RemoteCall, name: u32, ask
 }
 
 /// The call of the routine is asked, where its name has a number and its operands are there: whether it is.
-fn ask_of(activation: &Activation, poster: u16, call: RemoteCall, asked: &mut Want) -> bool
+fn ask_of(
+    activation: &Activation,
+    poster: HandlerNumber,
+    call: RemoteCall,
+    asked: &mut Want,
+) -> bool
     ensures told { result ≡ is_some (request_of poster call (activation_of activation.now)) }
     ensures few { IsTrue result → call.count < 17 }
     ensures want { IsTrue result → asked.new ≡ asks_sending (request_of poster call (activation_of activation.now)) call.passes }
@@ -90,7 +114,7 @@ fn ask_of(activation: &Activation, poster: u16, call: RemoteCall, asked: &mut Wa
 }
 
 /// The same of the topmost routine.
-fn ask_in(store: &Store<'_>, poster: u16, call: RemoteCall, asked: &mut Want) -> bool
+fn ask_in(store: &Store<'_>, poster: HandlerNumber, call: RemoteCall, asked: &mut Want) -> bool
     ensures told { result ≡ is_some (request_in poster call (top_activation store.now.frames)) }
     ensures few { IsTrue result → call.count < 17 }
     ensures want { IsTrue result → asked.new ≡ asks_sending (request_in poster call (top_activation store.now.frames)) call.passes }
@@ -134,7 +158,7 @@ fn send(store: &mut Store<'_>, call: RemoteCall)
 /// It stays a call: each turn would clear the request, if it were made where turns are done.
 #[inline(never)]
 #[tactic(auto, using(crate::proofs::Asked::sent_some, crate::proofs::Asked::sent_none, crate::proofs::Asked::asks_none))]
-pub fn request(store: &mut Store<'_>, handler: u16, call: RemoteCall, asked: &mut Want)
+pub fn request(store: &mut Store<'_>, handler: HandlerNumber, call: RemoteCall, asked: &mut Want)
     ensures store { store.new ≡ requested handler call store.old }
     ensures want { asked.new ≡ asks_requesting handler call (top_activation store.old.frames) }
 {

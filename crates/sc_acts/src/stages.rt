@@ -6,6 +6,7 @@ ghost use Rattle.sc_region.specs.Stores.{failed};
 ghost use Rattle.sc_region.specs.declared.job.Want.TheVariants as want;
 ghost use Rattle.sc_acts.specs.Requesting.{awaiting_if};
 
+use sc_lockpass::HandlerNumber;
 use sc_model::Cause;
 use sc_region::{Activation, Stage, Store, Want};
 
@@ -14,7 +15,7 @@ use sc_region::{Activation, Stage, Store, Want};
 pub fn await_if(
     activation: &mut Activation,
     waits: bool,
-    supplier: u16,
+    supplier: HandlerNumber,
     gives: bool,
     is_creation: bool,
 )

@@ -5,7 +5,7 @@ ghost use Rattle.sc_audit.specs.Internal.Steps.{Ends, GoesOn, IsKept, Takes, Tak
 
 use crate::line::RecordLine;
 use crate::writing::{LastLine, push_last_line};
-use sc_lockpass::Version;
+use sc_lockpass::{HandlerNumber, Version};
 use std::alloc::{AllocFailed, Global};
 use std::io;
 use thiserror::Error;
@@ -46,9 +46,9 @@ pub enum Expected {
     /// More digits of a handler's number, or the space behind it.
     Handler { number: u32 },
     /// How many turns the handler takes.
-    Turns { handler: u16 },
+    Turns { handler: HandlerNumber },
     /// More digits of that, or the end of the line.
-    MoreTurns { handler: u16, number: u32 },
+    MoreTurns { handler: HandlerNumber, number: u32 },
     /// The rest of the last line, of which so many bytes are read.
     LastLine { read: usize },
     Nothing,
@@ -231,7 +231,7 @@ impl Beginning {
     {
         if byte == b' ' {
             return Some(Expected::Turns {
-                handler: number as u16,
+                handler: number as HandlerNumber,
             });
         }
         if number == 0 || !byte.is_ascii_digit() {
@@ -246,7 +246,7 @@ impl Beginning {
     }
 
     /// What comes next behind a handler's number and a space.
-    fn after_space(&self, handler: u16, byte: u8) -> Option<Expected>
+    fn after_space(&self, handler: HandlerNumber, byte: u8) -> Option<Expected>
         requires kept { IsKept self.now }
         requires at { self.now.expected ≡ Expected.Turns handler }
         ensures { GoesOn self.now byte result }
@@ -263,7 +263,7 @@ impl Beginning {
     }
 
     /// What comes next behind digits of how many turns, within the line.
-    fn after_turns(&self, handler: u16, number: u32, byte: u8) -> Option<Expected>
+    fn after_turns(&self, handler: HandlerNumber, number: u32, byte: u8) -> Option<Expected>
         requires kept { IsKept self.now }
         requires at { self.now.expected ≡ Expected.MoreTurns handler number }
         requires goes_on { byte ≢ 10 }
@@ -281,7 +281,7 @@ impl Beginning {
     }
 
     /// Adds the line that ends here.
-    fn end_line(&mut self, handler: u16, number: u32) -> Result<(), ReadFault>
+    fn end_line(&mut self, handler: HandlerNumber, number: u32) -> Result<(), ReadFault>
         requires kept { IsKept self.old }
         requires at { self.old.expected ≡ Expected.MoreTurns handler number }
         ensures { Takes self.old 10 self.new result }

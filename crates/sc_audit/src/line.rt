@@ -1,10 +1,12 @@
 //! A line of a record.
 
+use sc_lockpass::HandlerNumber;
+
 /// A handler, and how many turns it takes.
 #[derive(Clone, Copy, PartialEq, Eq)]
 pub struct RecordLine {
     /// The number of the handler.
-    pub handler: u16,
+    pub handler: HandlerNumber,
     /// How many turns it takes.
     pub turns: u32,
 }

@@ -6,6 +6,7 @@ use crate::comparing::first_difference;
 use crate::lines::first_misfit;
 use crate::playing::play;
 use sc_code::Program;
+use sc_lockpass::HandlerNumber;
 use sc_plant::Left;
 use std::alloc::Global;
 use thiserror::Error;
@@ -18,7 +19,7 @@ pub enum AuditFault {
     BadRecord { line: u32 },
     /// A2: one thread that plays the record ends in something else. This handler is the least that differs.
     #[error("handler {handler} differs")]
-    Differs { handler: u16 },
+    Differs { handler: HandlerNumber },
     /// A9: there is no memory to play the record.
     #[error("out of memory")]
     OutOfMemory,

@@ -8,6 +8,7 @@ ghost use Rattle.sc_driver.specs.Execution.{IsThreadRun};
 
 use crate::execution::RunReport;
 use sc_code::Program;
+use sc_lockpass::HandlerNumber;
 use sc_model::Status;
 use sc_plant::laws::runs_are_one_threads;
 use sc_plant::{Gate, Left, RunFault, run};
@@ -26,9 +27,9 @@ pub struct Ended<'p> {
 struct Ungated;
 
 impl Gate for Ungated {
-    fn began(&self, _handler: u16) {}
+    fn began(&self, _handler: HandlerNumber) {}
 
-    fn ended(&self, _handler: u16) {}
+    fn ended(&self, _handler: HandlerNumber) {}
 }
 
 /// Runs a program by so many threads, the calling one among them, for so many turns at most, where there may be 512 handlers.
@@ -74,7 +75,7 @@ fn statuses_of_left(alloc: Global, left: &Left<'_>) -> Result<Vec<Status>, Alloc
 {
     let mut statuses = Vec::new(alloc);
     for handler in 0..left.core.handler_count() {
-        if let Some(status) = left.core.status(handler as u16) {
+        if let Some(status) = left.core.status(handler as HandlerNumber) {
             statuses.push(status)?;
         }
     }

@@ -8,6 +8,7 @@ use sc_code::{RoutineText, SiteKind, TextSite};
 use sc_excerpt::excerpt;
 use sc_explain_text::Lines;
 use sc_explain_waiting::{Asked, RunSource, asked_feature, push_feature, push_place};
+use sc_lockpass::HandlerNumber;
 use sc_model::{Cause, Status};
 use sc_region::{Breakdown, BrokenInvariant, Errand, Point};
 use sc_text::Span;
@@ -19,7 +20,7 @@ pub fn push_failing(
     origin: &RunSource<'_>,
     lines: &mut Lines,
     ended: &World<'_>,
-    handler: u16,
+    handler: HandlerNumber,
     cause: Cause,
     moment: Option<&Moment>,
 ) {
@@ -53,7 +54,7 @@ fn has_failed_by(status: Option<Status>, cause: Cause) -> bool {
 }
 
 /// What the handler was asked for that it serves in the end.
-fn asked_of(ended: &World<'_>, handler: u16) -> Option<Asked> {
+fn asked_of(ended: &World<'_>, handler: HandlerNumber) -> Option<Asked> {
     let log = ended.log();
     Some(served_before(log, handler, log.len())?.asked)
 }
@@ -206,7 +207,7 @@ fn end_place(origin: &RunSource<'_>, lines: &mut Lines, span: Span) {
 }
 
 /// Adds which handler one needed that failed by this cause behind an operation.
-fn push_needed(lines: &mut Lines, ended: &World<'_>, handler: u16, cause: Cause) {
+fn push_needed(lines: &mut Lines, ended: &World<'_>, handler: HandlerNumber, cause: Cause) {
     let what = match cause {
         Cause::SupplierFailed => ", which has failed\n",
         Cause::Precondition => ", which refused\n",

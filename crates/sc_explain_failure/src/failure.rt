@@ -9,7 +9,7 @@ use sc_code::Program;
 use sc_explain::find;
 use sc_explain_text::{Lines, let_go, system_of};
 use sc_explain_waiting::{RunSource, push_waits};
-use sc_lockpass::Version;
+use sc_lockpass::{HandlerNumber, Version};
 use sc_model::{Cause, Status};
 use sc_source::source::Source;
 use sc_tree::Class;
@@ -123,7 +123,7 @@ fn push_failures(
 ) {
     for (handler, status) in statuses.iter().enumerate() {
         if let Status::Failed(cause) = status {
-            let number = handler.min(u16::MAX as usize) as u16;
+            let number = handler.min(u16::MAX as usize) as HandlerNumber;
             push_cause(lines, handler, *cause);
             push_failing(
                 origin,
@@ -148,7 +148,7 @@ fn push_refusals(lines: &mut Lines, moments: &[Moment]) {
 }
 
 /// What there was in front of the failure of a handler.
-fn failure_of(moments: &[Moment], handler: u16) -> Option<&Moment> {
+fn failure_of(moments: &[Moment], handler: HandlerNumber) -> Option<&Moment> {
     for moment in moments {
         if moment.kind == Kind::Failure && moment.handler == handler {
             return Some(moment);

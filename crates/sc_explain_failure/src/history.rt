@@ -2,6 +2,7 @@
 
 use sc_explain_waiting::{Asked, asked_by};
 use sc_handler::Log;
+use sc_lockpass::HandlerNumber;
 use sc_model::Cause;
 use sc_region::{Errand, Job, Value, Want};
 
@@ -39,7 +40,7 @@ pub struct Served {
 #[derive(Clone, Copy)]
 pub enum Ended {
     /// It asked this handler for something.
-    Asks(u16),
+    Asks(HandlerNumber),
     /// A handler was to be created.
     Creates,
     /// Handlers were to be reserved.
@@ -101,7 +102,7 @@ fn ended_by(want: &Want) -> Ended {
 }
 
 /// The place of the last turn of a handler in front of a place.
-pub fn last_before(log: &Log, handler: u16, end: usize) -> Option<usize> {
+pub fn last_before(log: &Log, handler: HandlerNumber, end: usize) -> Option<usize> {
     for place in (0..end).rev() {
         if log.handler_at(place) == Some(handler) {
             return Some(place);
@@ -111,7 +112,7 @@ pub fn last_before(log: &Log, handler: u16, end: usize) -> Option<usize> {
 }
 
 /// The request that the handler has taken last in front of a place among those that haven't ended.
-pub fn served_before(log: &Log, handler: u16, end: usize) -> Option<Served> {
+pub fn served_before(log: &Log, handler: HandlerNumber, end: usize) -> Option<Served> {
     let mut ended = 0_usize;
     for place in (0..end).rev() {
         if log.handler_at(place) == Some(handler) {
@@ -131,7 +132,7 @@ pub fn served_before(log: &Log, handler: u16, end: usize) -> Option<Served> {
 }
 
 /// The handler that was last created for this one, and has begun.
-pub fn created_last(log: &Log, creator: u16) -> Option<u16> {
+pub fn created_last(log: &Log, creator: HandlerNumber) -> Option<HandlerNumber> {
     for place in (0..log.len()).rev() {
         if let Begun::Takes(served) = turn_at(log, place)?.begun
             && served.asked.poster == Some(creator)

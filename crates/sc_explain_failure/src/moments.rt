@@ -9,6 +9,7 @@ use sc_explain_waiting::{
     push_operation_values, push_request, push_stand,
 };
 use sc_handler::Log;
+use sc_lockpass::HandlerNumber;
 use sc_model::{Cause, Status};
 use sc_region::BrokenInvariant;
 use sc_world::World;
@@ -32,7 +33,7 @@ pub enum Kind {
 /// A turn of a run, and what there was in front of it, in words.
 #[derive(Drop)]
 pub struct Moment {
-    pub handler: u16,
+    pub handler: HandlerNumber,
     pub kind: Kind,
     /// Its place in the log.
     place: usize,
@@ -51,8 +52,8 @@ pub fn moments_of(
 ) -> Result<Vec<Moment>, AllocError> {
     let mut moments = Vec::new(origin.alloc);
     for handler in 0..ended.handler_count().min(u16::MAX as usize) {
-        add_failure(origin.alloc, &mut moments, ended, handler as u16)?;
-        add_refusals(origin.alloc, &mut moments, ended, handler as u16)?;
+        add_failure(origin.alloc, &mut moments, ended, handler as HandlerNumber)?;
+        add_refusals(origin.alloc, &mut moments, ended, handler as HandlerNumber)?;
     }
     if !moments.is_empty() {
         tell_of(origin, ended, played, &mut moments)?;
@@ -64,7 +65,7 @@ fn add_failure(
     alloc: Global,
     moments: &mut Vec<Moment>,
     ended: &World<'_>,
-    handler: u16,
+    handler: HandlerNumber,
 ) -> Result<(), AllocError> {
     if let Some(Status::Failed(_)) = ended.status(handler)
         && let Some(place) = last_before(ended.log(), handler, ended.log().len())
@@ -79,7 +80,7 @@ fn add_refusals(
     alloc: Global,
     moments: &mut Vec<Moment>,
     ended: &World<'_>,
-    handler: u16,
+    handler: HandlerNumber,
 ) -> Result<(), AllocError> {
     if ended.core().refused(handler).unwrap_or(0) == 0 {
         return Ok(());
@@ -96,7 +97,7 @@ fn add_refusals(
 fn add(
     alloc: Global,
     moments: &mut Vec<Moment>,
-    handler: u16,
+    handler: HandlerNumber,
     kind: Kind,
     place: usize,
 ) -> Result<(), AllocError> {
@@ -115,7 +116,7 @@ fn add(
 }
 
 /// Whether a handler refuses a request by the turn at a place for which nobody waits.
-fn is_refusal(log: &Log, handler: u16, place: usize) -> bool {
+fn is_refusal(log: &Log, handler: HandlerNumber, place: usize) -> bool {
     match turn_at(log, place) {
         Some(turn) if matches!(turn.ended, Ended::Done { is_refused: true }) => {
             match served_before(log, handler, place) {
@@ -298,7 +299,7 @@ impl<'o> Before<'o> {
 }
 
 /// Who waits for the end of a request.
-fn client_of(served: &Served) -> Option<u16> {
+fn client_of(served: &Served) -> Option<HandlerNumber> {
     if served.is_waited {
         served.asked.poster
     } else {

@@ -1,12 +1,13 @@
 //! Which handler a failed one needed.
 
 use crate::history::{Ended, created_last, turn_at};
+use sc_lockpass::HandlerNumber;
 use sc_model::Status;
 use sc_region::Want;
 use sc_world::World;
 
 /// The handler that this one asked last, or a failed one of those that it was to reserve last.
-pub fn supplier_of(world: &World<'_>, handler: u16) -> Option<u16> {
+pub fn supplier_of(world: &World<'_>, handler: HandlerNumber) -> Option<HandlerNumber> {
     let log = world.log();
     for place in (0..log.len()).rev() {
         if log.handler_at(place) == Some(handler) {
@@ -22,7 +23,7 @@ pub fn supplier_of(world: &World<'_>, handler: u16) -> Option<u16> {
 }
 
 /// The first failed handler of those that are to be reserved by the turn at a place.
-fn failed_at(world: &World<'_>, place: usize) -> Option<u16> {
+fn failed_at(world: &World<'_>, place: usize) -> Option<HandlerNumber> {
     let settlement = world.log().get(place)?;
     match &settlement.want {
         Want::Reserve(handlers) => failed_among(world, handlers.as_slice()),
@@ -30,7 +31,7 @@ fn failed_at(world: &World<'_>, place: usize) -> Option<u16> {
     }
 }
 
-fn failed_among(world: &World<'_>, handlers: &[u16]) -> Option<u16> {
+fn failed_among(world: &World<'_>, handlers: &[HandlerNumber]) -> Option<HandlerNumber> {
     for handler in handlers {
         if let Some(Status::Failed(_)) = world.status(*handler) {
             return Some(*handler);

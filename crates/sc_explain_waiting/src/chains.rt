@@ -1,6 +1,7 @@
 //! Who waits for whom: cycles, and the chains that lead to them or to one that waits for something else.
 
 use crate::waits::{Wait, keeper_in};
+use sc_lockpass::HandlerNumber;
 use sc_request::Core;
 use std::alloc::{AllocError, Global};
 
@@ -8,7 +9,7 @@ use std::alloc::{AllocError, Global};
 /// there is such a one.
 #[derive(Drop)]
 pub struct Chains {
-    next: Vec<Option<u16>>,
+    next: Vec<Option<HandlerNumber>>,
 }
 
 impl Chains {
@@ -22,18 +23,18 @@ impl Chains {
     }
 
     /// The waiting handler that keeps this one waiting.
-    pub fn next(&self, handler: u16) -> Option<u16> {
+    pub fn next(&self, handler: HandlerNumber) -> Option<HandlerNumber> {
         *self.next.get(handler as usize)?
     }
 
     /// Whether a waiting handler waits for this one.
-    pub fn is_waited_for(&self, handler: u16) -> bool {
+    pub fn is_waited_for(&self, handler: HandlerNumber) -> bool {
         self.next.iter().any(|next| *next == Some(handler))
     }
 
     /// The handlers from this one on, each of which waits for the next: until one waits for none of the waiting, or for one
     /// that is among them.
-    fn chain(&self, alloc: Global, from: u16) -> Result<Vec<u16>, AllocError> {
+    fn chain(&self, alloc: Global, from: HandlerNumber) -> Result<Vec<HandlerNumber>, AllocError> {
         let mut chain = Vec::new(alloc);
         let mut at = from;
         for _step in 0..self.next.len() {
@@ -47,7 +48,11 @@ impl Chains {
     }
 
     /// The cycle in which this handler waits for itself, beginning with it, if there is one.
-    pub fn cycle(&self, alloc: Global, from: u16) -> Result<Option<Vec<u16>>, AllocError> {
+    pub fn cycle(
+        &self,
+        alloc: Global,
+        from: HandlerNumber,
+    ) -> Result<Option<Vec<HandlerNumber>>, AllocError> {
         let chain = self.chain(alloc, from)?;
         let last = chain.last().copied().unwrap_or(from);
         Ok(if self.next(last) == Some(from) {
@@ -58,7 +63,7 @@ impl Chains {
     }
 }
 
-fn contains(handlers: &[u16], handler: u16) -> bool {
+fn contains(handlers: &[HandlerNumber], handler: HandlerNumber) -> bool {
     handlers.iter().any(|other| *other == handler)
 }
 
@@ -72,7 +77,7 @@ fn waiting_set(alloc: Global, waits: &[Wait]) -> Result<Vec<bool>, AllocError> {
 }
 
 /// Sets for each handler the first in the set that keeps it waiting, where there is one.
-fn set_keepers(core: &Core, waits: &[Wait], set: &[bool], next: &mut [Option<u16>]) {
+fn set_keepers(core: &Core, waits: &[Wait], set: &[bool], next: &mut [Option<HandlerNumber>]) {
     for handler in 0..number_of(waits) {
         let keeper = first_of(core, waits, handler, set);
         if let Some(place) = next.get_mut(handler as usize)
@@ -89,7 +94,12 @@ pub fn number_of(waits: &[Wait]) -> u16 {
 }
 
 /// The first of those that keep a handler waiting that is in the set.
-fn first_of(core: &Core, waits: &[Wait], handler: u16, set: &[bool]) -> Option<u16> {
+fn first_of(
+    core: &Core,
+    waits: &[Wait],
+    handler: HandlerNumber,
+    set: &[bool],
+) -> Option<HandlerNumber> {
     keeper_in(core, handler, *waits.get(handler as usize)?, set)
 }
 

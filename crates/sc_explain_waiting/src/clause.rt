@@ -6,6 +6,7 @@ use crate::origin::RunSource;
 use crate::waits::standing_of;
 use sc_code::{FeatureCode, SiteKind};
 use sc_explain_text::Lines;
+use sc_lockpass::HandlerNumber;
 use sc_region::{Reference, Value};
 use sc_text::Span;
 use sc_world::World;
@@ -19,7 +20,7 @@ pub fn push_false_clause(
     origin: &RunSource<'_>,
     lines: &mut Lines,
     world: &World<'_>,
-    handler: u16,
+    handler: HandlerNumber,
 ) {
     if let Some(mut evaluation) = Evaluation::standing(origin.alloc, world, handler) {
         if evaluation.reaches(Start::Place(0), Until::FalseClause) {
@@ -37,7 +38,7 @@ pub fn push_operation_values(
     origin: &RunSource<'_>,
     lines: &mut Lines,
     world: &World<'_>,
-    handler: u16,
+    handler: HandlerNumber,
     answer: Option<Value>,
     place: usize,
 ) {

@@ -2,6 +2,7 @@
 
 use crate::frame::{Frame, Values};
 use sc_code::{CallSite, FeatureCode, Operation, Program};
+use sc_lockpass::HandlerNumber;
 use sc_region::{Reference, Value};
 use sc_world::World;
 use std::alloc::Global;
@@ -64,7 +65,11 @@ pub struct Evaluation<'r> {
 
 impl<'r> Evaluation<'r> {
     /// The topmost routine of a handler, as it stands.
-    pub fn standing(alloc: Global, world: &'r World<'r>, handler: u16) -> Option<Evaluation<'r>> {
+    pub fn standing(
+        alloc: Global,
+        world: &'r World<'r>,
+        handler: HandlerNumber,
+    ) -> Option<Evaluation<'r>> {
         let store = world.region(handler)?.store();
         let top = store.top()?;
         let current = store.current()?;

@@ -3,6 +3,7 @@
 use crate::origin::RunSource;
 use crate::waits::standing_of;
 use sc_explain_text::Lines;
+use sc_lockpass::HandlerNumber;
 use sc_region::{Activation, Errand, Request, Stage};
 use sc_source::source::Place;
 use sc_text::Span;
@@ -19,13 +20,21 @@ pub struct Stand<'r> {
 }
 
 /// The class of the root object of a handler, if there is one.
-fn root_class<'r>(origin: &RunSource<'r>, world: &World<'_>, handler: u16) -> Option<&'r str> {
+fn root_class<'r>(
+    origin: &RunSource<'r>,
+    world: &World<'_>,
+    handler: HandlerNumber,
+) -> Option<&'r str> {
     let class = world.region(handler)?.store().class_of(1)?;
     origin.class_name(class as usize)
 }
 
 /// Where a handler stands, if it has frames.
-pub fn stand_of<'r>(origin: &RunSource<'r>, world: &World<'_>, handler: u16) -> Option<Stand<'r>> {
+pub fn stand_of<'r>(
+    origin: &RunSource<'r>,
+    world: &World<'_>,
+    handler: HandlerNumber,
+) -> Option<Stand<'r>> {
     let standing = standing_of(world, handler)?;
     let text = origin.text_of(standing.routine)?;
     let site = text.sites.get(standing.place)?;
@@ -43,7 +52,7 @@ pub fn stand_of<'r>(origin: &RunSource<'r>, world: &World<'_>, handler: u16) -> 
 /// What is asked for, and by whom.
 #[derive(Clone, Copy)]
 pub struct Asked {
-    pub poster: Option<u16>,
+    pub poster: Option<HandlerNumber>,
     /// The number of the class whose object it is asked of.
     pub class: usize,
     pub errand: Errand,
@@ -68,7 +77,12 @@ pub fn asked_feature(origin: &RunSource<'_>, asked: &Asked) -> Option<Span> {
 }
 
 /// Adds the number of a handler, and the class of its root object.
-pub fn push_name(origin: &RunSource<'_>, lines: &mut Lines, world: &World<'_>, handler: u16) {
+pub fn push_name(
+    origin: &RunSource<'_>,
+    lines: &mut Lines,
+    world: &World<'_>,
+    handler: HandlerNumber,
+) {
     lines.push_number(u64::from(handler));
     if let Some(class) = root_class(origin, world, handler) {
         lines.push_all(&[" (", class, ")"]);
@@ -97,7 +111,12 @@ pub fn push_request(origin: &RunSource<'_>, lines: &mut Lines, world: &World<'_>
 }
 
 /// Adds where a handler stands in the text, if it has frames.
-pub fn push_stand(origin: &RunSource<'_>, lines: &mut Lines, world: &World<'_>, handler: u16) {
+pub fn push_stand(
+    origin: &RunSource<'_>,
+    lines: &mut Lines,
+    world: &World<'_>,
+    handler: HandlerNumber,
+) {
     if let Some(stand) = stand_of(origin, world, handler)
         && let Some(place) = origin.source.place_of(stand.span.start)
     {
@@ -109,7 +128,12 @@ pub fn push_stand(origin: &RunSource<'_>, lines: &mut Lines, world: &World<'_>, 
 
 /// Adds where the routine stands that has called the one that a handler has come to, and where that is which has called that one,
 /// and so on, the innermost first, each on a line: as far as they serve the same request.
-pub fn push_callers(origin: &RunSource<'_>, lines: &mut Lines, world: &World<'_>, handler: u16) {
+pub fn push_callers(
+    origin: &RunSource<'_>,
+    lines: &mut Lines,
+    world: &World<'_>,
+    handler: HandlerNumber,
+) {
     for count in 0..MOST_CALLERS {
         match caller_in(world, handler, count) {
             Some(caller) => push_caller(origin, lines, caller),
@@ -122,7 +146,11 @@ pub fn push_callers(origin: &RunSource<'_>, lines: &mut Lines, world: &World<'_>
 }
 
 /// The caller of a handler's topmost routine from which so many others lead to that one, as far as they serve the same request.
-fn caller_in<'w>(world: &'w World<'_>, handler: u16, count: usize) -> Option<&'w Activation> {
+fn caller_in<'w>(
+    world: &'w World<'_>,
+    handler: HandlerNumber,
+    count: usize,
+) -> Option<&'w Activation> {
     let caller = world
         .region(handler)?
         .store()

@@ -6,6 +6,7 @@ use crate::naming::{asked_by, push_name, push_request, push_stand, stand_of};
 use crate::origin::RunSource;
 use crate::waits::{Wait, keeper_of};
 use sc_explain_text::Lines;
+use sc_lockpass::HandlerNumber;
 use sc_model::Status;
 use sc_world::World;
 
@@ -28,7 +29,7 @@ impl<'o, 'r> Scene<'o, 'r> {
     }
 
     /// What a handler waits for.
-    pub fn wait(&self, handler: u16) -> Wait {
+    pub fn wait(&self, handler: HandlerNumber) -> Wait {
         self.waits
             .get(handler as usize)
             .copied()
@@ -36,12 +37,12 @@ impl<'o, 'r> Scene<'o, 'r> {
     }
 
     /// Whether a handler waits.
-    pub fn is_waiting(&self, handler: u16) -> bool {
+    pub fn is_waiting(&self, handler: HandlerNumber) -> bool {
         self.wait(handler).is_waiting()
     }
 
     /// Adds a cycle of handlers, and how they wait for each other.
-    pub fn push_cycle(&self, lines: &mut Lines, cycle: &[u16]) {
+    pub fn push_cycle(&self, lines: &mut Lines, cycle: &[HandlerNumber]) {
         lines.push("deadlock: ");
         for member in cycle {
             lines.push_number(u64::from(*member));
@@ -52,7 +53,7 @@ impl<'o, 'r> Scene<'o, 'r> {
     }
 
     /// How the members of a cycle wait for each other.
-    fn kind_of(&self, cycle: &[u16]) -> &'static str {
+    fn kind_of(&self, cycle: &[HandlerNumber]) -> &'static str {
         let mut answers = 0_usize;
         for member in cycle {
             if matches!(self.wait(*member), Wait::Answer(_)) {
@@ -79,7 +80,7 @@ impl<'o, 'r> Scene<'o, 'r> {
     }
 
     /// Adds a chain of handlers, where it has several: each waits for the next.
-    pub fn push_chain(&self, lines: &mut Lines, chain: &[u16]) {
+    pub fn push_chain(&self, lines: &mut Lines, chain: &[HandlerNumber]) {
         if chain.len() < 2 {
             return;
         }
@@ -91,7 +92,7 @@ impl<'o, 'r> Scene<'o, 'r> {
     }
 
     /// Adds a handler: what it holds, what it waits for, and where it stands.
-    pub fn push_handler(&self, lines: &mut Lines, handler: u16) {
+    pub fn push_handler(&self, lines: &mut Lines, handler: HandlerNumber) {
         lines.push("handler ");
         self.push_name(lines, handler);
         self.push_held(lines, handler);
@@ -104,7 +105,7 @@ impl<'o, 'r> Scene<'o, 'r> {
     }
 
     /// Adds what a handler waits for.
-    fn push_wait(&self, lines: &mut Lines, handler: u16) {
+    fn push_wait(&self, lines: &mut Lines, handler: HandlerNumber) {
         match self.wait(handler) {
             Wait::Nothing => {}
             Wait::Busy => self.push_busy(lines, handler),
@@ -120,12 +121,12 @@ impl<'o, 'r> Scene<'o, 'r> {
         }
     }
 
-    fn push_name(&self, lines: &mut Lines, handler: u16) {
+    fn push_name(&self, lines: &mut Lines, handler: HandlerNumber) {
         push_name(self.origin, lines, self.world, handler)
     }
 
     /// Adds the handlers that this one holds.
-    fn push_held(&self, lines: &mut Lines, holder: u16) {
+    fn push_held(&self, lines: &mut Lines, holder: HandlerNumber) {
         let mut count = 0_usize;
         for handler in 0..self.count() {
             if self.world.core().holder(handler) == Some(holder) {
@@ -143,7 +144,7 @@ impl<'o, 'r> Scene<'o, 'r> {
     }
 
     /// Adds what a handler waits to reserve, and who keeps it from each.
-    fn push_wanted(&self, lines: &mut Lines, handler: u16) {
+    fn push_wanted(&self, lines: &mut Lines, handler: HandlerNumber) {
         let needed = self.world.core().needed_by(handler);
         for (place, one) in needed.as_slice().iter().enumerate() {
             lines.push(if place == 0 {
@@ -157,7 +158,7 @@ impl<'o, 'r> Scene<'o, 'r> {
     }
 
     /// Adds who keeps others from reserving a handler.
-    fn push_keeper(&self, lines: &mut Lines, handler: u16) {
+    fn push_keeper(&self, lines: &mut Lines, handler: HandlerNumber) {
         match keeper_of(self.world.core(), handler) {
             None => {}
             Some(keeper) if keeper == handler => lines.push(self.unready(keeper)),
@@ -169,7 +170,7 @@ impl<'o, 'r> Scene<'o, 'r> {
     }
 
     /// Why a handler can't be reserved that nobody holds.
-    fn unready(&self, handler: u16) -> &'static str {
+    fn unready(&self, handler: HandlerNumber) -> &'static str {
         match self.world.status(handler) {
             Some(Status::Busy) => ", which is busy",
             _ => ", which waits itself",
@@ -177,7 +178,7 @@ impl<'o, 'r> Scene<'o, 'r> {
     }
 
     /// Adds what a handler has to do.
-    fn push_busy(&self, lines: &mut Lines, handler: u16) {
+    fn push_busy(&self, lines: &mut Lines, handler: HandlerNumber) {
         lines.push(" is busy");
         if let Some(request) = self.world.core().first_asked(handler)
             && stand_of(self.origin, self.world, handler).is_none()
@@ -188,7 +189,7 @@ impl<'o, 'r> Scene<'o, 'r> {
     }
 
     /// Adds which requests stand at a handler that waits, if any do: whether some do.
-    pub fn push_requests(&self, lines: &mut Lines, handler: u16) -> bool {
+    pub fn push_requests(&self, lines: &mut Lines, handler: HandlerNumber) -> bool {
         let count = self.world.core().queue_len(handler);
         let Some(request) = self.world.core().first_asked(handler) else {
             return false;

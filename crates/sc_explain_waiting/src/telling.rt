@@ -5,6 +5,7 @@ use crate::origin::RunSource;
 use crate::scene::Scene;
 use crate::waits::{Wait, waits_in};
 use sc_explain_text::Lines;
+use sc_lockpass::HandlerNumber;
 use sc_world::World;
 use std::alloc::AllocError;
 
@@ -63,7 +64,7 @@ impl Note {
         Ok(())
     }
 
-    fn tell_cycle(&mut self, lines: &mut Lines, scene: &Scene<'_, '_>, cycle: &[u16]) {
+    fn tell_cycle(&mut self, lines: &mut Lines, scene: &Scene<'_, '_>, cycle: &[HandlerNumber]) {
         scene.push_cycle(lines, cycle);
         for member in cycle {
             self.mark(*member);
@@ -98,7 +99,11 @@ impl Note {
 
     /// The handlers from this one on, each of which waits for the next: up to one that was told of, or that waits for nobody who
     /// waits.
-    fn chain_from(&self, scene: &Scene<'_, '_>, handler: u16) -> Result<Vec<u16>, AllocError> {
+    fn chain_from(
+        &self,
+        scene: &Scene<'_, '_>,
+        handler: HandlerNumber,
+    ) -> Result<Vec<HandlerNumber>, AllocError> {
         let mut chain = vec![in scene.origin.alloc; handler]?;
         let mut at = handler;
         for _step in 0..scene.waits.len() {
@@ -114,7 +119,7 @@ impl Note {
         Ok(chain)
     }
 
-    fn tell_chain(&mut self, lines: &mut Lines, scene: &Scene<'_, '_>, chain: &[u16]) {
+    fn tell_chain(&mut self, lines: &mut Lines, scene: &Scene<'_, '_>, chain: &[HandlerNumber]) {
         if self.room > 0 {
             scene.push_chain(lines, chain);
         }
@@ -134,7 +139,7 @@ impl Note {
     }
 
     /// A handler, where it wasn't told of and there is room.
-    fn tell(&mut self, lines: &mut Lines, scene: &Scene<'_, '_>, handler: u16) {
+    fn tell(&mut self, lines: &mut Lines, scene: &Scene<'_, '_>, handler: HandlerNumber) {
         if self.is_told(handler) {
             return;
         }
@@ -147,11 +152,11 @@ impl Note {
         }
     }
 
-    fn is_told(&self, handler: u16) -> bool {
+    fn is_told(&self, handler: HandlerNumber) -> bool {
         self.told.get(handler as usize).copied().unwrap_or(true)
     }
 
-    fn mark(&mut self, handler: u16) {
+    fn mark(&mut self, handler: HandlerNumber) {
         if let Some(place) = self.told.get_mut(handler as usize) {
             *place = true;
         }

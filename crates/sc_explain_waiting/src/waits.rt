@@ -1,5 +1,6 @@
 //! What each handler waits for.
 
+use sc_lockpass::HandlerNumber;
 use sc_model::Status;
 use sc_region::Stage;
 use sc_request::Core;
@@ -18,7 +19,7 @@ pub enum Wait {
     /// It could reserve them, but a wait condition was false when it last did.
     Condition,
     /// For the answer of this handler.
-    Answer(u16),
+    Answer(HandlerNumber),
 }
 
 impl Wait {
@@ -29,7 +30,12 @@ impl Wait {
 }
 
 /// The first of those that keep a handler waiting that is in the set.
-pub fn keeper_in(core: &Core, handler: u16, wait: Wait, set: &[bool]) -> Option<u16> {
+pub fn keeper_in(
+    core: &Core,
+    handler: HandlerNumber,
+    wait: Wait,
+    set: &[bool],
+) -> Option<HandlerNumber> {
     match wait {
         Wait::Reservation => holder_in(core, handler, set),
         Wait::Answer(supplier) if is_in(set, supplier) => Some(supplier),
@@ -38,7 +44,7 @@ pub fn keeper_in(core: &Core, handler: u16, wait: Wait, set: &[bool]) -> Option<
 }
 
 /// The first of those that keep a handler from what it is to reserve that is in the set.
-fn holder_in(core: &Core, handler: u16, set: &[bool]) -> Option<u16> {
+fn holder_in(core: &Core, handler: HandlerNumber, set: &[bool]) -> Option<HandlerNumber> {
     let needed = core.needed_by(handler);
     for one in needed.as_slice() {
         if let Some(keeper) = keeper_of(core, *one)
@@ -50,12 +56,12 @@ fn holder_in(core: &Core, handler: u16, set: &[bool]) -> Option<u16> {
     None
 }
 
-fn is_in(set: &[bool], handler: u16) -> bool {
+fn is_in(set: &[bool], handler: HandlerNumber) -> bool {
     set.get(handler as usize).copied().unwrap_or(false)
 }
 
 /// Who keeps others from reserving a handler: the one that holds it, or itself where it isn't idle. None where it can be had.
-pub fn keeper_of(core: &Core, handler: u16) -> Option<u16> {
+pub fn keeper_of(core: &Core, handler: HandlerNumber) -> Option<HandlerNumber> {
     match (core.holder(handler), core.status(handler)) {
         (Some(holder), _) => Some(holder),
         (None, Some(Status::Busy | Status::Waiting)) => Some(handler),
@@ -67,12 +73,12 @@ pub fn keeper_of(core: &Core, handler: u16) -> Option<u16> {
 pub fn waits_in(alloc: Global, world: &World<'_>) -> Result<Vec<Wait>, AllocError> {
     let mut waits = Vec::new(alloc);
     for handler in 0..world.handler_count().min(u16::MAX as usize) {
-        waits.push(wait_of(world, handler as u16))?;
+        waits.push(wait_of(world, handler as HandlerNumber))?;
     }
     Ok(waits)
 }
 
-fn wait_of(world: &World<'_>, handler: u16) -> Wait {
+fn wait_of(world: &World<'_>, handler: HandlerNumber) -> Wait {
     match world.status(handler) {
         Some(Status::Busy) => Wait::Busy,
         Some(Status::Waiting) => wait_in(world.core(), handler),
@@ -81,7 +87,7 @@ fn wait_of(world: &World<'_>, handler: u16) -> Wait {
 }
 
 /// What a handler waits for that has nothing to do and isn't free.
-fn wait_in(core: &Core, handler: u16) -> Wait {
+fn wait_in(core: &Core, handler: HandlerNumber) -> Wait {
     match core.awaits(handler) {
         Some(supplier) => Wait::Answer(supplier),
         None if core.is_put_off(handler) && is_unkept(core, handler) => Wait::Condition,
@@ -90,7 +96,7 @@ fn wait_in(core: &Core, handler: u16) -> Wait {
 }
 
 /// Whether a handler can have all that it needs.
-fn is_unkept(core: &Core, handler: u16) -> bool {
+fn is_unkept(core: &Core, handler: HandlerNumber) -> bool {
     let needed = core.needed_by(handler);
     for one in needed.as_slice() {
         if keeper_of(core, *one).is_some() {
@@ -110,7 +116,7 @@ pub struct Standing {
 }
 
 /// Where a handler stands, if it has frames.
-pub fn standing_of(world: &World<'_>, handler: u16) -> Option<Standing> {
+pub fn standing_of(world: &World<'_>, handler: HandlerNumber) -> Option<Standing> {
     let top = world.region(handler)?.store().top()?;
     let is_behind = matches!(top.stage, Stage::ReservesBlock | Stage::Awaits { .. });
     Some(Standing {

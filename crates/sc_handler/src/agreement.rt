@@ -3,13 +3,14 @@ ghost use Rattle.std.specs.Prelude.{◌≡◌, ◌≤◌, ◌↔◌, IsTrue, len
 ghost use Rattle.sc_handler.specs.Packed.{actuals_in_job, actuals_in_want, first_of_all, handlers_in_job, handlers_in_want, job_beside, unpacked_request, want_beside};
 
 use crate::packed::{PackedJob, PackedRequest, PackedWant};
+use sc_lockpass::HandlerNumber;
 use sc_region::{Errand, Value};
 
 /// What lies beside the entries of a log, from the place on where that of a job or of a want begins.
 #[derive(Clone, Copy)]
 pub(crate) struct Beside<'a> {
     pub(crate) actuals: &'a [Value],
-    pub(crate) handlers: &'a [u16],
+    pub(crate) handlers: &'a [HandlerNumber],
 }
 
 /// Whether two jobs are the same.
@@ -67,7 +68,12 @@ fn same_actuals(actuals: &[Value], count: u8, its: &[Value], its_count: u8) -> b
 }
 
 /// Whether so many of some handlers are as many of others.
-fn same_handlers(handlers: &[u16], count: u8, its: &[u16], its_count: u8) -> bool
+fn same_handlers(
+    handlers: &[HandlerNumber],
+    count: u8,
+    its: &[HandlerNumber],
+    its_count: u8,
+) -> bool
     requires there { count ≤ length handlers.now }
     requires its_there { its_count ≤ length its.now }
     ensures { IsTrue result ↔ first_of_all count handlers.now ≡ first_of_all its_count its.now }

@@ -2,6 +2,7 @@
 ghost use Rattle.std.specs.Prelude.{◌≡◌};
 
 use arrayvec::ArrayVec;
+use sc_lockpass::HandlerNumber;
 use sc_region::{Request, Value};
 
 /// The same request once more.
@@ -45,7 +46,7 @@ pub fn copy_values(values: &ArrayVec<Value, 16>) -> ArrayVec<Value, 16>
 }
 
 /// The same handlers once more.
-pub fn copy_handlers(handlers: &ArrayVec<u16, 16>) -> ArrayVec<u16, 16>
+pub fn copy_handlers(handlers: &ArrayVec<HandlerNumber, 16>) -> ArrayVec<HandlerNumber, 16>
     ensures { result ≡ handlers.now }
 {
     let mut copy = ArrayVec::new();

@@ -7,6 +7,7 @@ ghost use Rattle.sc_handler.specs.Kinds.{of_kind};
 
 use crate::handler::HandlerStage;
 use crate::job_kind::JobKind;
+use sc_lockpass::HandlerNumber;
 use sc_model::Cause;
 use sc_region::{Errand, Request, Want};
 
@@ -95,7 +96,7 @@ fn goes_on(kind: &JobKind) -> bool
 }
 
 /// Whether this is a call on an object of another handler, in the handler's own name.
-pub fn is_request_of(handler: u16, request: &Request) -> bool
+pub fn is_request_of(handler: HandlerNumber, request: &Request) -> bool
     ensures { result ≡ is_request_of handler request.now }
 {
     match request.poster {

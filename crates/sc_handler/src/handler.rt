@@ -8,7 +8,7 @@ ghost use Rattle.sc_handler.specs.InMemory.{IsOutWithOwn, answer_of, fresh, aske
 use crate::copy::copy_request;
 use crate::job_slot::JobSlot;
 use arrayvec::ArrayVec;
-use sc_lockpass::Passed;
+use sc_lockpass::{HandlerNumber, Passed};
 use sc_model::Cause;
 use sc_region::{Errand, Job, Reference, Request, Value};
 use sc_waitcond::Mark;
@@ -34,13 +34,13 @@ pub enum HandlerStage {
     /// Its next step is always enabled.
     Runs,
     /// It goes on with a handler that was made for it.
-    HasMade(u16),
+    HasMade(HandlerNumber),
     /// It reserves what it doesn't hold of the handlers of its entry.
     Reserves,
     /// It waits for a supplier's answer, perhaps to a creation.
     Awaits {
         /// The handler that it waits for.
-        supplier: u16,
+        supplier: HandlerNumber,
         /// Whether that was made for it.
         is_creation: bool,
     },
@@ -84,7 +84,7 @@ pub struct Handler {
     /// What its next turn stands on.
     pub stage: HandlerStage,
     /// The handlers that its last reserve step was for.
-    pub entry: ArrayVec<u16, 16>,
+    pub entry: ArrayVec<HandlerNumber, 16>,
     /// The mark of that, if it waits.
     pub mark: Mark,
     /// The requests that its frames serve, the one taken last first.
@@ -181,7 +181,7 @@ impl Handler {
     }
 
     /// Its callback, or the answer that has come from the supplier.
-    pub fn job_awaiting(&self, supplier: u16, is_creation: bool) -> Option<Job>
+    pub fn job_awaiting(&self, supplier: HandlerNumber, is_creation: bool) -> Option<Job>
         ensures { result ≡ job_awaiting supplier is_creation (first_posted self.now.callback) (answers_of self.now.answer) }
     {
         if let Some(posting) = self.callback.front() {
@@ -220,7 +220,7 @@ impl Handler {
     }
 
     /// It is out with its callback, or with the answer that has come from the supplier.
-    fn set_awaiting(&mut self, supplier: u16, is_creation: bool)
+    fn set_awaiting(&mut self, supplier: HandlerNumber, is_creation: bool)
         ensures { self.new ≡ record self.old { out = job_awaiting supplier is_creation (first_posted self.old.callback) (answers_of self.old.answer) } }
     {
         if let Some(posting) = self.callback.front() {
@@ -235,7 +235,7 @@ impl Handler {
 }
 
 /// What a handler takes an answer by.
-fn job_answered(supplier: u16, is_creation: bool, answer: Answer) -> Job
+fn job_answered(supplier: HandlerNumber, is_creation: bool, answer: Answer) -> Job
     ensures { result ≡ job_answered supplier is_creation (answer_of answer) }
 {
     match answer {
@@ -252,7 +252,7 @@ fn job_answered(supplier: u16, is_creation: bool, answer: Answer) -> Job
 }
 
 /// The same, written into the place of the job that it is out with.
-fn set_answered(out: &mut JobSlot, supplier: u16, is_creation: bool, answer: Answer)
+fn set_answered(out: &mut JobSlot, supplier: HandlerNumber, is_creation: bool, answer: Answer)
     ensures { out.new ≡ Some (job_answered supplier is_creation (answer_of answer)) }
 {
     match answer {

@@ -1,6 +1,7 @@
 //! Numbers by which handlers are told apart at a glance.
 
 use crate::handler::{Answer, Handler, HandlerStage, Posting};
+use sc_lockpass::HandlerNumber;
 use sc_region::{Errand, Reference, Request, Value};
 use std::hash::{FoldHasher, Hasher};
 
@@ -46,7 +47,7 @@ fn write_request(hasher: &mut FoldHasher, request: &Request) {
 // ---- words
 
 /// A number for who holds a handler, or for whom something is: it differs for each, and for none.
-pub fn word_of(handler: Option<u16>) -> u64 {
+pub fn word_of(handler: Option<HandlerNumber>) -> u64 {
     match handler {
         Some(handler) => 1 << 16 | handler as u64,
         None => 0,

@@ -4,6 +4,7 @@ ghost use Rattle.sc_handler.specs.Kinds.{kind_of};
 
 use crate::copy::copy_handlers;
 use arrayvec::ArrayVec;
+use sc_lockpass::HandlerNumber;
 use sc_region::Job;
 
 /// What a job is, but for its values: all that its settlement looks at.
@@ -15,7 +16,7 @@ pub enum JobKind {
     Reply,
     Failed,
     Refused,
-    Granted(ArrayVec<u16, 16>),
+    Granted(ArrayVec<HandlerNumber, 16>),
     Made,
     Go,
 }

@@ -4,6 +4,7 @@ ghost use Rattle.std.specs.Option.{option_map};
 ghost use Rattle.sc_region.specs.declared.job.Job.TheVariants as job;
 
 use crate::copy::{copy_handlers, copy_request, write_request};
+use sc_lockpass::HandlerNumber;
 use sc_region::{Job, Request, Value};
 use std::marker::Model;
 
@@ -97,7 +98,7 @@ impl JobSlot {
 
     /// It goes on with this handler, which was made for it.
     #[inline(never)]
-    pub fn set_made(&mut self, made: u16)
+    pub fn set_made(&mut self, made: HandlerNumber)
         ensures { self.new ≡ Some (job.Made made) }
     {
         self.job = Job::Made(made);

@@ -10,13 +10,14 @@ use crate::packed::{
     want_handlers,
 };
 use crate::settlement::Settlement;
+use sc_lockpass::HandlerNumber;
 use sc_region::{Job, Value, Want};
 use std::alloc::{AllocError, Global};
 
 /// A settlement, but for its actuals and handlers.
 #[derive(Clone, Copy)]
 struct LogEntry {
-    handler: u16,
+    handler: HandlerNumber,
     turns: u32,
     job: PackedJob,
     want: PackedWant,
@@ -33,7 +34,7 @@ struct LogEntry {
 pub struct Log {
     entries: Vec<LogEntry>,
     actuals: Vec<Value>,
-    handlers: Vec<u16>,
+    handlers: Vec<HandlerNumber>,
     ghost within: { All (IsWithin (length actuals.items) (length handlers.items)) entries.items },
 }
 
@@ -69,7 +70,7 @@ impl Log {
     }
 
     /// The handler of the settlement at a place.
-    pub fn handler_at(&self, place: usize) -> Option<u16>
+    pub fn handler_at(&self, place: usize) -> Option<HandlerNumber>
         ensures { result ≡ option_map (λ s. s.handler) (slice_get (settlements_of self.now) place) }
     {
         Some(self.entries.get(place)?.handler)
@@ -148,7 +149,7 @@ impl Log {
     }
 
     /// Adds the settlement of a handler, where there is room.
-    pub fn push(&mut self, handler: u16, job: &Job, turns: u32, want: &Want)
+    pub fn push(&mut self, handler: HandlerNumber, job: &Job, turns: u32, want: &Want)
         requires room { HasPlaces 1 self.old }
         ensures settlements { settlements_of self.new ≡ settlements_of self.old ++ settlement handler job.now turns want.now ∷ [] }
         ensures len { vec_len self.new.entries ≡ vec_len self.old.entries + 1 }
@@ -194,7 +195,7 @@ fn append_some<T: Copy>(items: &mut Vec<T>, more: &[T])
 }
 
 /// What the entry tells, with the actuals and the handlers of all entries.
-fn settlement_at(entry: LogEntry, actuals: &[Value], handlers: &[u16]) -> Settlement
+fn settlement_at(entry: LogEntry, actuals: &[Value], handlers: &[HandlerNumber]) -> Settlement
     requires { IsWithin (length actuals.now) (length handlers.now) entry }
     ensures { result ≡ settlement_in actuals.now handlers.now entry }
 {

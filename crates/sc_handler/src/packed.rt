@@ -4,13 +4,14 @@ ghost use Rattle.std.specs.Prelude.{◌≡◌, ◌≤◌, length};
 ghost use Rattle.sc_handler.specs.Packed.{actuals_in_job, actuals_in_want, first_of_all, handlers_in_job, handlers_in_want, job_actuals, job_handlers, packed_job, packed_request, packed_want, unpacked_job, unpacked_request, unpacked_want, want_actuals, want_handlers};
 
 use arrayvec::ArrayVec;
+use sc_lockpass::HandlerNumber;
 use sc_model::Cause;
 use sc_region::{Errand, Job, Reference, Request, Value, Want};
 
 /// A request as an entry has it: with how many actuals there are in place of them.
 #[derive(Clone, Copy)]
 pub(crate) struct PackedRequest {
-    pub(crate) poster: Option<u16>,
+    pub(crate) poster: Option<HandlerNumber>,
     pub(crate) target: Reference,
     pub(crate) errand: Errand,
     pub(crate) actuals: u8,
@@ -25,7 +26,7 @@ pub(crate) enum PackedJob {
     Failed,
     Refused,
     Granted(u8),
-    Made(u16),
+    Made(HandlerNumber),
     Go,
 }
 
@@ -96,7 +97,7 @@ fn first_actuals(actuals: &[Value], count: u8) -> ArrayVec<Value, 16>
 }
 
 /// So many of these handlers.
-fn first_handlers(handlers: &[u16], count: u8) -> ArrayVec<u16, 16>
+fn first_handlers(handlers: &[HandlerNumber], count: u8) -> ArrayVec<HandlerNumber, 16>
     requires few { count ≤ 16 }
     requires there { count ≤ length handlers.now }
     ensures { result ≡ first_of_all count handlers.now }
@@ -134,7 +135,7 @@ pub(crate) fn job_actuals(job: &Job) -> &[Value]
 }
 
 /// The handlers of a job.
-pub(crate) fn job_handlers(job: &Job) -> &[u16]
+pub(crate) fn job_handlers(job: &Job) -> &[HandlerNumber]
     ensures handlers { result.now ≡ job_handlers job.now }
     ensures few { length result.now ≤ 16 }
 {
@@ -164,7 +165,7 @@ impl PackedJob {
     }
 
     /// The job that has the first of these actuals and handlers.
-    pub(crate) fn unpack(self, actuals: &[Value], handlers: &[u16]) -> Job
+    pub(crate) fn unpack(self, actuals: &[Value], handlers: &[HandlerNumber]) -> Job
         requires few_actuals { actuals_in_job self ≤ 16 }
         requires actuals { actuals_in_job self ≤ length actuals.now }
         requires few_handlers { handlers_in_job self ≤ 16 }
@@ -241,7 +242,7 @@ pub(crate) fn want_actuals(want: &Want) -> &[Value]
 }
 
 /// The handlers of a want.
-pub(crate) fn want_handlers(want: &Want) -> &[u16]
+pub(crate) fn want_handlers(want: &Want) -> &[HandlerNumber]
     ensures handlers { result.now ≡ want_handlers want.now }
     ensures few { length result.now ≤ 16 }
 {
@@ -292,7 +293,7 @@ impl PackedWant {
     }
 
     /// The want that has the first of these actuals and handlers.
-    pub(crate) fn unpack(self, actuals: &[Value], handlers: &[u16]) -> Want
+    pub(crate) fn unpack(self, actuals: &[Value], handlers: &[HandlerNumber]) -> Want
         requires few_actuals { actuals_in_want self ≤ 16 }
         requires actuals { actuals_in_want self ≤ length actuals.now }
         requires few_handlers { handlers_in_want self ≤ 16 }

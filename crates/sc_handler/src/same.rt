@@ -8,7 +8,7 @@ ghost use Rattle.sc_handler.specs.Same.{AreAskedAlike, StandAlike};
 use crate::agreement::same_errand;
 use crate::handler::{Handler, HandlerStage, Posting};
 use arrayvec::ArrayVec;
-use sc_lockpass::Passed;
+use sc_lockpass::{HandlerNumber, Passed};
 use sc_region::{Request, Value};
 use std::collections::LinkedList;
 
@@ -51,7 +51,7 @@ fn same_stage(a: &Handler, b: &Handler) -> bool
     }
 }
 
-fn same_handlers(a: &ArrayVec<u16, 16>, b: &ArrayVec<u16, 16>) -> bool
+fn same_handlers(a: &ArrayVec<HandlerNumber, 16>, b: &ArrayVec<HandlerNumber, 16>) -> bool
     ensures { IsTrue result ↔ a.now.items ≡ b.now.items }
 {
     a.as_slice() == b.as_slice()

@@ -20,6 +20,7 @@ use crate::hops::{Hop, stepped};
 use crate::passing::{put_past, store};
 use sc_class::ClassId;
 use sc_code::{ObjectTest, Program, Residence, TestedType};
+use sc_lockpass::HandlerNumber;
 use sc_model::Cause;
 use sc_region::{Activation, Reference, Value};
 
@@ -52,7 +53,7 @@ fn is_of_class(program: &Program, class: usize, other: ClassId) -> bool
 
 /// Whether the object in the slot is of this handler.
 #[tactic(auto, using(crate::proofs::GoingOn::values_get))]
-fn lies_with(slots: &[Value], slot: usize, handler: u16) -> bool
+fn lies_with(slots: &[Value], slot: usize, handler: HandlerNumber) -> bool
     ensures { result ≡ is_number (option_and_then handler_of (slice_get (values_of slots.now) slot)) handler }
 {
     match slots.get(slot) {
@@ -62,7 +63,7 @@ fn lies_with(slots: &[Value], slot: usize, handler: u16) -> bool
 }
 
 /// Whether an object of a handler lies where it has to, seen from the handler `me`.
-fn resides(residence: Residence, me: u16, slots: &[Value], handler: u16) -> bool
+fn resides(residence: Residence, me: HandlerNumber, slots: &[Value], handler: HandlerNumber) -> bool
     ensures { result ≡ flat.resides (residence_of residence) me (values_of slots.now) handler }
 {
     match residence {
@@ -74,7 +75,13 @@ fn resides(residence: Residence, me: u16, slots: &[Value], handler: u16) -> bool
 }
 
 /// Whether a value is of the type that is asked for.
-fn is_of_type(program: &Program, me: u16, slots: &[Value], value: Value, tested: TestedType) -> bool
+fn is_of_type(
+    program: &Program,
+    me: HandlerNumber,
+    slots: &[Value],
+    value: Value,
+    tested: TestedType,
+) -> bool
     ensures { (s : System) → TellsConformance s program.now.image → result ≡ flat.is_of_type s me (values_of slots.now) (value_of value) (tested_of tested) }
 {
     match value {
@@ -91,7 +98,7 @@ fn is_of_type(program: &Program, me: u16, slots: &[Value], value: Value, tested:
 /// Whether a value passes an object test.
 fn is_tested(
     program: &Program,
-    me: u16,
+    me: HandlerNumber,
     slots: &[Value],
     value: Value,
     tested: Option<TestedType>,

@@ -4,10 +4,11 @@ ghost use Rattle.std.specs.List.{All};
 ghost use Rattle.sc_lockpass.specs.Rights.{is_among, is_handler};
 ghost use Rattle.sc_lockpass.specs.Tables.{IsNobodysFrom, IsBelow, holder_at, is_member, replaced};
 
+use crate::handler_number::HandlerNumber;
 use crate::handler_set::HandlerSet;
 
 /// Whose number this holder has.
-pub(crate) fn holds(handler: u16, holder: Option<u16>) -> bool
+pub(crate) fn holds(handler: HandlerNumber, holder: Option<HandlerNumber>) -> bool
     ensures { result ≡ is_handler handler holder }
 {
     match holder {
@@ -17,14 +18,18 @@ pub(crate) fn holds(handler: u16, holder: Option<u16>) -> bool
 }
 
 /// A table in which nobody holds any handler.
-pub(crate) fn nobody() -> [Option<u16>; 512]
+pub(crate) fn nobody() -> [Option<HandlerNumber>; 512]
     ensures { (k : ℕ) → holder_at result k ≡ None }
 {
     [None; 512]
 }
 
 /// Which handlers this one holds in a table that has nobody from `reach` on.
-pub(crate) fn held_by(handler: u16, holders: &[Option<u16>], reach: usize) -> HandlerSet
+pub(crate) fn held_by(
+    handler: HandlerNumber,
+    holders: &[Option<HandlerNumber>],
+    reach: usize,
+) -> HandlerSet
     requires within { reach ≤ length holders.now }
     requires most { reach ≤ 512 }
     requires beyond { IsNobodysFrom reach holders.now }
@@ -40,7 +45,12 @@ pub(crate) fn held_by(handler: u16, holders: &[Option<u16>], reach: usize) -> Ha
 }
 
 /// Gives what a handler holds to another, or to nobody, in a table that has nobody from `reach` on.
-pub(crate) fn replace(holders: &mut [Option<u16>], reach: usize, from: u16, to: Option<u16>)
+pub(crate) fn replace(
+    holders: &mut [Option<HandlerNumber>],
+    reach: usize,
+    from: HandlerNumber,
+    to: Option<HandlerNumber>,
+)
     requires within { reach ≤ length holders.old }
     requires beyond { IsNobodysFrom reach holders.old }
     ensures { (k : ℕ) → holder_at holders.new k ≡ replaced from to (holder_at holders.old k) }
@@ -54,10 +64,10 @@ pub(crate) fn replace(holders: &mut [Option<u16>], reach: usize, from: u16, to: 
 
 /// Gives the handlers of a set to a holder. None of the set is at `reach` or beyond.
 pub(crate) fn restore(
-    holders: &mut [Option<u16>],
+    holders: &mut [Option<HandlerNumber>],
     reach: usize,
     set: &HandlerSet,
-    holder: Option<u16>,
+    holder: Option<HandlerNumber>,
 )
     requires within { reach ≤ length holders.old }
     requires most { reach ≤ 512 }
@@ -72,7 +82,11 @@ pub(crate) fn restore(
 }
 
 /// Gives these handlers to a holder.
-pub(crate) fn assign(holders: &mut [Option<u16>], handlers: &[u16], holder: Option<u16>)
+pub(crate) fn assign(
+    holders: &mut [Option<HandlerNumber>],
+    handlers: &[HandlerNumber],
+    holder: Option<HandlerNumber>,
+)
     requires { All (λ k. k < length holders.old) handlers.now }
     ensures { (k : ℕ) → holder_at holders.new k ≡ (if is_among k handlers.now then holder else holder_at holders.old k) }
 {
@@ -82,7 +96,7 @@ pub(crate) fn assign(holders: &mut [Option<u16>], handlers: &[u16], holder: Opti
 }
 
 /// The least number that is at least `reach` and above these handlers.
-pub(crate) fn reach_with(reach: usize, handlers: &[u16]) -> usize
+pub(crate) fn reach_with(reach: usize, handlers: &[HandlerNumber]) -> usize
     ensures least { reach ≤ result }
     ensures above { (k : ℕ) → result ≤ k → is_among k handlers.now ≡ false }
     ensures most { (n : ℕ) → reach ≤ n → All (λ k. k < n) handlers.now → result ≤ n }

@@ -3,6 +3,7 @@
 //! `specs/Rights` and `specs/Passing` are the definitions, on maps from handlers to a handler or nobody.
 #![tactic(auto)]
 
+mod handler_number;
 mod handler_set;
 mod holders;
 pub mod laws;
@@ -11,6 +12,7 @@ mod rights;
 mod same;
 mod version;
 
+pub use handler_number::HandlerNumber;
 pub use passed::Passed;
 pub use rights::Rights;
 pub use version::Version;

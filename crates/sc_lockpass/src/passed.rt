@@ -1,5 +1,6 @@
 //! What a client passed with a request.
 
+use crate::handler_number::HandlerNumber;
 use crate::handler_set::HandlerSet;
 use std::marker::Model;
 
@@ -9,9 +10,9 @@ use std::marker::Model;
 /// [`Rights::give_back`](crate::Rights::give_back) takes it. It takes 144 bytes, for any number of handlers.
 #[derive(Drop)]
 pub struct Passed {
-    pub(crate) client: u16,
+    pub(crate) client: HandlerNumber,
     /// Who could push on the client's waiting stack.
-    pub(crate) top_holder: Option<u16>,
+    pub(crate) top_holder: Option<HandlerNumber>,
     /// No right over a handler from this number on is listed.
     pub(crate) reach: usize,
     pub(crate) queues: HandlerSet,

@@ -6,6 +6,7 @@ ghost use Rattle.sc_lockpass.specs.Rights as maps;
 ghost use Rattle.sc_lockpass.specs.Passing as passing;
 ghost use Rattle.sc_lockpass.specs.Tables.{IsNobodysFrom, rights_of, passed_of};
 
+use crate::handler_number::HandlerNumber;
 use crate::holders::{assign, held_by, holds, nobody, reach_with, replace, restore};
 use crate::passed::Passed;
 use crate::version::Version;
@@ -23,8 +24,8 @@ pub struct Rights {
     version: Version,
     /// All rights over handlers from this number on are nobody's.
     reach: usize,
-    queue: [Option<u16>; 512],
-    top: [Option<u16>; 512],
+    queue: [Option<HandlerNumber>; 512],
+    top: [Option<HandlerNumber>; 512],
 }
 
 impl Model for Rights {
@@ -64,14 +65,14 @@ impl Rights {
     }
 
     /// Who may post to a handler, if anybody may.
-    pub fn queue(&self, handler: u16) -> Option<u16>
+    pub fn queue(&self, handler: HandlerNumber) -> Option<HandlerNumber>
         ensures { result ≡ (rights_of self.now).queue handler }
     {
         self.queue.get(handler as usize).copied().flatten()
     }
 
     /// Who may push on a handler's waiting stack, if anybody may.
-    pub fn top(&self, handler: u16) -> Option<u16>
+    pub fn top(&self, handler: HandlerNumber) -> Option<HandlerNumber>
         ensures { result ≡ (rights_of self.now).top handler }
     {
         self.top.get(handler as usize).copied().flatten()
@@ -87,14 +88,14 @@ impl Rights {
     }
 
     /// Whether a handler holds another one: it is itself, or it may post to it or push on its waiting stack.
-    pub fn held(&self, holder: u16, handler: u16) -> bool
+    pub fn held(&self, holder: HandlerNumber, handler: HandlerNumber) -> bool
         ensures { result ≡ maps.held (rights_of self.now) holder handler }
     {
         handler == holder || holds(holder, self.queue(handler)) || holds(holder, self.top(handler))
     }
 
     /// Lets a handler post to these, which nobody may post to.
-    pub fn reserve(&mut self, holder: u16, handlers: &[u16])
+    pub fn reserve(&mut self, holder: HandlerNumber, handlers: &[HandlerNumber])
         requires listed { All (λ k. k < most_handlers self.old.version) handlers.now }
         requires unreserved { All (λ k. (rights_of self.old).queue k ≡ None) handlers.now }
         ensures rights { rights_of self.new ≡ maps.reserve holder handlers.now (rights_of self.old) }
@@ -105,7 +106,7 @@ impl Rights {
     }
 
     /// Lets nobody post to these, which this handler may post to.
-    pub fn release(&mut self, holder: u16, handlers: &[u16])
+    pub fn release(&mut self, holder: HandlerNumber, handlers: &[HandlerNumber])
         requires { All (λ k. (rights_of self.old).queue k ≡ Some holder) handlers.now }
         ensures rights { rights_of self.new ≡ maps.release handlers.now (rights_of self.old) }
         ensures version { self.new.version ≡ self.old.version }
@@ -114,7 +115,7 @@ impl Rights {
     }
 
     /// Gives every right that a handler holds to nobody, one that was passed to it too.
-    pub fn release_all(&mut self, holder: u16)
+    pub fn release_all(&mut self, holder: HandlerNumber)
         ensures rights { rights_of self.new ≡ maps.release_all holder (rights_of self.old) }
         ensures version { self.new.version ≡ self.old.version }
     {
@@ -124,7 +125,7 @@ impl Rights {
 
     /// Passes every right that a client holds to its supplier, with the right to push on the client's own waiting
     /// stack, whoever had it. Answers what was passed, with the holders before.
-    pub fn pass(&mut self, client: u16, supplier: u16) -> Passed
+    pub fn pass(&mut self, client: HandlerNumber, supplier: HandlerNumber) -> Passed
         requires { client < most_handlers self.old.version }
         ensures passed { passed_of result ≡ passing.passed_by client (rights_of self.old) }
         ensures rights { rights_of self.new ≡ passing.pass client supplier (rights_of self.old) }

@@ -3,6 +3,7 @@ ghost use Rattle.std.specs.Prelude.{◌≡◌, ◌<◌, ◌↔◌, IsTrue};
 ghost use Rattle.sc_lockpass.specs.Passing.{AreListedAlike};
 ghost use Rattle.sc_lockpass.specs.Tables.{passed_of};
 
+use crate::handler_number::HandlerNumber;
 use crate::passed::Passed;
 
 impl Passed {
@@ -27,7 +28,7 @@ impl Passed {
     }
 
     /// Who could post to a handler before, where that is listed.
-    fn queue(&self, handler: usize) -> Option<Option<u16>>
+    fn queue(&self, handler: usize) -> Option<Option<HandlerNumber>>
         requires { handler < 512 }
         ensures { result ≡ (passed_of self.now).queue handler }
     {
@@ -39,7 +40,7 @@ impl Passed {
     }
 
     /// Who could push on a handler's waiting stack before, where that is listed.
-    fn top(&self, handler: usize) -> Option<Option<u16>>
+    fn top(&self, handler: usize) -> Option<Option<HandlerNumber>>
         requires { handler < 512 }
         ensures { result ≡ (passed_of self.now).top handler }
     {

@@ -23,7 +23,7 @@ use crate::scheduler::{MOST_LINES, MOST_TURNS};
 use crate::wants::clear_want;
 use sc_audit::RecordLine;
 use sc_code::Program;
-use sc_lockpass::Version;
+use sc_lockpass::{HandlerNumber, Version};
 use sc_play::Region;
 use sc_region::Want;
 use sc_request::Core;
@@ -213,7 +213,7 @@ fn play_next<G: Gate>(
 fn play_out(
     core: &mut Core,
     region: &mut Region<'_>,
-    handler: u16,
+    handler: HandlerNumber,
     limit: u32,
     asked: &mut Want,
 ) -> Result<u32, AllocError>

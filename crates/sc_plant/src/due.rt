@@ -7,6 +7,7 @@ ghost use Rattle.sc_request.specs.Rooms.{HasRoomFor};
 ghost use Rattle.sc_plant.specs.Due.{GrantsNone, IsSettled, Settled, Stays};
 
 use sc_handler::write_job;
+use sc_lockpass::HandlerNumber;
 use sc_region::{Job, Want};
 use sc_request::Core;
 use std::alloc::AllocError;
@@ -22,7 +23,12 @@ pub enum Undue {
 
 /// The handler isn't out any more. So many turns of it, the last of which asks this, are settled under the job that it has
 /// to do now: the one that it was out with, where they were played of that.
-pub fn settle_due(core: &mut Core, handler: u16, turns: u32, want: &Want) -> Result<(), Undue>
+pub fn settle_due(
+    core: &mut Core,
+    handler: HandlerNumber,
+    turns: u32,
+    want: &Want,
+) -> Result<(), Undue>
     requires none { GrantsNone (center_of core.old) }
     requires version { core.old.state.rights.version ≡ Two }
     ensures settled { OnOk result (Settled handler turns want.now core.old core.new) }
@@ -43,7 +49,7 @@ pub fn settle_due(core: &mut Core, handler: u16, turns: u32, want: &Want) -> Res
 }
 
 /// A handler that is out is settled.
-pub fn settle_out(core: &mut Core, handler: u16, turns: u32, want: &Want)
+pub fn settle_out(core: &mut Core, handler: HandlerNumber, turns: u32, want: &Want)
     requires out { is_some ((center_of core.old).out handler) ≡ true }
     requires room { HasRoomFor 0 core.old }
     requires version { core.old.state.rights.version ≡ Two }
@@ -63,7 +69,7 @@ pub fn settle_out(core: &mut Core, handler: u16, turns: u32, want: &Want)
 ///
 /// # Errors
 /// Where there is no memory. Then no handler goes out.
-pub fn pick_due(core: &mut Core, place: &mut Job) -> Result<Option<u16>, AllocError>
+pub fn pick_due(core: &mut Core, place: &mut Job) -> Result<Option<HandlerNumber>, AllocError>
     requires none { GrantsNone (center_of core.old) }
     requires version { core.old.state.rights.version ≡ Two }
     ensures stays { Stays core.old core.new }

@@ -1,5 +1,6 @@
 //! How long the tasks of a run are, which decides whether several workers play it or one.
 use sc_audit::RecordLine;
+use sc_lockpass::HandlerNumber;
 
 /// A task of fewer turns is a short one: it takes less time than to exchange it.
 const FEW_TURNS: u32 = 16;
@@ -13,7 +14,7 @@ const LONG_TASKS: u32 = 64;
 /// How many short tasks came last, and how many long ones since tasks were fine-grained.
 #[derive(Clone, Copy)]
 pub struct Granularity {
-    last: u16,
+    last: HandlerNumber,
     short: u32,
     long: u32,
 }

@@ -10,7 +10,7 @@ use crate::left::{Left, LoggedLeft};
 use crate::of_program::OfProgram;
 use crate::recorded_core::RecordedCore;
 use crate::slot::Slot;
-use sc_lockpass::Version;
+use sc_lockpass::{HandlerNumber, Version};
 use sc_play::Region;
 use sc_worklog::LoggedRegion;
 use std::sync::Mutex;
@@ -67,7 +67,7 @@ fn regions_of<'p, P: OfProgram>(
 }
 
 /// The least handler whose region's log isn't that of its settlements.
-pub fn difference(left: &LoggedLeft<'_>) -> Option<u16>
+pub fn difference(left: &LoggedLeft<'_>) -> Option<HandlerNumber>
     requires { length left.now.regions.items ≡ 512 }
     ensures some { IfSome result (λ h. (AgreesAt left.now h → ⊥) × ((k : ℕ) → k < h → AgreesAt left.now k)) }
     ensures none { IfNone result ((h : ℕ) → AgreesAt left.now h) }

@@ -4,7 +4,7 @@ ghost use Rattle.sc_world.specs.Reports as told;
 ghost use Rattle.sc_plant.specs.Left.{world_of};
 
 use sc_audit::RecordLine;
-use sc_lockpass::Version;
+use sc_lockpass::{HandlerNumber, Version};
 use sc_play::Region;
 use sc_request::Core;
 use sc_worklog::LoggedRegion;
@@ -39,7 +39,7 @@ pub enum RunFault<'p> {
     /// U2: a thread was refused.
     ThreadRefused,
     /// U3: the region of this handler played other jobs, or turns, than were settled of it. The workers never cause this.
-    LogsDiffer(u16, LoggedLeft<'p>),
+    LogsDiffer(HandlerNumber, LoggedLeft<'p>),
 }
 
 impl<'p> Left<'p> {
@@ -53,10 +53,10 @@ impl<'p> Left<'p> {
         let mut report = Vec::new(alloc);
         let mut ends_busy = false;
         for handler in 0..self.core.handler_count() {
-            let Some(status) = self.core.status(handler as u16) else {
+            let Some(status) = self.core.status(handler as HandlerNumber) else {
                 break;
             };
-            let refused = self.core.refused(handler as u16).unwrap_or(0);
+            let refused = self.core.refused(handler as HandlerNumber).unwrap_or(0);
             let output = self.output(handler);
             push_handler(alloc, &mut report, handler, status, refused, output)?;
             ends_busy = ends_busy || is_busy(status);

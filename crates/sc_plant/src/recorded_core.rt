@@ -9,6 +9,7 @@ ghost use Rattle.sc_plant.specs.Recorded.{lines_of};
 use crate::due::{self, Undue};
 use crate::of_program::OfProgram;
 use sc_audit::RecordLine;
+use sc_lockpass::HandlerNumber;
 use sc_region::{Job, Want};
 use sc_request::Core;
 use std::alloc::AllocError;
@@ -32,7 +33,7 @@ pub struct RecordedCore<P: OfProgram> {
 
 impl<P: OfProgram> RecordedCore<P> {
     /// The handler isn't out any more. So many turns of it are settled under the job that it has to do now, and recorded.
-    pub fn settle(&mut self, handler: u16, turns: u32, want: &Want) -> Result<(), Undue> {
+    pub fn settle(&mut self, handler: HandlerNumber, turns: u32, want: &Want) -> Result<(), Undue> {
         if self.lines.reserve(1).is_err() {
             return Err(Undue::OutOfMemory);
         }
@@ -49,19 +50,19 @@ impl<P: OfProgram> RecordedCore<P> {
     ///
     /// # Errors
     /// Where there is no memory. Then no handler goes out.
-    pub fn pick(&mut self, place: &mut Job) -> Result<Option<u16>, AllocError> {
+    pub fn pick(&mut self, place: &mut Job) -> Result<Option<HandlerNumber>, AllocError> {
         let wanted = self.core.out_count().saturating_add(1);
         self.lines.reserve(wanted)?;
         due::pick_due(&mut self.core, place)
     }
 
     /// The handler isn't out any more.
-    pub fn put_back(&mut self, handler: u16) {
+    pub fn put_back(&mut self, handler: HandlerNumber) {
         self.core.put_back(handler);
     }
 
     /// Whether no handler has anything to do but those that are out, where this one is.
-    pub fn is_idle(&mut self, handler: u16) -> bool {
+    pub fn is_idle(&mut self, handler: HandlerNumber) -> bool {
         self.core.comes_again(handler)
     }
 }

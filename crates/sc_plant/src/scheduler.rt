@@ -7,6 +7,7 @@ use crate::of_program::OfProgram;
 use crate::recorded_core::RecordedCore;
 use crate::task::{Played, Task};
 use sc_audit::RecordLine;
+use sc_lockpass::HandlerNumber;
 
 /// The most turns of a task.
 pub const MOST_TURNS: u32 = 256;
@@ -152,7 +153,7 @@ impl<P: OfProgram> Scheduler<P> {
     }
 
     /// Completes the task of a handler that was picked. What its reserve step was granted is one turn.
-    fn send(&mut self, handler: u16, task: &mut Task) -> Next {
+    fn send(&mut self, handler: HandlerNumber, task: &mut Task) -> Next {
         let is_granted = is_granting(&task.job);
         task.handler = handler;
         task.turns = if is_granted {
@@ -165,7 +166,7 @@ impl<P: OfProgram> Scheduler<P> {
     }
 
     /// Whether a worker that sleeps may find something to do, beside the handler that goes out, and it pays to wake it.
-    pub fn wakes(&mut self, handler: u16) -> bool {
+    pub fn wakes(&mut self, handler: HandlerNumber) -> bool {
         self.asleep > 0 && !self.granularity.is_fine() && !self.recorded.is_idle(handler)
     }
 

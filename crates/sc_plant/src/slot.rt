@@ -12,6 +12,7 @@ use crate::of_program::OfProgram;
 use crate::task::{Played, Task};
 use crate::wants::clear_want;
 use sc_handler::Log;
+use sc_lockpass::HandlerNumber;
 use sc_play::Region;
 use sc_region::{Job, Want};
 use sc_worklog::LoggedRegion;
@@ -31,7 +32,7 @@ pub struct Slot<'p, P: OfProgram> {
 
 impl<'p, P: OfProgram> Slot<'p, P> {
     /// The region of the handler of a number, with a log whose turns lead to it.
-    pub fn new(region: Region<'p>, handler: u16, log: Log) -> Slot<'p, P>
+    pub fn new(region: Region<'p>, handler: HandlerNumber, log: Log) -> Slot<'p, P>
         requires { Fits P.image handler region log }
     {
         Slot {

@@ -1,11 +1,12 @@
 //! What a worker is to play, and what that came to.
+use sc_lockpass::HandlerNumber;
 use sc_region::{Job, Want};
 
 /// Turns of a handler that a worker is to play. Each worker has one task, which is written over, so that no large value is
 /// moved.
 #[derive(Drop)]
 pub struct Task {
-    pub handler: u16,
+    pub handler: HandlerNumber,
     pub job: Job,
     /// How many turns of the job may be played.
     pub turns: u32,

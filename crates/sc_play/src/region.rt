@@ -9,6 +9,7 @@ use crate::hashing::hash_store;
 use crate::turn::{first_turn, turn};
 use sc_code::Program;
 use sc_interp::run_current;
+use sc_lockpass::HandlerNumber;
 use sc_model::Cause;
 use sc_region::{Breakdown, Job, Outcome, Store, Want};
 use std::alloc::{AllocError, Global};
@@ -18,7 +19,7 @@ use std::marker::Model;
 #[derive(Drop)]
 pub struct Region<'p> {
     store: Store<'p>,
-    handler: u16,
+    handler: HandlerNumber,
     /// A job whose turn was refused memory has told the creator of a handler its number.
     is_told: bool,
 }
@@ -70,7 +71,7 @@ fn fail(store: &mut Store<'_>, why: Cause, asked: &mut Want)
 #[inline(never)]
 fn play_on(
     store: &mut Store<'_>,
-    handler: u16,
+    handler: HandlerNumber,
     made: u32,
     limit: u32,
     asked: &mut Want,
@@ -112,7 +113,7 @@ fn play_on(
 #[tactic(auto, using(crate::proofs::FurtherTurns::stops_first))]
 fn play_under(
     store: &mut Store<'_>,
-    handler: u16,
+    handler: HandlerNumber,
     job: &Job,
     is_told: bool,
     limit: u32,
@@ -141,7 +142,7 @@ impl<'p> Region<'p> {
 
     /// The region of the handler of a number, which was asked for nothing yet. What grows later takes its memory from this
     /// allocator.
-    pub fn new(alloc: Global, program: &'p Program, handler: u16) -> Region<'p>
+    pub fn new(alloc: Global, program: &'p Program, handler: HandlerNumber) -> Region<'p>
         ensures { result ≡ new_region program.now.image handler }
     {
         Region {
@@ -253,7 +254,7 @@ impl<'p> Region<'p> {
     }
 
     /// Whether it is the region of the handler, which was asked for nothing yet.
-    pub fn is_new(&self, handler: u16) -> bool
+    pub fn is_new(&self, handler: HandlerNumber) -> bool
         ensures { IsTrue result ↔ contents_of self.now ≡ new_contents handler }
     {
         self.handler == handler && !self.is_told && is_new(&self.store)

@@ -15,6 +15,7 @@ ghost use Rattle.sc_play.specs.Turns.{Becomes, Begins, BeginsUnder, GoesOn, IsAh
 use crate::jobs::{grant, reply, resume, take, tell, top_stage};
 use sc_acts::{act_on, unless_failed};
 use sc_interp::{Hop, moves};
+use sc_lockpass::HandlerNumber;
 use sc_model::Cause;
 use sc_region::{Job, Stage, Store, Want};
 use std::alloc::AllocError;
@@ -25,7 +26,7 @@ use std::alloc::AllocError;
 #[inline(always)]
 fn do_operation(
     store: &mut Store<'_>,
-    handler: u16,
+    handler: HandlerNumber,
     operation: Hop,
     asked: &mut Want,
 ) -> Result<(), AllocError>
@@ -52,7 +53,7 @@ fn do_operation(
 ///
 /// It is part of a turn, and no call.
 #[inline(always)]
-fn run_on(store: &mut Store<'_>, handler: u16, asked: &mut Want) -> Result<(), AllocError>
+fn run_on(store: &mut Store<'_>, handler: HandlerNumber, asked: &mut Want) -> Result<(), AllocError>
     requires { asked.old ≡ want.Continue }
     ensures ok { OnOk result (GoesOn handler store.old store.new asked.new) }
     ensures leads { OnErr result (LeadsTo store.old store.new) }
@@ -99,7 +100,11 @@ fn stay_in(store: &mut Store<'_>, stage: Option<Stage>, asked: &mut Want)
 ///
 /// It is part of the loop of turns, and no call, so that what it needs is laid out once for many.
 #[inline(always)]
-pub fn turn(store: &mut Store<'_>, handler: u16, asked: &mut Want) -> Result<(), AllocError>
+pub fn turn(
+    store: &mut Store<'_>,
+    handler: HandlerNumber,
+    asked: &mut Want,
+) -> Result<(), AllocError>
     requires { asked.old ≡ want.Continue }
     ensures ok { OnOk result (TurnOf handler store.old store.new asked.new) }
     ensures err { OnErr result (IsAhead store.old store.new) }
@@ -151,7 +156,7 @@ fn turn_made(store: &mut Store<'_>, asked: &mut Want) -> bool
 /// is no memory; nothing has changed then.
 fn turn_under(
     store: &mut Store<'_>,
-    handler: u16,
+    handler: HandlerNumber,
     job: &Job,
     asked: &mut Want,
 ) -> Result<bool, AllocError>
@@ -205,7 +210,7 @@ fn begin(store: &mut Store<'_>, job: &Job, is_told: bool)
 /// creator of a handler was told its number already. Err where there is no memory: the job has begun then.
 pub fn first_turn(
     store: &mut Store<'_>,
-    handler: u16,
+    handler: HandlerNumber,
     job: &Job,
     is_told: bool,
     asked: &mut Want,

@@ -7,6 +7,7 @@ use crate::frame::Activation;
 use crate::object::Object;
 use crate::value::{Reference, Value};
 use arrayvec::ArrayVec;
+use sc_lockpass::HandlerNumber;
 
 /// Whether two lists of values are the same.
 pub(crate) fn same_values(values: &[Value], others: &[Value]) -> bool
@@ -22,7 +23,10 @@ pub(crate) fn same_references(references: &[Reference], others: &[Reference]) ->
     references == others
 }
 
-fn same_handlers(handlers: &ArrayVec<u16, 16>, others: &ArrayVec<u16, 16>) -> bool
+fn same_handlers(
+    handlers: &ArrayVec<HandlerNumber, 16>,
+    others: &ArrayVec<HandlerNumber, 16>,
+) -> bool
     ensures { IsTrue result ↔ handlers.now.items ≡ others.now.items }
 {
     handlers.as_slice() == others.as_slice()
@@ -54,7 +58,10 @@ pub(crate) fn same_objects(objects: &[Object], others: &[Object]) -> bool
 // ---- routines
 
 /// Whether there are as many blocks, and each has reserved the same handlers as the one at its place.
-fn same_blocks(blocks: &[ArrayVec<u16, 16>], others: &[ArrayVec<u16, 16>]) -> bool
+fn same_blocks(
+    blocks: &[ArrayVec<HandlerNumber, 16>],
+    others: &[ArrayVec<HandlerNumber, 16>],
+) -> bool
     ensures { IsTrue result ↔ map (λ block. block.items) blocks.now ≡ map (λ block. block.items) others.now }
 {
     if blocks.len() != others.len() {

@@ -9,6 +9,7 @@ use crate::operands::{Olds, Operands, add_voids, empty_for};
 use crate::value::Value;
 use arrayvec::ArrayVec;
 use sc_code::RoutineCode;
+use sc_lockpass::HandlerNumber;
 use std::alloc::{AllocError, Global};
 
 /// What began a routine.
@@ -41,7 +42,7 @@ pub enum Stage {
     },
     /// It waits for the answer of a supplier, which gives a value or none, perhaps to a creation.
     Awaits {
-        supplier: u16,
+        supplier: HandlerNumber,
         gives: bool,
         is_creation: bool,
     },
@@ -75,9 +76,9 @@ pub struct Activation {
     pub olds: Olds,
     pub operands: Operands,
     /// The handlers that its entry newly reserved.
-    pub reserved: ArrayVec<u16, 16>,
+    pub reserved: ArrayVec<HandlerNumber, 16>,
     /// The handlers that each of its open separate blocks newly reserved, the innermost last.
-    pub blocks: Vec<ArrayVec<u16, 16>>,
+    pub blocks: Vec<ArrayVec<HandlerNumber, 16>>,
 }
 
 impl Activation {
@@ -163,7 +164,10 @@ fn add_actuals(slots: &mut Vec<Value>, actuals: &[Value])
 }
 
 /// No open blocks any more, and room for so many. Err where there is no memory for them.
-fn empty_blocks(blocks: &mut Vec<ArrayVec<u16, 16>>, count: usize) -> Result<(), AllocError>
+fn empty_blocks(
+    blocks: &mut Vec<ArrayVec<HandlerNumber, 16>>,
+    count: usize,
+) -> Result<(), AllocError>
     ensures { OnOk result (blocks.new.items ≡ []) }
 {
     blocks.clear();
@@ -175,7 +179,10 @@ fn empty_blocks(blocks: &mut Vec<ArrayVec<u16, 16>>, count: usize) -> Result<(),
 
 /// Room for so many blocks. Err where there is no memory for them. (A call of its own: it is seldom made.)
 #[inline(never)]
-fn grow_blocks(blocks: &mut Vec<ArrayVec<u16, 16>>, count: usize) -> Result<(), AllocError>
+fn grow_blocks(
+    blocks: &mut Vec<ArrayVec<HandlerNumber, 16>>,
+    count: usize,
+) -> Result<(), AllocError>
     ensures { blocks.new.items ≡ blocks.old.items }
 {
     blocks.reserve(count)

@@ -2,6 +2,7 @@
 
 use crate::value::{Reference, Value};
 use arrayvec::ArrayVec;
+use sc_lockpass::HandlerNumber;
 use sc_model::Cause;
 
 /// What a request is for.
@@ -17,7 +18,7 @@ pub enum Errand {
 #[derive(Drop)]
 pub struct Request {
     /// The handler that asks, but for the creation of the root object.
-    pub poster: Option<u16>,
+    pub poster: Option<HandlerNumber>,
     /// The object that the feature is called on, or that is to be made.
     pub target: Reference,
     pub errand: Errand,
@@ -38,9 +39,9 @@ pub enum Job {
     /// The request that it waits for was refused.
     Refused,
     /// Its reserve step has newly reserved these handlers.
-    Granted(ArrayVec<u16, 16>),
+    Granted(ArrayVec<HandlerNumber, 16>),
     /// The handler of the number was made for it.
-    Made(u16),
+    Made(HandlerNumber),
     /// It goes on.
     Go,
 }
@@ -51,7 +52,7 @@ pub enum Want {
     /// Nothing. The next step is always enabled.
     Continue,
     /// Nothing. The next step is the reserve step for these handlers, none where all are held already.
-    Reserve(ArrayVec<u16, 16>),
+    Reserve(ArrayVec<HandlerNumber, 16>),
     /// The request goes to its target's handler, and isn't waited for.
     Post(Request),
     /// The request goes to its target's handler with all rights where the call passes locks, and is waited for.
@@ -67,13 +68,13 @@ pub enum Want {
         passes: bool,
     },
     /// These handlers are released.
-    Release(ArrayVec<u16, 16>),
+    Release(ArrayVec<HandlerNumber, 16>),
     /// A wait condition is false: these handlers are released and marked, and the same reserve step comes next.
-    Wait(ArrayVec<u16, 16>),
+    Wait(ArrayVec<HandlerNumber, 16>),
     /// The request ends, with a value or none, or refused, and these handlers are released.
     Done {
         reply: Option<Value>,
-        released: ArrayVec<u16, 16>,
+        released: ArrayVec<HandlerNumber, 16>,
         refused: bool,
     },
     /// The handler has failed.
@@ -83,7 +84,7 @@ pub enum Want {
 /// What a handler's turns come to.
 #[derive(Drop)]
 pub struct Outcome {
-    pub handler: u16,
+    pub handler: HandlerNumber,
     /// How many turns were made.
     pub turns: u32,
     /// What the last of them asks.

@@ -17,6 +17,7 @@ use crate::stack::Stack;
 use crate::value::{Reference, Value};
 use sc_code::Program;
 use sc_formula::{Atom, Formula};
+use sc_lockpass::HandlerNumber;
 use sc_model::Cause;
 use std::alloc::{AllocError, Global};
 
@@ -347,7 +348,7 @@ pub fn make(state: &mut State<'_>, class: u8) -> Result<(), AllocError>
 /// An object is made by a routine of this handler, and its procedure entered on it.
 pub fn make_for(
     state: &mut State<'_>,
-    handler: u16,
+    handler: HandlerNumber,
     class: u8,
     routine: usize,
     actuals: &[Value],

@@ -13,6 +13,7 @@ use crate::stack::Stack;
 use crate::state::{self, State};
 use crate::value::{Reference, Value};
 use sc_code::Program;
+use sc_lockpass::HandlerNumber;
 use sc_model::Cause;
 use std::alloc::{AllocError, Global};
 use std::marker::Model;
@@ -155,7 +156,7 @@ impl<'p> Store<'p> {
     /// has changed then.
     pub fn make_object_with(
         &mut self,
-        handler: u16,
+        handler: HandlerNumber,
         class: u8,
         routine: usize,
         actuals: &[Value],

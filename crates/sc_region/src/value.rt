@@ -4,12 +4,13 @@ ghost use Rattle.sc_region.specs.Values.{default_value, atom_of};
 
 use sc_code::DefaultValue;
 use sc_formula::Atom;
+use sc_lockpass::HandlerNumber;
 
 /// A reference to an object. It takes 12 bytes.
 #[derive(Clone, Copy, Debug, PartialEq, Eq)]
 pub struct Reference {
     /// The handler on which the object lies.
-    pub handler: u16,
+    pub handler: HandlerNumber,
     /// The object's number there, from 1.
     pub number: u32,
     /// The number of its class, so that an object that is still to be made has one.

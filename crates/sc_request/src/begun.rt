@@ -11,10 +11,11 @@ ghost use Rattle.sc_request.specs.Sound.{IsSound};
 use crate::sessions::reserve_each;
 use crate::state::State;
 use sc_handler::{HandlerStage, JobKind};
+use sc_lockpass::HandlerNumber;
 
 impl State {
     /// What a handler was asked for is taken, or what its reserve step was granted is its own.
-    pub(crate) fn begin(&mut self, handler: u16, kind: &JobKind)
+    pub(crate) fn begin(&mut self, handler: HandlerNumber, kind: &JobKind)
         requires there { handler < 512 }
         requires sound { IsSound (2 ^ 64 - 2) (2 ^ 63 - 2) (plain self.old) }
         requires granted { All (λ k. k < most_handlers self.old.rights.version) (granted_items (of_kind kind.now)) }
@@ -35,7 +36,7 @@ impl State {
     }
 
     /// A handler goes on with one that was made for it. It releases that where it waited for its creation.
-    fn go_on_with_made(&mut self, handler: u16)
+    fn go_on_with_made(&mut self, handler: HandlerNumber)
         requires there { handler < 512 }
         requires sound { IsSound (2 ^ 64 - 2) (2 ^ 63 - 2) (plain self.old) }
         ensures plain { plain self.new ≡ made_at handler ((plain self.old).handlers handler).stage (plain self.old) }
@@ -52,7 +53,7 @@ impl State {
     }
 
     /// The handler for whose answer this one waits, if it waits.
-    fn awaited(&self, handler: usize) -> Option<u16>
+    fn awaited(&self, handler: usize) -> Option<HandlerNumber>
         requires { handler < 512 }
         ensures { result ≡ awaited ((plain self.now).handlers handler).stage }
     {

@@ -12,7 +12,7 @@ use crate::handler_set::HandlerSet;
 use crate::state::State;
 use arrayvec::ArrayVec;
 use sc_handler::{Handler, HandlerStage, Log, Posting};
-use sc_lockpass::{Rights, Version};
+use sc_lockpass::{HandlerNumber, Rights, Version};
 use sc_model::Status;
 use sc_region::{Errand, Job, Reference, Request};
 use std::alloc::{AllocError, Global};
@@ -32,7 +32,7 @@ pub struct Core {
     /// How many handlers are out.
     pub(crate) outs: usize,
     /// The handler that was picked last.
-    pub(crate) last: u16,
+    pub(crate) last: HandlerNumber,
     pub(crate) log: Log,
     /// Places for what is posted, each in a node of a queue: one for each settlement that was made room for.
     pub(crate) spare: LinkedList<Posting>,
@@ -90,21 +90,21 @@ impl Core {
     }
 
     /// Whether a handler holds another one: it is itself, or it may post to it or push on its waiting stack.
-    pub fn held(&self, holder: u16, handler: u16) -> bool
+    pub fn held(&self, holder: HandlerNumber, handler: HandlerNumber) -> bool
         ensures { result ≡ maps.held (state_of self.now).rights holder handler }
     {
         self.state.rights.held(holder, handler)
     }
 
     /// Whether a handler has something to do and isn't out.
-    pub(crate) fn has_job(&self, handler: u16) -> bool
+    pub(crate) fn has_job(&self, handler: HandlerNumber) -> bool
         ensures { result ≡ is_some (logs.pick_for handler (center_of self.now)) }
     {
         self.state.has_job(handler)
     }
 
     /// What a handler has to do, where it has something and isn't out.
-    pub fn pick_for(&self, handler: u16) -> Option<Job>
+    pub fn pick_for(&self, handler: HandlerNumber) -> Option<Job>
         ensures { result ≡ logs.pick_for handler (center_of self.now) }
     {
         if (handler as usize) >= self.state.count {
@@ -127,7 +127,7 @@ impl Core {
     }
 
     /// How a handler stands, or None where there is no such handler. One that is out is busy.
-    pub fn status(&self, handler: u16) -> Option<Status>
+    pub fn status(&self, handler: HandlerNumber) -> Option<Status>
         ensures { result ≡ logs.status_for handler (center_of self.now) }
     {
         if (handler as usize) >= self.state.count {
@@ -155,7 +155,7 @@ impl Core {
     }
 
     /// How many requests a handler refused for which nobody waited, or None where there is no such handler.
-    pub fn refused(&self, handler: u16) -> Option<u64>
+    pub fn refused(&self, handler: HandlerNumber) -> Option<u64>
         ensures { result ≡ (if nat_lt handler (state_of self.now).count then Some ((state_of self.now).handlers handler).refused else None) }
     {
         if (handler as usize) >= self.state.count {

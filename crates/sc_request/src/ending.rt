@@ -12,7 +12,7 @@ ghost use Rattle.sc_request.specs.Sound.{IsSound, placed_poster};
 
 use crate::state::State;
 use sc_handler::{Answer, Posting, recycle};
-use sc_lockpass::Passed;
+use sc_lockpass::{HandlerNumber, Passed};
 use sc_model::Cause;
 use sc_region::Value;
 use std::collections::LinkedList;
@@ -22,9 +22,9 @@ impl State {
     /// released. The node of the request comes to `spare`.
     pub(crate) fn end(
         &mut self,
-        handler: u16,
+        handler: HandlerNumber,
         reply: Option<Value>,
-        released: &[u16],
+        released: &[HandlerNumber],
         refused: bool,
         spare: &mut LinkedList<Posting>,
     )

@@ -10,14 +10,14 @@ ghost use Rattle.sc_request.specs.Sound.{ArePlaced, IsHeldBelow, IsSound, placed
 
 use crate::state::State;
 use sc_handler::{Answer, Dropped, Posting};
-use sc_lockpass::Rights;
+use sc_lockpass::{HandlerNumber, Rights};
 use sc_model::Cause;
 use sc_region::Request;
 use std::collections::LinkedList;
 
 impl State {
     /// A handler fails. It releases every right that it holds, and each handler that waits for it is told.
-    pub(crate) fn fail(&mut self, handler: u16, why: Cause)
+    pub(crate) fn fail(&mut self, handler: HandlerNumber, why: Cause)
         requires there { handler < 512 }
         requires sound { IsSound (2 ^ 64 - 2) (2 ^ 63) (plain self.old) }
         ensures plain { plain self.new ≡ fail handler why (plain self.old) }
@@ -36,7 +36,7 @@ impl State {
     }
 
     /// A handler releases every right that it holds. A session of each that it may post to ends.
-    fn let_go(&mut self, handler: u16)
+    fn let_go(&mut self, handler: HandlerNumber)
         requires room { (k : ℕ) → slice_index self.old.sessions.items k + 1 < 2 ^ 64 }
         requires held { IsHeldBelow (rights_of self.old.rights) }
         ensures plain { plain self.new ≡ lets_go handler (plain self.old) }
@@ -76,7 +76,7 @@ impl State {
 }
 
 /// Counts one more for each that a handler may post to.
-fn count_held(counts: &mut Vec<u64>, rights: &Rights, handler: u16)
+fn count_held(counts: &mut Vec<u64>, rights: &Rights, handler: HandlerNumber)
     requires places { vec_len counts.old ≡ 512 }
     requires room { (k : ℕ) → slice_index counts.old.items k + 1 < 2 ^ 64 }
     requires held { IsHeldBelow (rights_of rights.now) }
@@ -91,7 +91,7 @@ fn count_held(counts: &mut Vec<u64>, rights: &Rights, handler: u16)
 }
 
 /// Whether this holder is the handler.
-pub(crate) fn holds(handler: u16, holder: Option<u16>) -> bool
+pub(crate) fn holds(handler: HandlerNumber, holder: Option<HandlerNumber>) -> bool
     ensures { result ≡ is_handler handler holder }
 {
     match holder {

@@ -3,6 +3,7 @@ ghost use Rattle.std.specs.Prelude.{◌≡◌};
 
 use crate::state::State;
 use sc_handler::is_request_of;
+use sc_lockpass::HandlerNumber;
 use sc_region::Want;
 
 impl State {
@@ -11,7 +12,7 @@ impl State {
     ghost use Rattle.sc_lockpass.specs.Rights.{is_handler};
 
     /// Whether a turn of the handler that asks this sends a request to a handler that it doesn't hold.
-    pub(crate) fn posts_unheld(&self, handler: u16, want: &Want) -> bool
+    pub(crate) fn posts_unheld(&self, handler: HandlerNumber, want: &Want) -> bool
         ensures { result ≡ posts_unheld handler want.now (plain self.now) }
     {
         match want {
@@ -22,7 +23,7 @@ impl State {
     }
 
     /// Whether a turn of the handler may ask this.
-    pub(crate) fn may_ask(&self, handler: u16, want: &Want) -> bool
+    pub(crate) fn may_ask(&self, handler: HandlerNumber, want: &Want) -> bool
         ensures { result ≡ may_ask handler want.now (plain self.now) }
     {
         match want {
@@ -43,14 +44,14 @@ impl State {
     }
 
     /// Whether the handler may post to all of these.
-    fn may_post_to_all(&self, handler: u16, handlers: &[u16]) -> bool
+    fn may_post_to_all(&self, handler: HandlerNumber, handlers: &[HandlerNumber]) -> bool
         ensures { result ≡ may_post_to_all handler handlers.now (plain self.now) }
     {
         handlers.iter().all(|k| self.may_post_to(handler, *k))
     }
 
     /// Whether the handler may post to another one.
-    fn may_post_to(&self, handler: u16, other: u16) -> bool
+    fn may_post_to(&self, handler: HandlerNumber, other: HandlerNumber) -> bool
         ensures { result ≡ is_handler handler ((plain self.now).rights.queue other) }
     {
         match self.rights.queue(other) {
@@ -60,7 +61,7 @@ impl State {
     }
 
     /// Whether there are all of these.
-    fn are_handlers(&self, handlers: &[u16]) -> bool
+    fn are_handlers(&self, handlers: &[HandlerNumber]) -> bool
         ensures { result ≡ are_handlers handlers.now (plain self.now) }
     {
         handlers.iter().all(|k| (*k as usize) < self.count)

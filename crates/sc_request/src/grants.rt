@@ -8,7 +8,7 @@ ghost use Rattle.sc_request.specs.Logs.{granted, ungranted};
 
 use crate::handler_set::HandlerSet;
 use crate::sessions::{release_each, reserve_each};
-use sc_lockpass::Rights;
+use sc_lockpass::{HandlerNumber, Rights};
 use sc_region::Job;
 
 /// Reserves what the job was granted, if it is a grant. Then those that wait to reserve are candidates.
@@ -16,7 +16,7 @@ pub(crate) fn reserve_granted(
     rights: &mut Rights,
     candidates: &mut HandlerSet,
     reserving: &HandlerSet,
-    handler: u16,
+    handler: HandlerNumber,
     job: &Job,
 )
     requires { All (λ k. k < most_handlers rights.old.version) (granted_items job.now) }

@@ -2,6 +2,7 @@
 
 use crate::center::Core;
 use sc_handler::{word_of, write_handler};
+use sc_lockpass::HandlerNumber;
 use std::hash::{FoldHasher, Hasher};
 
 impl Core {
@@ -10,8 +11,8 @@ impl Core {
     pub fn hash(&self) -> u64 {
         let mut hasher = FoldHasher::default();
         for handler in 0..self.handler_count() {
-            let queue = word_of(self.state.rights.queue(handler as u16));
-            let top = word_of(self.state.rights.top(handler as u16));
+            let queue = word_of(self.state.rights.queue(handler as HandlerNumber));
+            let top = word_of(self.state.rights.top(handler as HandlerNumber));
             hasher.write_u64(queue | top << 32);
             hasher.write_u64(self.state.sessions[handler]);
             write_handler(&mut hasher, &self.state.handlers[handler]);

@@ -14,12 +14,13 @@ use crate::handler_set::HandlerSet;
 use crate::state::State;
 use arrayvec::ArrayVec;
 use sc_handler::{Handler, HandlerStage};
+use sc_lockpass::HandlerNumber;
 use sc_region::Job;
 use sc_waitcond::Entry;
 
 impl State {
     /// Whether a handler has something to do and isn't out.
-    pub(crate) fn has_job(&self, handler: u16) -> bool
+    pub(crate) fn has_job(&self, handler: HandlerNumber) -> bool
         ensures { result ≡ is_some (pick_for handler (center_at 0 self.now)) }
     {
         if (handler as usize) >= self.count {
@@ -42,7 +43,11 @@ impl State {
 
     /// The next handler that has something to do, behind the one that was picked last. What has nothing to do leaves the
     /// candidates.
-    pub(crate) fn first_round(&self, last: u16, candidates: &mut HandlerSet) -> Option<u16>
+    pub(crate) fn first_round(
+        &self,
+        last: HandlerNumber,
+        candidates: &mut HandlerSet,
+    ) -> Option<HandlerNumber>
         requires { AreCandidates candidates.old.words (center_at last self.now) }
         ensures found { result ≡ option_map (λ p. p.0) (next (center_at last self.now)) }
         ensures kept { AreCandidates candidates.new.words (center_at last self.now) }
@@ -55,7 +60,7 @@ impl State {
     }
 
     /// The first from a number on, and below another one.
-    fn first_in(&self, candidates: &mut HandlerSet, from: usize, to: usize) -> Option<u16>
+    fn first_in(&self, candidates: &mut HandlerSet, from: usize, to: usize) -> Option<HandlerNumber>
         requires within { to ≤ self.now.count }
         requires candidates { AreCandidates candidates.old.words (center_at 0 self.now) }
         ensures found { result ≡ option_map (λ p. p.0) (first_with_job (numbers_from from (to - from)) (center_at 0 self.now)) }
@@ -64,8 +69,8 @@ impl State {
         let mut at = from;
         for _turn in from..to {
             let handler = candidates.next_in(at, to)?;
-            if self.has_job(handler as u16) {
-                return Some(handler as u16);
+            if self.has_job(handler as HandlerNumber) {
+                return Some(handler as HandlerNumber);
             }
             candidates.remove(handler);
             at = handler + 1;
@@ -74,7 +79,7 @@ impl State {
     }
 
     /// A handler is out with what it has to do, as it stands.
-    pub(crate) fn set_out(&mut self, handler: u16)
+    pub(crate) fn set_out(&mut self, handler: HandlerNumber)
         requires there { handler < 512 }
         ensures handlers { IsSetOut handler self.old self.new }
         ensures count { self.new.count ≡ self.old.count }
@@ -90,7 +95,7 @@ impl State {
 
     /// A handler is out with what its reserve step comes to.
     #[inline(never)]
-    fn set_reserving(&mut self, handler: u16)
+    fn set_reserving(&mut self, handler: HandlerNumber)
         requires there { handler < 512 }
         requires reserves { is_reserving ((plain self.old).handlers handler).stage ≡ true }
         ensures handlers { IsSetOut handler self.old self.new }
@@ -103,7 +108,7 @@ impl State {
     }
 
     /// What the reserve step of a handler comes to, where it may be taken.
-    pub(crate) fn job_for_entry(&self, handler: u16, place: &Handler) -> Option<Job>
+    pub(crate) fn job_for_entry(&self, handler: HandlerNumber, place: &Handler) -> Option<Job>
         ensures { result ≡ job_for_entry (needs handler place.now.entry.items (rights_of self.now.rights)) place.now.mark (plain self.now) }
     {
         let needed = self.needed(handler, place);
@@ -117,7 +122,7 @@ impl State {
     }
 
     /// Whether the reserve step of a handler may be taken.
-    fn is_enabled(&self, handler: u16, place: &Handler) -> bool
+    fn is_enabled(&self, handler: HandlerNumber, place: &Handler) -> bool
         ensures { result ≡ is_some (job_for_entry (needs handler place.now.entry.items (rights_of self.now.rights)) place.now.mark (plain self.now)) }
     {
         let needed = self.needed(handler, place);
@@ -126,7 +131,11 @@ impl State {
     }
 
     /// What a handler doesn't hold of the handlers of its entry.
-    pub(crate) fn needed(&self, handler: u16, place: &Handler) -> ArrayVec<u16, 16>
+    pub(crate) fn needed(
+        &self,
+        handler: HandlerNumber,
+        place: &Handler,
+    ) -> ArrayVec<HandlerNumber, 16>
         ensures { result.items ≡ needs handler place.now.entry.items (rights_of self.now.rights) }
     {
         let values = values_of(place.entry.as_slice());
@@ -134,21 +143,21 @@ impl State {
     }
 
     /// Whether one of these can never be reserved again.
-    fn is_any_lost(&self, handlers: &[u16]) -> bool
+    fn is_any_lost(&self, handlers: &[HandlerNumber]) -> bool
         ensures { result ≡ reserve_fails (standing_in (plain self.now)) (rights_of self.now.rights) handlers.now }
     {
         handlers.iter().any(|k| self.is_lost(*k))
     }
 
     /// Whether all of these may be reserved.
-    fn are_free(&self, handlers: &[u16]) -> bool
+    fn are_free(&self, handlers: &[HandlerNumber]) -> bool
         ensures { result ≡ list_all (λ k. may_be_reserved (standing_in (plain self.now) k) ((rights_of self.now.rights).queue k)) handlers.now }
     {
         handlers.iter().all(|k| self.is_free(*k))
     }
 
     /// Whether a handler has failed, and is nobody's.
-    fn is_lost(&self, handler: u16) -> bool
+    fn is_lost(&self, handler: HandlerNumber) -> bool
         ensures { result ≡ is_lost (standing_in (plain self.now) handler) ((rights_of self.now.rights).queue handler) }
     {
         match self.handlers.get(handler as usize) {
@@ -158,7 +167,7 @@ impl State {
     }
 
     /// Whether a handler is idle with an empty queue, and nobody's.
-    fn is_free(&self, handler: u16) -> bool
+    fn is_free(&self, handler: HandlerNumber) -> bool
         ensures { result ≡ may_be_reserved (standing_in (plain self.now) handler) ((rights_of self.now.rights).queue handler) }
     {
         if self.rights.queue(handler).is_some() {
@@ -172,7 +181,7 @@ impl State {
 }
 
 /// The handlers, as those of values.
-fn values_of(handlers: &[u16]) -> ArrayVec<Option<u16>, 16>
+fn values_of(handlers: &[HandlerNumber]) -> ArrayVec<Option<HandlerNumber>, 16>
     requires { length handlers.now ≤ 16 }
     ensures { result.items ≡ map Some handlers.now }
 {

@@ -8,14 +8,14 @@ ghost use Rattle.sc_request.specs.Keeping.{AreNewFrom, holders_in, rights_in};
 
 use crate::center::Core;
 use sc_handler::{Handler, same_handler};
-use sc_lockpass::Rights;
+use sc_lockpass::{HandlerNumber, Rights};
 use std::alloc::{AllocError, Global};
 
 /// Who holds a handler: who may post to it, and who may push on its waiting stack.
 #[derive(Clone, Copy, PartialEq, Eq)]
 pub(crate) struct Holders {
-    queue: Option<u16>,
-    top: Option<u16>,
+    queue: Option<HandlerNumber>,
+    top: Option<HandlerNumber>,
 }
 
 /// The state of a core: its handlers, and who holds which. It takes memory for the handlers that there are, and for what
@@ -87,7 +87,7 @@ impl KeptCore {
     }
 
     /// Whether the same handlers hold a handler.
-    fn has_same_holders(&self, rights: &Rights, handler: u16) -> bool
+    fn has_same_holders(&self, rights: &Rights, handler: HandlerNumber) -> bool
         ensures { IsTrue result ↔ holders_in (slice_get self.now.holders.items handler)
             ≡ record { queue = (rights_of rights.now).queue handler; top = (rights_of rights.now).top handler } }
     {
@@ -190,13 +190,13 @@ fn all_holders(alloc: Global, rights: &Rights) -> Result<Vec<Holders>, AllocErro
     let reach = rights.reach();
     let mut holders = Vec::with_capacity(alloc, reach)?;
     for handler in 0..reach {
-        holders.push(holders_of(rights, handler as u16))?;
+        holders.push(holders_of(rights, handler as HandlerNumber))?;
     }
     Ok(holders)
 }
 
 /// Who holds a handler.
-fn holders_of(rights: &Rights, handler: u16) -> Holders
+fn holders_of(rights: &Rights, handler: HandlerNumber) -> Holders
     ensures { result ≡ record { queue = (rights_of rights.now).queue handler; top = (rights_of rights.now).top handler } }
 {
     Holders {
@@ -206,7 +206,7 @@ fn holders_of(rights: &Rights, handler: u16) -> Holders
 }
 
 /// Who holds a handler, where nobody holds any past these.
-fn holders_at(holders: &[Holders], handler: u16) -> Holders
+fn holders_at(holders: &[Holders], handler: HandlerNumber) -> Holders
     ensures { result ≡ holders_in (slice_get holders.now handler) }
 {
     match holders.get(handler as usize) {

@@ -10,6 +10,7 @@ use crate::sessions::give_new;
 use crate::state::State;
 use arrayvec::ArrayVec;
 use sc_handler::{HandlerStage, Posting, copy_values};
+use sc_lockpass::HandlerNumber;
 use sc_model::Cause;
 use sc_region::{Errand, Reference, Request, Value};
 use std::collections::LinkedList;
@@ -18,7 +19,7 @@ impl State {
     /// A handler makes another one, if there may be one more, and asks it for this creation.
     pub(crate) fn create(
         &mut self,
-        handler: u16,
+        handler: HandlerNumber,
         class: u8,
         procedure: Option<u32>,
         actuals: &ArrayVec<Value, 16>,
@@ -37,7 +38,7 @@ impl State {
             self.fail(handler, Cause::TooManyHandlers);
             return;
         }
-        let made = self.count as u16;
+        let made = self.count as HandlerNumber;
         self.make(made, handler);
         let request = creation(handler, made, class, procedure, actuals, passes);
         if passes {
@@ -48,7 +49,7 @@ impl State {
     }
 
     /// There is a new handler, which another one may post to.
-    fn make(&mut self, made: u16, holder: u16)
+    fn make(&mut self, made: HandlerNumber, holder: HandlerNumber)
         requires next { made ≡ self.old.count }
         requires most { made < most_handlers self.old.rights.version }
         ensures plain { plain self.new ≡ with_handler made holder (plain self.old) }
@@ -64,8 +65,8 @@ impl State {
     /// The creator passes its rights and waits.
     fn create_passing(
         &mut self,
-        handler: u16,
-        made: u16,
+        handler: HandlerNumber,
+        made: HandlerNumber,
         request: Request,
         spare: &mut LinkedList<Posting>,
     )
@@ -90,8 +91,8 @@ impl State {
     /// The creator goes on, and releases the new handler at once.
     fn create_alone(
         &mut self,
-        handler: u16,
-        made: u16,
+        handler: HandlerNumber,
+        made: HandlerNumber,
         request: Request,
         spare: &mut LinkedList<Posting>,
     )
@@ -113,8 +114,8 @@ impl State {
 
 /// The first request of a new handler.
 fn creation(
-    poster: u16,
-    made: u16,
+    poster: HandlerNumber,
+    made: HandlerNumber,
     class: u8,
     procedure: Option<u32>,
     actuals: &ArrayVec<Value, 16>,

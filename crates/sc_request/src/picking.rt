@@ -9,6 +9,7 @@ ghost use Rattle.sc_request.specs.Logs as logs;
 use crate::center::Core;
 use crate::grants::{release_granted, reserve_granted};
 use sc_handler::frees_under;
+use sc_lockpass::HandlerNumber;
 use sc_region::Job;
 
 impl Core {
@@ -17,7 +18,7 @@ impl Core {
 
     /// The next handler that has something to do, after the one that was picked last and round the numbers. It is out
     /// with its job from now on, and what its reserve step is granted is reserved.
-    pub fn pick(&mut self) -> Option<u16>
+    pub fn pick(&mut self) -> Option<HandlerNumber>
         ensures handler { result ≡ option_map (λ p. p.0) (next (center_of self.old)) }
         ensures below { IfSome result (λ handler. handler < 512) }
         ensures center { center_of self.new ≡ picks (next (center_of self.old)) (center_of self.old) }
@@ -34,7 +35,7 @@ impl Core {
     /// Whether a handler that is out is the next one again, as long as its turns ask nothing: no other one has anything
     /// to do, and its job frees nothing that one waits to reserve. Of one that isn't out, whether nobody has anything
     /// to do.
-    pub fn comes_again(&mut self, handler: u16) -> bool
+    pub fn comes_again(&mut self, handler: HandlerNumber) -> bool
         ensures again { (job : Job) → (center_of self.old).out handler ≡ Some job → result ≡ comes_again job (center_of self.old) }
         ensures home { (center_of self.old).out handler ≡ None → result ≡ not (is_some (next (center_of self.old))) }
         ensures center { center_of self.new ≡ center_of self.old }
@@ -47,7 +48,7 @@ impl Core {
     }
 
     /// Whether the job that a handler is out with frees what another one may wait to reserve.
-    fn frees_out(&self, handler: u16) -> bool
+    fn frees_out(&self, handler: HandlerNumber) -> bool
         ensures out { (job : Job) → (center_of self.now).out handler ≡ Some job → result ≡ frees_under job }
         ensures home { (center_of self.now).out handler ≡ None → result ≡ false }
     {
@@ -58,7 +59,7 @@ impl Core {
     }
 
     /// The job that a handler is out with.
-    pub fn job_out(&self, handler: u16) -> Option<&Job>
+    pub fn job_out(&self, handler: HandlerNumber) -> Option<&Job>
         ensures { option_map (λ job. job.now) result ≡ (center_of self.now).out handler }
     {
         self.state.job_out(handler)
@@ -79,7 +80,7 @@ impl Core {
 
     /// Whether this handler has something to do and isn't out. It is out with that from now on, and what its reserve
     /// step is granted is reserved.
-    pub fn pick_at(&mut self, handler: u16) -> bool
+    pub fn pick_at(&mut self, handler: HandlerNumber) -> bool
         ensures picked { result ≡ is_some (logs.pick_for handler (center_of self.old)) }
         ensures below { IsTrue result → handler < 512 }
         ensures center { center_of self.new ≡ picked_if handler (logs.pick_for handler (center_of self.old)) (center_of self.old) }
@@ -96,7 +97,7 @@ impl Core {
     }
 
     /// Undoes the pick of a handler that is out. It is still the one that was picked last, where it was.
-    pub fn put_back(&mut self, handler: u16)
+    pub fn put_back(&mut self, handler: HandlerNumber)
         ensures center { center_of self.new ≡ logs.put_back handler (center_of self.old) }
         ensures log { log_of self.new ≡ log_of self.old }
         ensures room { (n : ℕ) → HasRoomFor n self.old → HasRoomFor n self.new }
@@ -124,7 +125,7 @@ impl Core {
     }
 
     /// The handler is out with the job that it has.
-    fn send_out(&mut self, handler: u16)
+    fn send_out(&mut self, handler: HandlerNumber)
         requires { is_some (logs.pick_for handler (center_of self.old)) ≡ true }
         ensures center { center_of self.new ≡ picked_if handler (logs.pick_for handler (center_of self.old)) (center_of self.old) }
         ensures log { log_of self.new ≡ log_of self.old }

@@ -10,7 +10,7 @@ ghost use Rattle.sc_request.specs.Settling.{reserves};
 use crate::state::State;
 use arrayvec::ArrayVec;
 use sc_handler::{Answer, Dropped, HandlerStage, Posting, copy_handlers};
-use sc_lockpass::Passed;
+use sc_lockpass::{HandlerNumber, Passed};
 use sc_model::Cause;
 use sc_region::Request;
 use sc_waitcond::Mark;
@@ -53,7 +53,11 @@ impl State {
     }
 
     /// The next step of the handler is the reserve step for these.
-    pub(crate) fn reserve_next(&mut self, handler: u16, entry: &ArrayVec<u16, 16>)
+    pub(crate) fn reserve_next(
+        &mut self,
+        handler: HandlerNumber,
+        entry: &ArrayVec<HandlerNumber, 16>,
+    )
         requires { handler < 512 }
         ensures plain { plain self.new ≡ reserves handler entry.now.items (plain self.old) }
         ensures outs { outs_of self.new ≡ outs_of self.old }

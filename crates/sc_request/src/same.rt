@@ -7,11 +7,12 @@ ghost use Rattle.sc_request.specs.Cores.{center_of};
 use crate::center::Core;
 use crate::state::State;
 use sc_handler::same_handler;
+use sc_lockpass::HandlerNumber;
 
 impl Core {
     /// Whether another core stands alike at a handler: the handler stands the same in both, it serves and is asked the
     /// same, as many of its sessions have ended, and the same handlers hold it. The job that it is out with may differ.
-    pub fn is_same_at(&self, other: &Core, handler: u16) -> bool
+    pub fn is_same_at(&self, other: &Core, handler: HandlerNumber) -> bool
         ensures { IsTrue result ↔ AreSameAt handler (center_of self.now) (center_of other.now) }
     {
         self.status(handler) == other.status(handler)
@@ -23,7 +24,7 @@ impl Core {
 
 impl State {
     /// Whether the same is kept of a handler, with the count of its sessions. Where there is no place for it, it is.
-    fn has_same_handler(&self, other: &State, handler: u16) -> bool
+    fn has_same_handler(&self, other: &State, handler: HandlerNumber) -> bool
         ensures { IsTrue result ↔ (plain self.now).handlers handler ≡ (plain other.now).handlers handler }
     {
         let place = handler as usize;

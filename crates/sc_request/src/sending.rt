@@ -14,7 +14,7 @@ ghost use Rattle.sc_request.specs.Sound.{IsSound};
 use crate::failing::holds;
 use crate::state::State;
 use sc_handler::{HandlerStage, Posting, take_first};
-use sc_lockpass::Passed;
+use sc_lockpass::{HandlerNumber, Passed};
 use sc_model::Cause;
 use sc_region::Request;
 use std::collections::LinkedList;
@@ -26,7 +26,7 @@ impl State {
     /// A handler asks another one, unless that has failed or its queue is full.
     pub(crate) fn ask(
         &mut self,
-        handler: u16,
+        handler: HandlerNumber,
         request: &Request,
         passes: bool,
         spare: &mut LinkedList<Posting>,
@@ -57,7 +57,7 @@ impl State {
     /// A request goes to its target, with all rights where it passes them, and is waited for or not.
     fn send_on(
         &mut self,
-        handler: u16,
+        handler: HandlerNumber,
         request: &Request,
         passes: bool,
         is_waited: bool,
@@ -80,7 +80,7 @@ impl State {
     }
 
     /// Whether a handler may push on the waiting stack of another one.
-    fn is_callback(&self, handler: u16, target: u16) -> bool
+    fn is_callback(&self, handler: HandlerNumber, target: HandlerNumber) -> bool
         ensures { result ≡ is_callback handler target (plain self.now) }
     {
         holds(handler, self.rights.top(target))
@@ -103,7 +103,7 @@ impl State {
     }
 
     /// A handler waits for the answer of its supplier, where the request is waited for.
-    fn await_if(&mut self, is_waited: bool, handler: u16, supplier: u16)
+    fn await_if(&mut self, is_waited: bool, handler: HandlerNumber, supplier: HandlerNumber)
         requires { handler < 512 }
         ensures plain { plain self.new ≡ awaits_if is_waited handler supplier (plain self.old) }
         ensures outs { outs_of self.new ≡ outs_of self.old }
@@ -120,7 +120,12 @@ impl State {
     }
 
     /// Passes all rights of a client to its supplier, where the request passes them.
-    pub(crate) fn pass_if(&mut self, passes: bool, client: u16, supplier: u16) -> Option<Passed>
+    pub(crate) fn pass_if(
+        &mut self,
+        passes: bool,
+        client: HandlerNumber,
+        supplier: HandlerNumber,
+    ) -> Option<Passed>
         requires { client < most_handlers self.old.rights.version }
         ensures passed { option_map passed_of result ≡ passed_if passes client (plain self.old).rights }
         ensures plain { plain self.new ≡ sessions.passes passes client supplier (plain self.old) }
@@ -140,7 +145,7 @@ impl State {
     pub(crate) fn send(
         &mut self,
         is_callback: bool,
-        target: u16,
+        target: HandlerNumber,
         request: &Request,
         is_waited: bool,
         passed: &mut Option<Passed>,

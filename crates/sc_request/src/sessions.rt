@@ -12,11 +12,11 @@ ghost use Rattle.sc_request.specs.Settling.{waits_again};
 ghost use Rattle.sc_request.specs.Tables.{CountsUp};
 
 use crate::state::State;
-use sc_lockpass::Rights;
+use sc_lockpass::{HandlerNumber, Rights};
 use sc_waitcond::Mark;
 
 /// Releases these, whoever holds them.
-pub(crate) fn release_each(rights: &mut Rights, handlers: &[u16])
+pub(crate) fn release_each(rights: &mut Rights, handlers: &[HandlerNumber])
     ensures queue { (k : ℕ) → (rights_of rights.new).queue k ≡ (if is_among k handlers.now then None else (rights_of rights.old).queue k) }
     ensures top { (k : ℕ) → (rights_of rights.new).top k ≡ (rights_of rights.old).top k }
     ensures version { rights.new.version ≡ rights.old.version }
@@ -27,7 +27,7 @@ pub(crate) fn release_each(rights: &mut Rights, handlers: &[u16])
 }
 
 /// Releases a handler, whoever holds it.
-fn release_one(rights: &mut Rights, handler: u16)
+fn release_one(rights: &mut Rights, handler: HandlerNumber)
     ensures queue { (k : ℕ) → (rights_of rights.new).queue k ≡ (if is_among k (handler ∷ []) then None else (rights_of rights.old).queue k) }
     ensures top { (k : ℕ) → (rights_of rights.new).top k ≡ (rights_of rights.old).top k }
     ensures version { rights.new.version ≡ rights.old.version }
@@ -38,7 +38,7 @@ fn release_one(rights: &mut Rights, handler: u16)
 }
 
 /// Reserves these for a handler, whoever held them.
-pub(crate) fn reserve_each(rights: &mut Rights, holder: u16, handlers: &[u16])
+pub(crate) fn reserve_each(rights: &mut Rights, holder: HandlerNumber, handlers: &[HandlerNumber])
     requires { All (λ k. k < most_handlers rights.old.version) handlers.now }
     ensures rights { rights_of rights.new ≡ maps.reserve holder handlers.now (rights_of rights.old) }
     ensures version { rights.new.version ≡ rights.old.version }
@@ -48,7 +48,7 @@ pub(crate) fn reserve_each(rights: &mut Rights, holder: u16, handlers: &[u16])
 }
 
 /// Lets a handler post to a new one, and nobody push on the waiting stack of that.
-pub(crate) fn give_new(rights: &mut Rights, made: u16, holder: u16)
+pub(crate) fn give_new(rights: &mut Rights, made: HandlerNumber, holder: HandlerNumber)
     requires { made < most_handlers rights.old.version }
     ensures queue { (k : ℕ) → (rights_of rights.new).queue k ≡ given_to made (Some holder) (rights_of rights.old).queue k }
     ensures top { (k : ℕ) → (rights_of rights.new).top k ≡ given_to made None (rights_of rights.old).top k }
@@ -64,7 +64,7 @@ pub(crate) fn give_new(rights: &mut Rights, made: u16, holder: u16)
 
 impl State {
     /// Releases these, each of which the handler may post to. A session of each ends.
-    pub(crate) fn end_sessions(&mut self, handlers: &[u16])
+    pub(crate) fn end_sessions(&mut self, handlers: &[HandlerNumber])
         requires there { All (λ k. k < 512) handlers.now }
         requires room { (k : ℕ) → slice_index self.old.sessions.items k + 1 < 2 ^ 64 }
         ensures plain { plain self.new ≡ release release_at.Exit handlers.now (plain self.old) }
@@ -77,7 +77,7 @@ impl State {
     }
 
     /// The entry of the handler waits: these, which it has newly reserved, are released and marked.
-    pub(crate) fn wait_again(&mut self, handler: u16, handlers: &[u16])
+    pub(crate) fn wait_again(&mut self, handler: HandlerNumber, handlers: &[HandlerNumber])
         requires there { handler < 512 }
         requires few { length handlers.now ≤ 16 }
         requires listed { All (λ k. k < 512) handlers.now }
@@ -92,7 +92,7 @@ impl State {
 }
 
 /// Counts one more for each of these, once where it is listed twice.
-fn count_each(counts: &mut Vec<u64>, handlers: &[u16])
+fn count_each(counts: &mut Vec<u64>, handlers: &[HandlerNumber])
     requires there { All (λ k. k < vec_len counts.old) handlers.now }
     requires room { (k : ℕ) → slice_index counts.old.items k + 1 < 2 ^ 64 }
     ensures counted { CountsUp (λ k. is_among k handlers.now) counts.old.items counts.new.items }
@@ -106,7 +106,7 @@ fn count_each(counts: &mut Vec<u64>, handlers: &[u16])
     }
 }
 
-fn is_listed(handler: u16, handlers: &[u16]) -> bool
+fn is_listed(handler: HandlerNumber, handlers: &[HandlerNumber]) -> bool
     ensures { result ≡ is_among handler handlers.now }
 {
     handlers.iter().any(|other| *other == handler)

@@ -15,6 +15,7 @@ use crate::center::Core;
 use crate::settlement::SettleFault;
 use crate::state::State;
 use sc_handler::{JobKind, Posting, fits_turns, frees, kind_of};
+use sc_lockpass::HandlerNumber;
 use sc_model::Cause;
 use sc_region::{Job, Want};
 use std::collections::LinkedList;
@@ -28,7 +29,12 @@ impl Core {
     ///
     /// S1 with the handler's number where it isn't out, and S9 where there is no memory. Nothing has changed then. S9
     /// doesn't come where there is room for a settlement.
-    pub fn settle(&mut self, handler: u16, turns: u32, want: &Want) -> Result<(), SettleFault>
+    pub fn settle(
+        &mut self,
+        handler: HandlerNumber,
+        turns: u32,
+        want: &Want,
+    ) -> Result<(), SettleFault>
         ensures center { OnOk result (Settles handler turns want.now self.old self.new) }
         ensures log { OnOk result (LogsSettlement handler turns want.now self.old self.new) }
         ensures not_out { is_not_out result ≡ not (is_some ((center_of self.old).out handler)) }
@@ -50,14 +56,14 @@ impl Core {
     }
 
     /// Whether a handler is out.
-    fn is_out(&self, handler: u16) -> bool
+    fn is_out(&self, handler: HandlerNumber) -> bool
         ensures { result ≡ is_some ((center_of self.now).out handler) }
     {
         self.state.job_out(handler).is_some()
     }
 
     /// Settles so many turns of a handler that is out, where there is room.
-    fn settle_out(&mut self, handler: u16, turns: u32, want: &Want)
+    fn settle_out(&mut self, handler: HandlerNumber, turns: u32, want: &Want)
         requires out { is_some ((center_of self.old).out handler) ≡ true }
         requires places { 1 ≤ length self.old.spare }
         requires entries { HasPlaces 1 self.old.log }
@@ -89,7 +95,7 @@ impl Core {
 
 impl State {
     /// The job that a handler is out with.
-    pub(crate) fn job_out(&self, handler: u16) -> Option<&Job>
+    pub(crate) fn job_out(&self, handler: HandlerNumber) -> Option<&Job>
         ensures { option_map (λ job. job.now) result ≡ outs_of self.now handler }
     {
         self.handlers.get(handler as usize)?.out.get()
@@ -99,7 +105,7 @@ impl State {
     /// one of these places.
     fn settle(
         &mut self,
-        handler: u16,
+        handler: HandlerNumber,
         kind: &JobKind,
         turns: u32,
         want: &Want,
@@ -121,7 +127,13 @@ impl State {
     }
 
     /// Does what the last turn of a handler asks, where it fits. Else the handler fails.
-    fn ask_in(&mut self, handler: u16, fits: bool, want: &Want, spare: &mut LinkedList<Posting>)
+    fn ask_in(
+        &mut self,
+        handler: HandlerNumber,
+        fits: bool,
+        want: &Want,
+        spare: &mut LinkedList<Posting>,
+    )
         requires there { handler < most_handlers self.old.rights.version }
         requires place { 1 ≤ length spare.old }
         requires sound { IsSound (2 ^ 64 - 2) (2 ^ 63) (plain self.old) }

@@ -7,12 +7,18 @@ ghost use Rattle.sc_request.specs.Sound.{IsSound};
 
 use crate::state::State;
 use sc_handler::Posting;
+use sc_lockpass::HandlerNumber;
 use sc_region::Want;
 use std::collections::LinkedList;
 
 impl State {
     /// Does what the last turn of a handler asks. What is sent takes the first node of `spare`.
-    pub(crate) fn done(&mut self, handler: u16, want: &Want, spare: &mut LinkedList<Posting>)
+    pub(crate) fn done(
+        &mut self,
+        handler: HandlerNumber,
+        want: &Want,
+        spare: &mut LinkedList<Posting>,
+    )
         requires there { handler < most_handlers self.old.rights.version }
         requires spare { 1 ≤ length spare.old }
         requires sound { IsSound (2 ^ 64 - 2) (2 ^ 63) (plain self.old) }

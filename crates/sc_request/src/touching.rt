@@ -9,13 +9,14 @@ ghost use Rattle.sc_request.specs.Places.{plain};
 use crate::handler_set::HandlerSet;
 use crate::state::State;
 use sc_handler::{HandlerStage, Posting};
+use sc_lockpass::HandlerNumber;
 use sc_region::Want;
 use std::collections::LinkedList;
 
 impl State {
     /// Adds the handler that is to be settled, and each other one that its turn touches if it asks this and doesn't
     /// fail.
-    pub(crate) fn touch(&self, handler: u16, want: &Want, candidates: &mut HandlerSet)
+    pub(crate) fn touch(&self, handler: HandlerNumber, want: &Want, candidates: &mut HandlerSet)
         requires { handler < 512 }
         ensures { AddsTouched handler want.now (plain self.now) candidates.old.words candidates.new.words }
     {
@@ -56,7 +57,7 @@ impl State {
     /// be free from now on, and all where the handler has failed.
     pub(crate) fn wake(
         &self,
-        handler: u16,
+        handler: HandlerNumber,
         is_freeing: bool,
         reserving: &mut HandlerSet,
         candidates: &mut HandlerSet,

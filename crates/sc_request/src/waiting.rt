@@ -9,13 +9,14 @@ ghost use Rattle.sc_request.specs.Waiting.{is_put_off, needed_at};
 use crate::center::Core;
 use arrayvec::ArrayVec;
 use sc_handler::{Handler, HandlerStage};
+use sc_lockpass::HandlerNumber;
 use sc_region::Request;
 
 impl Core {
     ghost use Rattle.sc_request.specs.Cores.{state_of};
 
     /// Who may post to a handler, if anybody may.
-    pub fn holder(&self, handler: u16) -> Option<u16>
+    pub fn holder(&self, handler: HandlerNumber) -> Option<HandlerNumber>
         ensures { result ≡ (state_of self.now).rights.queue handler }
     {
         self.state.rights.queue(handler)
@@ -23,7 +24,7 @@ impl Core {
 
     /// Of the handlers that the next step of a handler reserves, those that it doesn't hold, each once: none where that is no
     /// reserve step.
-    pub fn needed_by(&self, handler: u16) -> ArrayVec<u16, 16>
+    pub fn needed_by(&self, handler: HandlerNumber) -> ArrayVec<HandlerNumber, 16>
         ensures { let s = state_of self.now in result.items ≡ needed_at handler s.rights (s.handlers handler).stage }
     {
         match self.state.handlers.get(handler as usize) {
@@ -37,7 +38,7 @@ impl Core {
 
     /// Whether the next step of a handler is a reserve step that a false wait condition put off, and no session has ended
     /// since of the handlers that were reserved for that.
-    pub fn is_put_off(&self, handler: u16) -> bool
+    pub fn is_put_off(&self, handler: HandlerNumber) -> bool
         ensures { let s = state_of self.now in result ≡ is_put_off (λ k. (s.handlers k).sessions) (s.handlers handler).stage }
     {
         match self.state.handlers.get(handler as usize) {
@@ -50,7 +51,7 @@ impl Core {
     }
 
     /// The handler for whose answer a handler waits, if it waits for one.
-    pub fn awaits(&self, handler: u16) -> Option<u16>
+    pub fn awaits(&self, handler: HandlerNumber) -> Option<HandlerNumber>
         ensures { result ≡ awaited ((state_of self.now).handlers handler).stage }
     {
         match self.state.handlers.get(handler as usize)?.stage {
@@ -63,7 +64,7 @@ impl Core {
     }
 
     /// How many requests stand in the queue of a handler.
-    pub fn queue_len(&self, handler: u16) -> usize
+    pub fn queue_len(&self, handler: HandlerNumber) -> usize
         ensures { result ≡ length ((state_of self.now).handlers handler).queue }
     {
         match self.state.handlers.get(handler as usize) {
@@ -73,7 +74,7 @@ impl Core {
     }
 
     /// The request that a handler takes next of its queue, if one stands there.
-    pub fn first_asked(&self, handler: u16) -> Option<&Request>
+    pub fn first_asked(&self, handler: HandlerNumber) -> Option<&Request>
         ensures { option_map (λ request. request.now) result ≡ waiting.first_request ((state_of self.now).handlers handler).queue }
     {
         match self.state.handlers.get(handler as usize) {

@@ -6,6 +6,7 @@ use crate::movers::{Rest, play_movers};
 use crate::progress::{Progress, Stop, Way};
 use crate::replay::{Subject, world_after};
 use crate::watch::Watch;
+use sc_lockpass::HandlerNumber;
 use std::alloc::AllocError;
 
 /// Plays choices in every order, and movers behind each, as long as no more than so many states are kept: why it stopped
@@ -57,7 +58,7 @@ fn choose<'p>(
     let path = progress.states.order(number)?;
     let world = world_after(subject, &path)?;
     for handler in 0..world.core().handler_count() {
-        let handler = handler as u16;
+        let handler = handler as HandlerNumber;
         if world.core().pick_for(handler).is_none() {
             continue;
         }

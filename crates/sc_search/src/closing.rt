@@ -9,6 +9,7 @@ ghost use Rattle.sc_search.specs.Views.{states_of};
 use crate::progress::{Progress, Stop, Way};
 use crate::replay::{Subject, world_after};
 use crate::watch::Watch;
+use sc_lockpass::HandlerNumber;
 use sc_world::World;
 use std::alloc::AllocError;
 
@@ -89,7 +90,7 @@ fn try_all<'p>(
         return Ok(Some(Stop::Cut));
     }
     for place in 0..world.core().handler_count() {
-        let handler = place as u16;
+        let handler = place as HandlerNumber;
         if let Some(stop) = try_turn(subject, progress, number, &world, &path, handler, limit)? {
             return Ok(Some(stop));
         }
@@ -103,8 +104,8 @@ fn try_turn<'p>(
     progress: &mut Progress<'p>,
     number: u32,
     world: &World<'p>,
-    path: &[u16],
-    handler: u16,
+    path: &[HandlerNumber],
+    handler: HandlerNumber,
     limit: u32,
 ) -> Result<Option<Stop>, AllocError>
     requires stands { Stands subject.program.now.image subject.version (states_of progress.old) number path.now (world_of world.now) }
@@ -125,8 +126,8 @@ fn move_on<'p>(
     subject: Subject<'p>,
     progress: &mut Progress<'p>,
     number: u32,
-    path: &[u16],
-    handler: u16,
+    path: &[HandlerNumber],
+    handler: HandlerNumber,
     limit: u32,
 ) -> Result<Option<Stop>, AllocError>
     requires leads { IsLedTo subject.program.now.image subject.version (states_of progress.old) number path.now }

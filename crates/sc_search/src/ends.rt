@@ -6,13 +6,14 @@ use crate::judging::{Kind, some_is};
 use crate::lines::lines_of;
 use crate::replay::{Subject, world_after};
 use crate::verdict::{End, Order};
+use sc_lockpass::HandlerNumber;
 use sc_world::World;
 use std::alloc::{AllocError, Global};
 
 /// Turns from the opening on, behind which no handler has anything to do, and the report of what they leave.
 #[derive(Drop)]
 pub(crate) struct FoundEnd {
-    turns: Vec<u16>,
+    turns: Vec<HandlerNumber>,
     report: Vec<u8>,
 }
 
@@ -24,7 +25,7 @@ pub(crate) fn push_outcome(
     alloc: Global,
     outcomes: &mut Vec<FoundEnd>,
     world: &World<'_>,
-    turns: &[u16],
+    turns: &[HandlerNumber],
 ) -> Result<(), AllocError> {
     let report = world.report()?;
     if outcomes
@@ -58,7 +59,7 @@ pub(crate) fn ends_after(
 }
 
 /// What these turns lead to, if no handler has anything to do there.
-fn end_after(subject: Subject<'_>, turns: &[u16]) -> Result<Option<End>, AllocError>
+fn end_after(subject: Subject<'_>, turns: &[HandlerNumber]) -> Result<Option<End>, AllocError>
     ensures { IfOk result (λ end. IfSome end (IsEnd subject.entry.program.now.image subject.entry.version)) }
 {
     let world = world_after(subject, turns)?;

@@ -3,13 +3,17 @@ ghost use Rattle.std.specs.Prelude.{◌≡◌, ◌++◌, ◌∷◌, [], IfOk, If
 ghost use Rattle.sc_search.specs.Found.{line_turns, turns_of};
 
 use sc_audit::RecordLine;
+use sc_lockpass::HandlerNumber;
 use std::alloc::{AllocError, Global};
 
 /// The lines of these turns. Turns of a handler that follow one another are one line.
 ///
 /// # Errors
 /// Where there is no memory.
-pub(crate) fn lines_of(alloc: Global, turns: &[u16]) -> Result<Vec<RecordLine>, AllocError>
+pub(crate) fn lines_of(
+    alloc: Global,
+    turns: &[HandlerNumber],
+) -> Result<Vec<RecordLine>, AllocError>
     ensures { IfOk result (λ lines. turns_of lines.items ≡ turns.now) }
 {
     let mut lines = Vec::new(alloc);
@@ -30,7 +34,7 @@ pub(crate) fn lines_of(alloc: Global, turns: &[u16]) -> Result<Vec<RecordLine>, 
 fn add_turn(
     lines: &mut Vec<RecordLine>,
     last: RecordLine,
-    handler: u16,
+    handler: HandlerNumber,
 ) -> Result<RecordLine, AllocError>
     ensures { IfOk result (λ line. turns_of lines.new.items ++ line_turns line ≡ (turns_of lines.old.items ++ line_turns last) ++ handler ∷ []) }
 {
@@ -42,7 +46,7 @@ fn add_turn(
 }
 
 /// The line with one more turn, if that may be.
-fn extended(line: RecordLine, handler: u16) -> Option<RecordLine>
+fn extended(line: RecordLine, handler: HandlerNumber) -> Option<RecordLine>
     ensures { IfSome result (λ longer. line_turns longer ≡ line_turns line ++ handler ∷ []) }
 {
     if line.turns == 0 {

@@ -9,6 +9,7 @@ ghost use Rattle.sc_search.specs.Stops.{Moves, RestsAt};
 
 use crate::judging::is_met;
 use crate::replay::{Subject, world_after};
+use sc_lockpass::HandlerNumber;
 use sc_model::Status;
 use sc_region::{Job, Want};
 use sc_request::Core;
@@ -29,7 +30,7 @@ enum Peek {
     /// It is a choice.
     Choice,
     /// It asks this handler, with lock passing.
-    Passes(u16),
+    Passes(HandlerNumber),
 }
 
 /// Where movers led.
@@ -59,7 +60,7 @@ enum Moved {
 /// Where there is no memory.
 pub(crate) fn play_movers<'p>(
     subject: Subject<'p>,
-    turns: &mut Vec<u16>,
+    turns: &mut Vec<HandlerNumber>,
 ) -> Result<Rest<'p>, AllocError>
     ensures { IfOk result (RestsAt subject.entry.program.now.image subject.entry.version subject.entry.aim turns.new.items) }
 {
@@ -82,7 +83,7 @@ pub(crate) fn play_movers<'p>(
 /// Plays movers in the world, until none is left or one turns out to be a choice, and adds their turns.
 fn move_on(
     world: &mut World<'_>,
-    turns: &mut Vec<u16>,
+    turns: &mut Vec<HandlerNumber>,
     peeks: &mut Vec<Peek>,
 ) -> Result<Moved, AllocError>
     ensures { IfOk result (λ moved. moved ≡ Moved.All → Moves turns.old.items turns.new.items (world_of world.old) (world_of world.new)) }
@@ -106,14 +107,14 @@ fn move_on(
 }
 
 /// What is known of the next turn of a handler.
-fn peek_at(peeks: &[Peek], handler: u16) -> Peek {
+fn peek_at(peeks: &[Peek], handler: HandlerNumber) -> Peek {
     peeks.get(handler as usize).copied().unwrap_or(Peek::Choice)
 }
 
 /// The first handler whose next turn may be a mover.
-fn next_mover(core: &Core, peeks: &[Peek]) -> Option<u16> {
+fn next_mover(core: &Core, peeks: &[Peek]) -> Option<HandlerNumber> {
     for handler in 0..core.handler_count() {
-        let handler = handler as u16;
+        let handler = handler as HandlerNumber;
         if may_move(core, handler, peek_at(peeks, handler)) {
             return Some(handler);
         }
@@ -122,7 +123,7 @@ fn next_mover(core: &Core, peeks: &[Peek]) -> Option<u16> {
 }
 
 /// Whether the next turn of a handler, of which this is known, may be a mover.
-fn may_move(core: &Core, handler: u16, peek: Peek) -> bool {
+fn may_move(core: &Core, handler: HandlerNumber, peek: Peek) -> bool {
     let is_free = match core.pick_for(handler) {
         None => false,
         Some(Job::Granted(reserved)) => reserved.is_empty(),
@@ -140,7 +141,7 @@ fn may_move(core: &Core, handler: u16, peek: Peek) -> bool {
 }
 
 /// Whether another handler may post to this one, and doesn't wait for it.
-fn is_contested(core: &Core, handler: u16) -> bool {
+fn is_contested(core: &Core, handler: HandlerNumber) -> bool {
     match core.holder(handler) {
         Some(holder) => holder != handler && core.awaits(holder) != Some(handler),
         None => false,
@@ -148,7 +149,7 @@ fn is_contested(core: &Core, handler: u16) -> bool {
 }
 
 /// What the last turn of the world was, which the handler made and of which this was known.
-fn peek_behind(world: &World<'_>, handler: u16, was: Peek) -> Peek {
+fn peek_behind(world: &World<'_>, handler: HandlerNumber, was: Peek) -> Peek {
     match (world.status(handler), was) {
         (Some(Status::Failed(_)), _) => Peek::Choice,
         (_, Peek::Unknown) => last_peek(world),

@@ -10,6 +10,7 @@ use crate::judging::{Kind, is_met, some_is};
 use crate::length::Edge;
 use crate::replay::Subject;
 use crate::states::States;
+use sc_lockpass::HandlerNumber;
 use sc_world::World;
 use std::alloc::AllocError;
 
@@ -20,7 +21,7 @@ const TURNS_A_STATE: u64 = 2_000;
 #[derive(Drop)]
 pub(crate) enum Stop {
     /// What is looked for is met after these turns.
-    Met(Vec<u16>),
+    Met(Vec<HandlerNumber>),
     /// The limit is reached.
     Cut,
     /// Movers went on and on.
@@ -43,7 +44,7 @@ pub(crate) struct Way {
     /// The state that it leads from, but for the opening.
     pub(crate) parent: Option<u32>,
     /// The turns from the opening to where it leads.
-    pub(crate) turns: Vec<u16>,
+    pub(crate) turns: Vec<HandlerNumber>,
     /// How many of them are those to the state that it leads from.
     pub(crate) from: usize,
 }

@@ -14,7 +14,7 @@ use crate::lines::lines_of;
 use crate::verdict::{Finding, Order};
 use sc_audit::RecordLine;
 use sc_code::Program;
-use sc_lockpass::Version;
+use sc_lockpass::{HandlerNumber, Version};
 use sc_world::{Turned, World};
 use std::alloc::{AllocError, Global};
 
@@ -31,7 +31,10 @@ pub(crate) struct Subject<'p> {
 ///
 /// # Errors
 /// Where there is no memory.
-pub(crate) fn world_after<'p>(subject: Subject<'p>, turns: &[u16]) -> Result<World<'p>, AllocError>
+pub(crate) fn world_after<'p>(
+    subject: Subject<'p>,
+    turns: &[HandlerNumber],
+) -> Result<World<'p>, AllocError>
     ensures { IfOk result (λ world. Runs turns.now (opened subject.entry.program.now.image subject.entry.version) (world_of world)) }
 {
     let lines = lines_of(subject.alloc, turns)?;
@@ -58,7 +61,7 @@ fn world_after_lines<'p>(
 /// Where there is no memory.
 pub(crate) fn finding_after(
     subject: Subject<'_>,
-    turns: &[u16],
+    turns: &[HandlerNumber],
 ) -> Result<Option<Finding>, AllocError>
     ensures found { IfOk result (λ found. IfSome found (IsFound subject.entry.program.now.image subject.entry.version)) }
     ensures first { IfOk result (λ found. IfSome found (IsFirst subject.entry.program.now.image subject.entry.version subject.entry.aim)) }
@@ -81,8 +84,8 @@ pub(crate) fn finding_after(
 /// handlers that had nothing to do are none.
 fn play_until_met<'p>(
     subject: Subject<'p>,
-    turns: &[u16],
-) -> Result<(World<'p>, Vec<u16>), AllocError>
+    turns: &[HandlerNumber],
+) -> Result<(World<'p>, Vec<HandlerNumber>), AllocError>
     ensures runs { IfOk result (λ reached. RunsUnmet subject.entry.aim reached.1.items
         (opened subject.entry.program.now.image subject.entry.version) (world_of reached.0)) }
     ensures all { IfOk result (λ reached. (IsMet subject.entry.aim (statuses (world_of reached.0)) → ⊥) →

@@ -4,6 +4,7 @@ ghost use Rattle.std.specs.Prelude.{◌≡◌, ◌↔◌, ◌++◌, ◌∷◌, [
 ghost use Rattle.sc_world.specs.Kept.{kept};
 ghost use Rattle.sc_world.specs.Views.{world_of};
 
+use sc_lockpass::HandlerNumber;
 use sc_world::{KeptWorld, World};
 use std::alloc::{AllocError, Global};
 
@@ -24,7 +25,7 @@ pub(crate) struct States<'p> {
     alloc: Global,
     kept: Vec<KeptWorld<'p>>,
     /// The turns that led to each, from the opening on.
-    orders: Vec<Vec<u16>>,
+    orders: Vec<Vec<HandlerNumber>>,
     links: Vec<Link>,
     /// The first number in each list.
     buckets: Vec<Option<u32>>,
@@ -100,7 +101,11 @@ impl<'p> States<'p> {
     ///
     /// # Errors
     /// Where there is no memory.
-    pub(crate) fn push(&mut self, world: World<'p>, order: Vec<u16>) -> Result<(), AllocError>
+    pub(crate) fn push(
+        &mut self,
+        world: World<'p>,
+        order: Vec<HandlerNumber>,
+    ) -> Result<(), AllocError>
         ensures states { OnOk result (states_in self.new ≡ states_in self.old ++ kept (world_of world.entry) ∷ []) }
         ensures orders { OnOk result (orders_in self.new ≡ orders_in self.old ++ order.items ∷ []) }
     {
@@ -120,7 +125,7 @@ impl<'p> States<'p> {
     ///
     /// # Errors
     /// Where there is no memory.
-    pub(crate) fn order(&self, number: u32) -> Result<Vec<u16>, AllocError>
+    pub(crate) fn order(&self, number: u32) -> Result<Vec<HandlerNumber>, AllocError>
         ensures { IfOk result (λ turns. (order : List ℕ) → slice_get (orders_in self.now) number ≡ Some order → turns.items ≡ order) }
     {
         match self.orders.get(number as usize) {

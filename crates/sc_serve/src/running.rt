@@ -13,7 +13,7 @@ use sc_class::Root;
 use sc_code::Program;
 use sc_driver::{Ended, RunReport, load_text, run_program};
 use sc_explain_failure::{Limit, Played, run_note};
-use sc_lockpass::Version;
+use sc_lockpass::{HandlerNumber, Version};
 use sc_model::Status;
 use sc_plant::{Left, RunFault};
 use sc_source::files::{Files, read_source};
@@ -150,7 +150,7 @@ fn fault_of<'a>(fault: RunFault<'_>) -> Fault<'a>
 /// Whether a handler has refused a request for which nobody waited.
 fn has_refused(left: &Left<'_>) -> bool {
     for handler in 0..left.core.handler_count().min(u16::MAX as usize) {
-        if left.core.refused(handler as u16).unwrap_or(0) > 0 {
+        if left.core.refused(handler as HandlerNumber).unwrap_or(0) > 0 {
             return true;
         }
     }

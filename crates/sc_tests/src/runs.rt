@@ -6,6 +6,7 @@ use sc_auditing::{AuditFault, audit};
 use sc_class::Root;
 use sc_code::Program;
 use sc_driver::{Rejection, RunReport, load_text, replay};
+use sc_lockpass::HandlerNumber;
 use sc_plant::{Gate, Left, RunFault, run};
 use std::alloc::{AllocError, Global};
 use std::process::Abort;
@@ -18,9 +19,9 @@ use std::thread::Threads;
 struct Open;
 
 impl Gate for Open {
-    fn began(&self, _handler: u16) {}
+    fn began(&self, _handler: HandlerNumber) {}
 
-    fn ended(&self, _handler: u16) {}
+    fn ended(&self, _handler: HandlerNumber) {}
 }
 
 /// The program of a system that is sound.
@@ -56,12 +57,12 @@ struct Noting<'a, G: Gate> {
 }
 
 impl<'a, G: Gate> Gate for Noting<'a, G> {
-    fn began(&self, handler: u16) {
+    fn began(&self, handler: HandlerNumber) {
         self.begun.store(1, Ordering::SeqCst);
         self.gate.began(handler);
     }
 
-    fn ended(&self, handler: u16) {
+    fn ended(&self, handler: HandlerNumber) {
         self.gate.ended(handler);
     }
 }

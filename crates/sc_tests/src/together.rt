@@ -2,6 +2,7 @@
 
 use crate::rows::expect_text;
 use crate::runs::{leave, load};
+use sc_lockpass::HandlerNumber;
 use sc_plant::Gate;
 use std::process::Abort;
 use std::sync::Wait;
@@ -47,7 +48,7 @@ impl Seen {
     }
 
     /// A handler begins: whether it waits.
-    fn begins(&self, handler: u16) -> bool {
+    fn begins(&self, handler: HandlerNumber) -> bool {
         let bit = 1_u64.checked_shl(handler as u32).unwrap_or(0);
         self.begun.fetch_or(bit, Ordering::SeqCst);
         match self.waits {
@@ -73,7 +74,7 @@ struct Waiting<'a, C: Clock + Sync> {
 }
 
 impl<'a, C: Clock + Sync> Gate for Waiting<'a, C> {
-    fn began(&self, handler: u16) {
+    fn began(&self, handler: HandlerNumber) {
         if !self.seen.begins(handler) {
             return;
         }
@@ -86,7 +87,7 @@ impl<'a, C: Clock + Sync> Gate for Waiting<'a, C> {
         self.seen.late.store(1, Ordering::SeqCst);
     }
 
-    fn ended(&self, handler: u16) {
+    fn ended(&self, handler: HandlerNumber) {
         if handler == 3 {
             self.seen.ended.fetch_add(1, Ordering::SeqCst);
         }

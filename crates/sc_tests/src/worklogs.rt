@@ -5,6 +5,7 @@ use crate::rows::{expect_text, halves_of};
 use arrayvec::ArrayVec;
 use sc_code::Program;
 use sc_handler::Settlement;
+use sc_lockpass::HandlerNumber;
 use sc_region::{Errand, Job, Reference, Request, Want};
 use sc_worklog::LoggedRegion;
 use std::alloc::{AllocError, Global};
@@ -59,7 +60,7 @@ fn creation(program: &Program) -> Request {
 }
 
 /// The handler that was made last.
-fn granted() -> ArrayVec<u16, 16> {
+fn granted() -> ArrayVec<HandlerNumber, 16> {
     let mut handlers = ArrayVec::new();
     handlers.push(1);
     handlers

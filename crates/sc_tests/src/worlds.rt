@@ -3,14 +3,14 @@
 use crate::rows::expect_text;
 use crate::runs::{load, text_of};
 use crate::together::{RELAY, RELAY_REPORT};
-use sc_lockpass::Version;
+use sc_lockpass::{HandlerNumber, Version};
 use sc_world::{Turned, World};
 use std::alloc::AllocError;
 use std::process::Abort;
 use std::test::Fail;
 
 /// The turn of a handler. Where memory is refused to it nothing has changed, so that it can be made again.
-fn turn_again(world: &mut World<'_>, handler: u16) -> Result<Turned, AllocError> {
+fn turn_again(world: &mut World<'_>, handler: HandlerNumber) -> Result<Turned, AllocError> {
     match world.turn(handler) {
         Err(_) => world.turn(handler),
         turned => turned,
@@ -21,7 +21,7 @@ fn turn_again(world: &mut World<'_>, handler: u16) -> Result<Turned, AllocError>
 fn expect_turns<R: Abort>(
     rt: &R,
     world: &mut World<'_>,
-    handlers: &[u16],
+    handlers: &[HandlerNumber],
     wanted: Turned,
 ) -> Result<(), Fail> {
     for handler in handlers {
@@ -48,12 +48,12 @@ end
 ";
 
 /// Its turns, of which each moves.
-const CALLBACK_TURNS: [u16; 22] = [
+const CALLBACK_TURNS: [HandlerNumber; 22] = [
     0, 0, 0, 1, 0, 0, 1, 1, 1, 0, 0, 0, 1, 1, 0, 1, 1, 1, 0, 0, 0, 0,
 ];
 
 /// Handlers that aren't there: none of them has a turn.
-const STRANGERS: [u16; 7] = [2, 63, 64, 255, 511, 512, 65535];
+const STRANGERS: [HandlerNumber; 7] = [2, 63, 64, 255, 511, 512, 65535];
 
 const CALLBACK_REPORT: &str = "handler 0 free refused 0 output 2
 11
@@ -86,7 +86,7 @@ invariant n >= 0
 end
 ";
 
-const RAISING_TURNS: [u16; 5] = [0; 5];
+const RAISING_TURNS: [HandlerNumber; 5] = [0; 5];
 
 const RAISING_REPORT: &str = "handler 0 free refused 0 output 1
 1
@@ -120,7 +120,7 @@ feature
 end
 ";
 
-const BUFFER_TURNS: [u16; 38] = [
+const BUFFER_TURNS: [HandlerNumber; 38] = [
     0, 0, 0, 0, 0, 1, 2, 2, 2, 1, 2, 2, 2, 3, 3, 3, 1, 3, 3, 3, 3, 1, 1, 1, 2, 2, 1, 2, 2, 2, 1, 2,
     2, 2, 2, 1, 1, 1,
 ];
@@ -141,7 +141,7 @@ stopped idle
 fn expect_report<R: Abort + AllocGlobal>(
     rt: &R,
     text: &str,
-    handlers: &[u16],
+    handlers: &[HandlerNumber],
     report: &str,
 ) -> Result<(), Fail> {
     let program = load(rt, rt.alloc(), text)?;

@@ -8,7 +8,7 @@ ghost use Rattle.sc_waitcond.specs.Conditions as conditions;
 
 use crate::condition::{ClauseKind, ClauseResult, EntryVerdict};
 use arrayvec::ArrayVec;
-use sc_lockpass::Rights;
+use sc_lockpass::{HandlerNumber, Rights};
 
 /// An entry into a routine with attached separate formals, or into a separate block.
 ///
@@ -17,14 +17,14 @@ use sc_lockpass::Rights;
 #[derive(Clone, Drop)]
 pub struct Entry {
     /// The handler that enters.
-    pub handler: u16,
+    pub handler: HandlerNumber,
     /// The handlers that this entry newly reserved.
-    pub reserved: ArrayVec<u16, 16>,
+    pub reserved: ArrayVec<HandlerNumber, 16>,
 }
 
 impl Entry {
     /// An entry of a handler that has reserved nothing yet.
-    pub fn new(handler: u16) -> Self
+    pub fn new(handler: HandlerNumber) -> Self
         ensures handler { result.handler ≡ handler }
         ensures reserved { result.reserved.items ≡ [] }
     {
@@ -36,7 +36,11 @@ impl Entry {
 
     /// The handlers of these values that the entering handler doesn't hold, each once, in the order of the values. They
     /// are those of attached separate formals or of a block's names, of which there are 16 at most.
-    pub fn needed(&self, values: &[Option<u16>], rights: &Rights) -> ArrayVec<u16, 16>
+    pub fn needed(
+        &self,
+        values: &[Option<HandlerNumber>],
+        rights: &Rights,
+    ) -> ArrayVec<HandlerNumber, 16>
         requires { length values.now ≤ 16 }
         ensures { result.items ≡ entries.needed (rights_of rights.now) self.now.handler values.now }
     {
@@ -48,7 +52,7 @@ impl Entry {
     }
 
     /// The handler of a value, where the entering handler doesn't hold it.
-    fn unheld(&self, value: Option<u16>, rights: &Rights) -> Option<u16>
+    fn unheld(&self, value: Option<HandlerNumber>, rights: &Rights) -> Option<HandlerNumber>
         ensures { result ≡ entries.unheld (rights_of rights.now) self.now.handler value }
     {
         let handler = value?;
@@ -60,7 +64,7 @@ impl Entry {
 
     /// Whether a clause is waited for, by the values of all formals that it names, wherever in its text: it is where one
     /// of these lies on a handler that this entry newly reserved.
-    pub fn clause_kind(&self, values: &[Option<u16>]) -> ClauseKind
+    pub fn clause_kind(&self, values: &[Option<HandlerNumber>]) -> ClauseKind
         ensures { result ≡ conditions.clause_kind self.now.reserved.items values.now }
     {
         for value in values {
@@ -91,7 +95,7 @@ impl Entry {
 }
 
 /// Lists a handler, if there is one that isn't listed.
-fn push_new(listed: &mut ArrayVec<u16, 16>, handler: Option<u16>)
+fn push_new(listed: &mut ArrayVec<HandlerNumber, 16>, handler: Option<HandlerNumber>)
     requires { array_vec_len listed.old < 16 }
     ensures { listed.new.items ≡ entries.with_new listed.old.items handler }
 {
@@ -102,7 +106,7 @@ fn push_new(listed: &mut ArrayVec<u16, 16>, handler: Option<u16>)
     }
 }
 
-fn is_listed(handler: u16, handlers: &[u16]) -> bool
+fn is_listed(handler: HandlerNumber, handlers: &[HandlerNumber]) -> bool
     ensures { result ≡ is_among handler handlers.now }
 {
     handlers.iter().any(|other| *other == handler)

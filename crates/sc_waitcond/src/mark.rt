@@ -4,13 +4,14 @@ ghost use Rattle.std.specs.List.{All, list_any};
 ghost use Rattle.sc_waitcond.specs.Reservations.{mark_of, mark_allows, has_risen};
 
 use arrayvec::ArrayVec;
+use sc_lockpass::HandlerNumber;
 use std::marker::Model;
 
 /// A handler that a waiting entry had newly reserved.
 #[derive(Clone, Copy, PartialEq, Eq, Default)]
 pub struct Marked {
     /// Its number.
-    pub handler: u16,
+    pub handler: HandlerNumber,
     /// How many sessions of it had ended when the entry began to wait.
     pub sessions: u64,
 }
@@ -54,7 +55,7 @@ impl Mark {
 
     /// The mark of an entry that had newly reserved these handlers, 16 at most, by the counts of the sessions of all
     /// handlers, in order.
-    pub fn of(reserved: &[u16], sessions: &[u64]) -> Self
+    pub fn of(reserved: &[HandlerNumber], sessions: &[u64]) -> Self
         requires few { length reserved.now ≤ 16 }
         requires listed { All (λ k. k < length sessions.now) reserved.now }
         ensures { result ≡ mark_of (slice_index sessions.now) reserved.now }

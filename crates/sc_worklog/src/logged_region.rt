@@ -6,6 +6,7 @@ ghost use Rattle.sc_worklog.specs.Replaying.{Replays, entry_of};
 
 use sc_code::Program;
 use sc_handler::Log;
+use sc_lockpass::HandlerNumber;
 use sc_play::Region;
 use sc_region::{Job, Outcome, Want};
 use std::alloc::{AllocError, Global};
@@ -17,14 +18,14 @@ use std::alloc::{AllocError, Global};
 #[derive(Drop)]
 pub struct LoggedRegion<'p> {
     region: Region<'p>,
-    handler: u16,
+    handler: HandlerNumber,
     log: Log,
     pub ghost numbered: { region.handler ≡ handler },
     pub ghost replays: { ∥ Replays region.store.program region.handler (settlements_of log) region ∥₁ },
 }
 
 /// Notes so many turns of a handler under a job, the last of which asked this, where there is room.
-fn note(log: &mut Log, handler: u16, job: &Job, turns: u32, asked: &Want)
+fn note(log: &mut Log, handler: HandlerNumber, job: &Job, turns: u32, asked: &Want)
     requires { HasPlaces 1 log.old }
     ensures { settlements_of log.new ≡ settlements_of log.old ++ entry_of job.now (outcome handler turns asked.now) ∷ [] }
 {
@@ -42,7 +43,7 @@ impl<'p> LoggedRegion<'p> {
 
     /// The region of the handler of a number, which was asked for nothing yet, and a log with no entry. What grows later
     /// takes its memory from this allocator.
-    pub fn new(alloc: Global, program: &'p Program, handler: u16) -> LoggedRegion<'p>
+    pub fn new(alloc: Global, program: &'p Program, handler: HandlerNumber) -> LoggedRegion<'p>
         ensures region { region_of result ≡ new_region program.now.image handler }
         ensures entries { entries_of result ≡ [] }
     {
@@ -54,7 +55,7 @@ impl<'p> LoggedRegion<'p> {
     }
 
     /// The region of the handler of a number, with a log that replays to it.
-    pub fn with_log(region: Region<'p>, handler: u16, log: Log) -> LoggedRegion<'p>
+    pub fn with_log(region: Region<'p>, handler: HandlerNumber, log: Log) -> LoggedRegion<'p>
         requires number { region.handler ≡ handler }
         requires replays { ∥ Replays region.store.program region.handler (settlements_of log) region ∥₁ }
         ensures region { region_of result ≡ region.entry }
@@ -132,7 +133,7 @@ impl<'p> LoggedRegion<'p> {
     }
 
     /// The number of the handler.
-    pub fn handler(&self) -> u16
+    pub fn handler(&self) -> HandlerNumber
         ensures { result ≡ (region_of self.now).handler }
     {
         self.handler

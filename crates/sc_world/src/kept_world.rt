@@ -3,6 +3,7 @@ ghost use Rattle.std.specs.Prelude.{◌≡◌, ◌≤◌, ◌↔◌, ℕ, IfOk, 
 ghost use Rattle.sc_play.specs.Contents.{contents_at, new_contents};
 
 use crate::world::World;
+use sc_lockpass::HandlerNumber;
 use sc_play::Region;
 use sc_request::KeptCore;
 use std::alloc::AllocError;
@@ -76,14 +77,14 @@ fn used(regions: &[Region<'_>]) -> usize
     ensures { (handler : ℕ) → result ≤ handler → contents_at regions.now handler ≡ new_contents handler }
 {
     let mut count = regions.len();
-    while count > 0 && is_new_at(regions, (count - 1) as u16) {
+    while count > 0 && is_new_at(regions, (count - 1) as HandlerNumber) {
         count -= 1;
     }
     count
 }
 
 /// Whether the region of a handler is new. Where there is none, it is.
-fn is_new_at(regions: &[Region<'_>], handler: u16) -> bool
+fn is_new_at(regions: &[Region<'_>], handler: HandlerNumber) -> bool
     ensures { IsTrue result ↔ contents_at regions.now handler ≡ new_contents handler }
 {
     same_at(regions, &[], handler)
@@ -104,7 +105,7 @@ fn same_regions(regions: &[Region<'_>], others: &[Region<'_>]) -> bool
 }
 
 /// Whether the regions of a handler hold the same, where one that there isn't is new.
-fn same_at(regions: &[Region<'_>], others: &[Region<'_>], handler: u16) -> bool
+fn same_at(regions: &[Region<'_>], others: &[Region<'_>], handler: HandlerNumber) -> bool
     ensures { IsTrue result ↔ contents_at regions.now handler ≡ contents_at others.now handler }
 {
     let place = handler as usize;

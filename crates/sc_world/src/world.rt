@@ -16,7 +16,7 @@ ghost use Rattle.sc_world.specs.Worlds.{max_handlers, new_regions, opened, world
 use crate::report::{self, push_end, push_handler};
 use sc_code::Program;
 use sc_handler::Log;
-use sc_lockpass::Version;
+use sc_lockpass::{HandlerNumber, Version};
 use sc_model::Status;
 use sc_play::Region;
 use sc_region::{Breakdown, Job, Want};
@@ -82,7 +82,7 @@ impl<'p> World<'p> {
     /// # Errors
     /// Where there is no memory. Then nothing has changed, but that silent steps of the turn may be done: it is still to be made,
     /// and the machine stands where it stood.
-    pub fn turn(&mut self, handler: u16) -> Result<Turned, AllocError>
+    pub fn turn(&mut self, handler: HandlerNumber) -> Result<Turned, AllocError>
         ensures ok { OnOk result (IsTurn handler (world_of self.old) (world_of self.new)) }
         ensures turned { IfOk result (λ turned. turned ≡ turned_by (pick_for handler (world_of self.old).center)) }
         ensures err { OnErr result (IsRefusedTurn handler (world_of self.old) (world_of self.new)) }
@@ -101,7 +101,7 @@ impl<'p> World<'p> {
     ///
     /// # Errors
     /// Where there is no memory. Then the world stands after the turns before, but that silent steps of the next may be done.
-    pub fn turns(&mut self, handlers: &[u16]) -> Result<(), AllocError>
+    pub fn turns(&mut self, handlers: &[HandlerNumber]) -> Result<(), AllocError>
         ensures ok { OnOk result (Runs handlers.now (world_of self.old) (world_of self.new)) }
         ensures err { OnErr result ((n : ℕ) × StopsBehind n handlers.now (world_of self.old) (world_of self.new)) }
     {
@@ -111,7 +111,7 @@ impl<'p> World<'p> {
 
     /// The turns of the handlers, one after the other, as far as there is memory: how many of the handlers had theirs,
     /// all of them where that is Ok.
-    pub fn turns_until(&mut self, handlers: &[u16]) -> (usize, Result<(), AllocError>)
+    pub fn turns_until(&mut self, handlers: &[HandlerNumber]) -> (usize, Result<(), AllocError>)
         ensures count { OnOk result.1 (result.0 ≡ length handlers.now) }
         ensures ok { OnOk result.1 (Runs handlers.now (world_of self.old) (world_of self.new)) }
         ensures err { OnErr result.1 (StopsBehind result.0 handlers.now (world_of self.old) (world_of self.new)) }
@@ -128,7 +128,7 @@ impl<'p> World<'p> {
     ///
     /// # Errors
     /// Where there is no memory. Then the world stands after the turns before, but that silent steps of the next may be done.
-    pub fn turns_of(&mut self, handler: u16, count: u32) -> Result<(), AllocError>
+    pub fn turns_of(&mut self, handler: HandlerNumber, count: u32) -> Result<(), AllocError>
         ensures ok { OnOk result (Runs (replicate count handler) (world_of self.old) (world_of self.new)) }
         ensures err { OnErr result ((n : ℕ) ×
             StopsBehind n (replicate count handler) (world_of self.old) (world_of self.new)) }
@@ -152,7 +152,7 @@ impl<'p> World<'p> {
     ///
     /// # Errors
     /// Where memory is refused to one of them, perhaps behind others.
-    fn turns_under_job(&mut self, handler: u16, limit: u32) -> Result<u32, AllocError>
+    fn turns_under_job(&mut self, handler: HandlerNumber, limit: u32) -> Result<u32, AllocError>
         requires { 1 ≤ limit }
         ensures ok { IfOk result (λ turns. TurnsUnderJob limit handler turns (world_of self.old) (world_of self.new)) }
         ensures err { OnErr result (StopsShort limit handler (world_of self.old) (world_of self.new)) }
@@ -224,7 +224,7 @@ impl<'p> World<'p> {
     }
 
     /// How a handler stands, or None where there is no such handler.
-    pub fn status(&self, handler: u16) -> Option<Status>
+    pub fn status(&self, handler: HandlerNumber) -> Option<Status>
         ensures { result ≡ core.status_for handler (world_of self.now).center }
     {
         self.core.status(handler)
@@ -239,7 +239,7 @@ impl<'p> World<'p> {
     {
         let mut statuses = Vec::new(self.alloc);
         for handler in 0..self.core.handler_count() {
-            if let Some(status) = self.core.status(handler as u16) {
+            if let Some(status) = self.core.status(handler as HandlerNumber) {
                 statuses.push(status)?;
             }
         }
@@ -262,7 +262,7 @@ impl<'p> World<'p> {
     }
 
     /// The region of a handler, or None where there can be no such handler in any version.
-    pub fn region(&self, handler: u16) -> Option<&Region<'p>>
+    pub fn region(&self, handler: HandlerNumber) -> Option<&Region<'p>>
         ensures { option_map (λ region. region.now) result ≡ slice_get (world_of self.now).regions handler }
     {
         self.regions.get(handler as usize)
@@ -270,7 +270,7 @@ impl<'p> World<'p> {
 
     /// Where a handler was as it failed, or else is now, to be told to people; None where there is no such handler. Nothing
     /// is promised of it: no turn depends on it.
-    pub fn breakdown(&self, handler: u16) -> Option<Breakdown> {
+    pub fn breakdown(&self, handler: HandlerNumber) -> Option<Breakdown> {
         Some(self.regions.get(handler as usize)?.breakdown())
     }
 
@@ -284,10 +284,10 @@ impl<'p> World<'p> {
         let mut report = Vec::new(self.alloc);
         let mut is_busy = false;
         for handler in 0..self.core.handler_count() {
-            let Some(status) = self.core.status(handler as u16) else {
+            let Some(status) = self.core.status(handler as HandlerNumber) else {
                 break;
             };
-            let refused = self.core.refused(handler as u16).unwrap_or(0);
+            let refused = self.core.refused(handler as HandlerNumber).unwrap_or(0);
             let output = self.regions[handler].output();
             push_handler(self.alloc, &mut report, handler, status, refused, output)?;
             is_busy = is_busy || report::is_busy(status);
@@ -321,7 +321,7 @@ fn regions<'p>(alloc: Global, program: &'p Program) -> Result<Vec<Region<'p>>, A
 
 /// How many turns a handler that is out may make at once, of so many that are left: all where it is the next one again as
 /// long as they ask nothing.
-fn turns_at_once(core: &mut Core, handler: u16, left: u32) -> u32
+fn turns_at_once(core: &mut Core, handler: HandlerNumber, left: u32) -> u32
     ensures turns { (job : Job) → (center_of core.old).out handler ≡ Some job → result ≡ turns_at_once left job (center_of core.old) }
     ensures center { center_of core.new ≡ center_of core.old }
     ensures log { log_of core.new ≡ log_of core.old }
@@ -343,7 +343,7 @@ fn are_cut_short(limit: u32, turns: u32, asked: &Want) -> bool
 fn play(
     core: &mut Core,
     region: &mut Region<'_>,
-    handler: u16,
+    handler: HandlerNumber,
     limit: u32,
 ) -> Result<(u32, bool), AllocError>
     requires some { 1 ≤ limit }
@@ -373,7 +373,7 @@ fn play(
 fn play_on(
     core: &mut Core,
     region: &mut Region<'_>,
-    handler: u16,
+    handler: HandlerNumber,
     left: u32,
 ) -> Result<(u32, bool), AllocError>
     requires some { 1 ≤ left }

@@ -9,6 +9,7 @@ ghost use Rattle.sc_play.specs.Answering.{block_granted, entry_granted, granted,
 
 use arrayvec::ArrayVec;
 use sc_acts::{copy_handlers, unless_failed};
+use sc_lockpass::HandlerNumber;
 use sc_model::Cause;
 use sc_region::{Activation, Reference, Stage, Store, Value, Want};
 use std::alloc::AllocError;
@@ -70,7 +71,7 @@ pub fn reply(store: &mut Store<'_>, value: Option<Value>, asked: &mut Want)
 // ---- a reserve step
 
 /// The entry of the routine has newly reserved these handlers.
-fn grant_entry_on(activation: &mut Activation, handlers: &ArrayVec<u16, 16>)
+fn grant_entry_on(activation: &mut Activation, handlers: &ArrayVec<HandlerNumber, 16>)
     ensures { activation_of activation.new ≡ entry_granted handlers.now.items (activation_of activation.old) }
 {
     activation.stage = Stage::Runs;
@@ -78,7 +79,7 @@ fn grant_entry_on(activation: &mut Activation, handlers: &ArrayVec<u16, 16>)
 }
 
 /// The same of the topmost routine.
-fn grant_entry(store: &mut Store<'_>, handlers: &ArrayVec<u16, 16>)
+fn grant_entry(store: &mut Store<'_>, handlers: &ArrayVec<HandlerNumber, 16>)
     ensures { store.new ≡ on_top (entry_granted handlers.now.items) store.old }
 {
     match store.top_mut() {
@@ -91,7 +92,7 @@ fn grant_entry(store: &mut Store<'_>, handlers: &ArrayVec<u16, 16>)
 /// then.
 fn grant_block_on(
     activation: &mut Activation,
-    handlers: &ArrayVec<u16, 16>,
+    handlers: &ArrayVec<HandlerNumber, 16>,
 ) -> Result<(), AllocError>
     ensures ok { OnOk result (activation_of activation.new ≡ block_granted handlers.now.items (activation_of activation.old)) }
     ensures err { OnErr result (activation_of activation.new ≡ activation_of activation.old) }
@@ -102,7 +103,10 @@ fn grant_block_on(
 }
 
 /// The same of the topmost routine.
-fn grant_block(store: &mut Store<'_>, handlers: &ArrayVec<u16, 16>) -> Result<(), AllocError>
+fn grant_block(
+    store: &mut Store<'_>,
+    handlers: &ArrayVec<HandlerNumber, 16>,
+) -> Result<(), AllocError>
     ensures ok { OnOk result (store.new ≡ on_top (block_granted handlers.now.items) store.old) }
     ensures err { OnErr result (store.new ≡ store.old) }
 {
@@ -114,7 +118,7 @@ fn grant_block(store: &mut Store<'_>, handlers: &ArrayVec<u16, 16>) -> Result<()
 
 /// The topmost routine has newly reserved these handlers, in its stage. Err where there is no memory; nothing has changed
 /// then.
-fn grant_in(store: &mut Store<'_>, handlers: &ArrayVec<u16, 16>) -> Result<(), AllocError>
+fn grant_in(store: &mut Store<'_>, handlers: &ArrayVec<HandlerNumber, 16>) -> Result<(), AllocError>
     ensures ok { OnOk result (store.new ≡ granted handlers.now.items store.old) }
     ensures err { OnErr result (store.new ≡ store.old) }
 {
@@ -135,7 +139,7 @@ fn grant_in(store: &mut Store<'_>, handlers: &ArrayVec<u16, 16>) -> Result<(), A
 /// goes on. F16 where it has none. Err where there is no memory; nothing has changed then.
 pub fn grant(
     store: &mut Store<'_>,
-    handlers: &ArrayVec<u16, 16>,
+    handlers: &ArrayVec<HandlerNumber, 16>,
     asked: &mut Want,
 ) -> Result<(), AllocError>
     requires { asked.old ≡ want.Continue }
@@ -151,7 +155,7 @@ pub fn grant(
 // ---- a handler that was made
 
 /// The last operand of the routine refers to an object of this handler.
-fn tell_on(activation: &mut Activation, handler: u16)
+fn tell_on(activation: &mut Activation, handler: HandlerNumber)
     ensures { activation_of activation.new ≡ told_on handler (activation_of activation.old) }
 {
     match activation.operands.pop() {
@@ -164,7 +168,7 @@ fn tell_on(activation: &mut Activation, handler: u16)
 }
 
 /// The same of the topmost routine.
-pub fn tell(store: &mut Store<'_>, handler: u16)
+pub fn tell(store: &mut Store<'_>, handler: HandlerNumber)
     ensures { store.new ≡ told handler store.old }
 {
     match store.top_mut() {

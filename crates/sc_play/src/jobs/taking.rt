@@ -8,6 +8,7 @@ ghost use Rattle.sc_play.specs.Taking.{answered, asks_answering, asks_call, asks
 use arrayvec::ArrayVec;
 use sc_acts::{ask_beginning, routine_of, unless_failed, version_in};
 use sc_code::{AttributeCode, FeatureCode, Program};
+use sc_lockpass::HandlerNumber;
 use sc_model::Cause;
 use sc_region::{Errand, Origin, Reference, Request, Store, Value, Want};
 use std::alloc::AllocError;
@@ -98,7 +99,7 @@ fn call_version(
 /// such object or feature. Err where there is no memory; nothing has changed then.
 fn call(
     store: &mut Store<'_>,
-    handler: u16,
+    handler: HandlerNumber,
     request: &Request,
     name: usize,
     asked: &mut Want,
@@ -174,7 +175,7 @@ fn make(
 /// The handler takes the request. Err where there is no memory; nothing has changed then.
 fn take_errand(
     store: &mut Store<'_>,
-    handler: u16,
+    handler: HandlerNumber,
     request: &Request,
     asked: &mut Want,
 ) -> Result<(), AllocError>
@@ -196,7 +197,7 @@ fn take_errand(
 /// Err where there is no memory; nothing has changed then.
 pub fn take(
     store: &mut Store<'_>,
-    handler: u16,
+    handler: HandlerNumber,
     request: &Request,
     asked: &mut Want,
 ) -> Result<(), AllocError>
