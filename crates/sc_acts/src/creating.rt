@@ -15,9 +15,10 @@ use crate::numbers::class_number;
 use crate::stages::misfit;
 use crate::steps::{pass, unless_failed};
 use crate::versions::routine_of;
+use sc_code::ClassNumber;
 use sc_lockpass::HandlerNumber;
 use sc_model::Cause;
-use sc_region::{Activation, Reference, Store, Value, Want};
+use sc_region::{Activation, ObjectNumber, Reference, Store, Value, Want};
 use std::alloc::AllocError;
 
 /// How many objects a handler has at most.
@@ -184,10 +185,10 @@ fn create_by(
 // ---- of the class of a number
 
 /// The reference to the next object of this handler; where no number can say which it is, to the last that one can.
-fn next_reference(store: &Store<'_>, handler: HandlerNumber, class: u8) -> Reference
+fn next_reference(store: &Store<'_>, handler: HandlerNumber, class: ClassNumber) -> Reference
     ensures { result ≡ nearest_reference handler class store.now }
 {
-    let number = store.object_count().min(u32::MAX as usize - 1) as u32 + 1;
+    let number = store.object_count().min(u32::MAX as usize - 1) as ObjectNumber + 1;
     Reference {
         handler,
         number,
@@ -224,7 +225,7 @@ fn create_by_name(
 fn create_by_number(
     store: &mut Store<'_>,
     handler: HandlerNumber,
-    class: u8,
+    class: ClassNumber,
     procedure: Option<usize>,
     count: usize,
     asked: &mut Want,

@@ -10,6 +10,7 @@ use crate::numbers::{class_number, procedure_number};
 use crate::operands::{has_actuals, last_values};
 use crate::stages::{await_if, misfit};
 use crate::steps::go_past;
+use sc_code::ClassNumber;
 use sc_lockpass::HandlerNumber;
 use sc_region::{Activation, Reference, Store, Value, Want};
 
@@ -21,7 +22,11 @@ fn may_create(activation: &Activation, count: usize) -> bool
 }
 
 /// What the creation of an object of the class asks, where its procedure has a number and its operands are there.
-fn creation_of(activation: &Activation, class: u8, creation: RemoteCreation) -> Option<Want>
+fn creation_of(
+    activation: &Activation,
+    class: ClassNumber,
+    creation: RemoteCreation,
+) -> Option<Want>
     ensures { result ≡ creation_of creation class (activation_of activation.now) }
 {
     let procedure = procedure_number(creation.procedure)?;
@@ -37,7 +42,7 @@ fn creation_of(activation: &Activation, class: u8, creation: RemoteCreation) -> 
 }
 
 /// The same of the topmost routine.
-fn creation_in(store: &Store<'_>, class: u8, creation: RemoteCreation) -> Option<Want>
+fn creation_in(store: &Store<'_>, class: ClassNumber, creation: RemoteCreation) -> Option<Want>
     ensures { result ≡ creation_in creation class (top_activation store.now.frames) }
 {
     match store.top() {

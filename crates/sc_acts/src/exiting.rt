@@ -13,7 +13,7 @@ use arrayvec::ArrayVec;
 use sc_code::Program;
 use sc_lockpass::HandlerNumber;
 use sc_model::Cause;
-use sc_region::{Activation, Origin, Stage, Store, Value, Want};
+use sc_region::{Activation, ObjectNumber, Origin, Stage, Store, Value, Want};
 
 /// The same handlers.
 pub fn copy_handlers(handlers: &ArrayVec<HandlerNumber, 16>) -> ArrayVec<HandlerNumber, 16>
@@ -41,14 +41,14 @@ pub fn is_unset(program: &Program, activation: &Activation) -> bool
 }
 
 /// Whether the object of the number is there, and meets its class invariant.
-pub fn meets(store: &Store<'_>, object: u32) -> bool
+pub fn meets(store: &Store<'_>, object: ObjectNumber) -> bool
     ensures { result ≡ object_meets store.now.program (object_numbered object store.now.objects) }
 {
     store.test_invariant(object)
 }
 
 /// Whether a routine that began so leaves the invariant alone, or its object meets it.
-fn may_end(store: &Store<'_>, origin: Origin, object: u32) -> bool
+fn may_end(store: &Store<'_>, origin: Origin, object: ObjectNumber) -> bool
     ensures { result ≡ (is_untested origin || object_meets store.now.program (object_numbered object store.now.objects)) }
 {
     match origin {

@@ -2,26 +2,32 @@
 ghost use Rattle.std.specs.Prelude.{◌≡◌};
 ghost use Rattle.sc_acts.specs.Operands.{class_number, name_number, procedure_number};
 
+use sc_code::{ClassNumber, NameNumber};
+
 /// The number of a class, where there is room for it.
-pub fn class_number(class: usize) -> Option<u8>
+pub fn class_number(class: usize) -> Option<ClassNumber>
     ensures { result ≡ class_number class }
 {
-    if class < 256 { Some(class as u8) } else { None }
+    if class < 256 {
+        Some(class as ClassNumber)
+    } else {
+        None
+    }
 }
 
 /// The number of a name, where there is room for it.
-pub fn name_number(name: usize) -> Option<u32>
+pub fn name_number(name: usize) -> Option<NameNumber>
     ensures { result ≡ name_number name }
 {
     if name < 0x1_0000_0000 {
-        Some(name as u32)
+        Some(name as NameNumber)
     } else {
         None
     }
 }
 
 /// The same of the name of a creation procedure, if there is one.
-pub fn procedure_number(procedure: Option<usize>) -> Option<Option<u32>>
+pub fn procedure_number(procedure: Option<usize>) -> Option<Option<NameNumber>>
     ensures { result ≡ procedure_number procedure }
 {
     match procedure {

@@ -11,6 +11,7 @@ use crate::operands::{add_last_values, has_call};
 use crate::stages::{await_if, misfit};
 use crate::steps::go_past;
 use arrayvec::ArrayVec;
+use sc_code::NameNumber;
 use sc_lockpass::HandlerNumber;
 use sc_region::{Activation, Errand, Request, Store, Want};
 
@@ -26,7 +27,7 @@ fn ask_waited(
     activation: &Activation,
     poster: HandlerNumber,
     call: RemoteCall,
-    name: u32,
+    name: NameNumber,
     asked: &mut Want,
 )
     requires few { call.count < 17 }
@@ -53,7 +54,7 @@ fn ask_posted(
     activation: &Activation,
     poster: HandlerNumber,
     call: RemoteCall,
-    name: u32,
+    name: NameNumber,
     asked: &mut Want,
 )
     requires few { call.count < 17 }
@@ -78,7 +79,7 @@ fn ask_by(
     activation: &Activation,
     poster: HandlerNumber,
     call: RemoteCall,
-    name: u32,
+    name: NameNumber,
     asked: &mut Want,
 )
     requires few { call.count < 17 }

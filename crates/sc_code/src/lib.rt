@@ -9,11 +9,13 @@
 #![tactic(auto)]
 
 pub mod laws;
+mod numbers;
 mod operation;
 mod program;
 mod site;
 mod text_site;
 
+pub use numbers::{ClassNumber, NameNumber};
 pub use operation::{DefaultValue, Operation};
 pub use program::lookup::Program;
 pub use program::{

@@ -1,6 +1,6 @@
 //! What a run is of, and where that stands in its text.
 
-use sc_code::{Program, RoutineText, TextSite};
+use sc_code::{NameNumber, Program, RoutineText, TextSite};
 use sc_source::source::Source;
 use sc_text::Span;
 use sc_tree::{Class, Clause};
@@ -56,7 +56,7 @@ impl<'r> RunSource<'r> {
     }
 
     /// Where the name of the feature stands that the name of this number is in a class.
-    pub fn feature_name(&self, class: usize, name: u32) -> Option<Span> {
+    pub fn feature_name(&self, class: usize, name: NameNumber) -> Option<Span> {
         let name = self.program.pool().names.get(name as usize)?;
         for generation in 0..self.classes.len() {
             for feature in &self.ancestor(class, generation)?.features {

@@ -6,7 +6,7 @@ ghost use Rattle.sc_handler.specs.Packed.{actuals_in_job, actuals_in_want, first
 use arrayvec::ArrayVec;
 use sc_lockpass::HandlerNumber;
 use sc_model::Cause;
-use sc_region::{Errand, Job, Reference, Request, Value, Want};
+use sc_region::{ClassNumber, Errand, Job, NameNumber, Reference, Request, Value, Want};
 
 /// A request as an entry has it: with how many actuals there are in place of them.
 #[derive(Clone, Copy)]
@@ -41,8 +41,8 @@ pub(crate) enum PackedWant {
         passes: bool,
     },
     Create {
-        class: u8,
-        procedure: Option<u32>,
+        class: ClassNumber,
+        procedure: Option<NameNumber>,
         actuals: u8,
         passes: bool,
     },

@@ -14,10 +14,10 @@ use crate::passing::{pass_last, push_found};
 use sc_acts::version_in;
 use sc_code::FeatureCode;
 use sc_model::Cause;
-use sc_region::{Reference, Store, Value};
+use sc_region::{ObjectNumber, Reference, Store, Value};
 
 /// The number of the attribute of this name of the object.
-fn attribute_number(store: &Store<'_>, object: u32, name: usize) -> Option<usize>
+fn attribute_number(store: &Store<'_>, object: ObjectNumber, name: usize) -> Option<usize>
     ensures { result ≡ named_attribute store.now object name }
 {
     let class = store.class_of(object)?;
@@ -28,7 +28,7 @@ fn attribute_number(store: &Store<'_>, object: u32, name: usize) -> Option<usize
 }
 
 /// The attribute of this name of the object.
-pub fn attribute_value(store: &Store<'_>, object: u32, name: usize) -> Option<Value>
+pub fn attribute_value(store: &Store<'_>, object: ObjectNumber, name: usize) -> Option<Value>
     ensures { IsAttribute store.now object name result }
 {
     match attribute_number(store, object, name) {

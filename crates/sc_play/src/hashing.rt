@@ -1,6 +1,6 @@
 //! Numbers by which stores are told apart at a glance.
 
-use sc_region::{Activation, Stage, Store, Value};
+use sc_region::{Activation, ObjectNumber, Stage, Store, Value};
 use std::hash::{FoldHasher, Hasher};
 
 /// A number that differs for most stores that differ: of the objects, of where the topmost routine stands, with its values,
@@ -18,7 +18,7 @@ pub fn hash_store(store: &Store<'_>) -> u64 {
 
 fn write_objects(hasher: &mut FoldHasher, store: &Store<'_>) {
     for place in 0..store.object_count().min(MAX_OBJECTS) {
-        let number = place as u32 + 1;
+        let number = place as ObjectNumber + 1;
         hasher.write_u8(store.class_of(number).unwrap_or(0));
         for slot in 0..256 {
             let Some(value) = store.read(number, slot) else {

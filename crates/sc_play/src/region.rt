@@ -11,7 +11,7 @@ use sc_code::Program;
 use sc_interp::run_current;
 use sc_lockpass::HandlerNumber;
 use sc_model::Cause;
-use sc_region::{Breakdown, Job, Outcome, Store, Want};
+use sc_region::{Breakdown, Job, ObjectNumber, Outcome, Store, Want};
 use std::alloc::{AllocError, Global};
 use std::marker::Model;
 
@@ -204,7 +204,7 @@ impl<'p> Region<'p> {
 
     /// Whether there is an object of the number, and it is settled: the handler hasn't failed, and no routine that it is in
     /// the middle of runs on the object. It meets its class invariant then.
-    pub fn settled(&self, number: u32) -> bool
+    pub fn settled(&self, number: ObjectNumber) -> bool
         ensures settled { result ≡ (is_settled number self.now.store && is_some (object_numbered number self.now.store.objects)) }
         ensures meets { IsTrue result → MeetsAt self.now.store.program (object_numbered number self.now.store.objects) }
     {
@@ -219,7 +219,7 @@ impl<'p> Region<'p> {
     }
 
     /// Whether there is an object of the number, and it meets its class invariant.
-    pub fn test_invariant(&self, number: u32) -> bool
+    pub fn test_invariant(&self, number: ObjectNumber) -> bool
         ensures { IsTrue result ↔ MeetsAt self.now.store.program (object_numbered number self.now.store.objects) }
     {
         self.store.test_invariant(number)

@@ -1,5 +1,7 @@
 //! Where a handler failed.
 
+use sc_code::ClassNumber;
+
 /// Where a routine stood: its number, and the place of its operation in its code.
 #[derive(Clone, Copy)]
 pub struct Point {
@@ -11,7 +13,7 @@ pub struct Point {
 #[derive(Clone, Copy)]
 pub struct BrokenInvariant {
     /// The number of the object's class.
-    pub class: u8,
+    pub class: ClassNumber,
     /// The first clause that wasn't true, counted from 0, an ancestor's clauses first.
     pub clause: usize,
 }

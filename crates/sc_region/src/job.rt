@@ -2,6 +2,7 @@
 
 use crate::value::{Reference, Value};
 use arrayvec::ArrayVec;
+use sc_code::{ClassNumber, NameNumber};
 use sc_lockpass::HandlerNumber;
 use sc_model::Cause;
 
@@ -9,9 +10,9 @@ use sc_model::Cause;
 #[derive(Clone, Copy)]
 pub enum Errand {
     /// The feature of the number is called.
-    Calls(u32),
+    Calls(NameNumber),
     /// An object of the target's class is made, by the creation procedure of the number or without one.
-    Makes(Option<u32>),
+    Makes(Option<NameNumber>),
 }
 
 /// What a handler is asked for. It takes 304 bytes, and no memory beside.
@@ -62,8 +63,8 @@ pub enum Want {
     },
     /// A new handler is made, with this creation of an object of the class as its first request.
     Create {
-        class: u8,
-        procedure: Option<u32>,
+        class: ClassNumber,
+        procedure: Option<NameNumber>,
         actuals: ArrayVec<Value, 16>,
         passes: bool,
     },

@@ -4,14 +4,14 @@ ghost use Rattle.std.specs.Prelude.{◌≤◌, vec_len};
 use crate::equality::same_objects;
 use crate::program::{class_at, defaults};
 use crate::value::Value;
-use sc_code::Program;
+use sc_code::{ClassNumber, Program};
 use std::alloc::{AllocError, Global};
 use std::marker::Model;
 
 /// An object: the number of its class, and its attributes by number. It takes 32 bytes, and 16 for each attribute.
 #[derive(Drop)]
 pub struct Object {
-    pub class: u8,
+    pub class: ClassNumber,
     pub attributes: Vec<Value>,
     ghost few: { vec_len attributes ≤ 256 },
 }
@@ -22,7 +22,7 @@ impl Object {
     ghost use Rattle.sc_region.specs.Classes.{fresh_object};
 
     /// A new object of the class of the number: each attribute has its default.
-    pub fn fresh(alloc: Global, program: &Program, class: u8) -> Result<Object, AllocError>
+    pub fn fresh(alloc: Global, program: &Program, class: ClassNumber) -> Result<Object, AllocError>
         ensures { IfOk result (λ object. object_of object ≡ fresh_object program.now.image class) }
     {
         let attributes = match class_at(program, class) {
@@ -115,7 +115,7 @@ impl Objects {
     }
 
     /// The class of the object of the number.
-    pub fn class_of(&self, number: usize) -> Option<u8>
+    pub fn class_of(&self, number: usize) -> Option<ClassNumber>
         ensures { result ≡ option_map (λ (o : PlainObject). o.class) (object_numbered number self.now) }
     {
         Some(self.get(number)?.class)

@@ -4,11 +4,11 @@ ghost use Rattle.std.specs.Option.{option_map};
 ghost use Rattle.sc_region.specs.Classes as at;
 
 use crate::value::Value;
-use sc_code::{ClassCode, Program, RoutineCode};
+use sc_code::{ClassCode, ClassNumber, Program, RoutineCode};
 use std::alloc::{AllocError, Global};
 
 /// The class of the number, which has at most 256 attributes.
-pub fn class_at(program: &Program, class: u8) -> Option<&ClassCode>
+pub fn class_at(program: &Program, class: ClassNumber) -> Option<&ClassCode>
     ensures class { option_map (λ code. code.now) result ≡ at.class_at program.now.image class }
     ensures few { IfSome result (λ code. vec_len code.now.attributes ≤ 256) }
 {

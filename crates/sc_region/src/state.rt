@@ -14,8 +14,8 @@ use crate::frame::{Activation, Origin, OwnCall};
 use crate::object::{Object, Objects};
 use crate::program::{class_at, routine_at};
 use crate::stack::Stack;
-use crate::value::{Reference, Value};
-use sc_code::Program;
+use crate::value::{ObjectNumber, Reference, Value};
+use sc_code::{ClassNumber, Program};
 use sc_formula::{Atom, Formula};
 use sc_lockpass::HandlerNumber;
 use sc_model::Cause;
@@ -292,7 +292,7 @@ fn settle_exited(state: &mut State<'_>, number: usize)
 
 // ---- new objects
 
-fn add_object(state: &mut State<'_>, class: u8) -> Result<(), AllocError>
+fn add_object(state: &mut State<'_>, class: ClassNumber) -> Result<(), AllocError>
     ensures ok { OnOk result (state_of state.new ≡ with_new class (state_of state.old)) }
     ensures err { OnErr result (state_of state.new ≡ state_of state.old) }
 {
@@ -302,7 +302,7 @@ fn add_object(state: &mut State<'_>, class: u8) -> Result<(), AllocError>
 }
 
 /// An object is made by a request, without a procedure.
-pub fn bear(state: &mut State<'_>, class: u8) -> Result<(), AllocError>
+pub fn bear(state: &mut State<'_>, class: ClassNumber) -> Result<(), AllocError>
     ensures ok { OnOk result (state_of state.new ≡ born class (state_of state.old)) }
     ensures err { OnErr result (state_of state.new ≡ state_of state.old) }
 {
@@ -334,7 +334,7 @@ pub fn bear_for(
 }
 
 /// An object is made by a routine of this handler, without a procedure.
-pub fn make(state: &mut State<'_>, class: u8) -> Result<(), AllocError>
+pub fn make(state: &mut State<'_>, class: ClassNumber) -> Result<(), AllocError>
     ensures ok { OnOk result (state_of state.new ≡ made class (state_of state.old)) }
     ensures err { OnErr result (state_of state.new ≡ state_of state.old) }
 {
@@ -349,7 +349,7 @@ pub fn make(state: &mut State<'_>, class: u8) -> Result<(), AllocError>
 pub fn make_for(
     state: &mut State<'_>,
     handler: HandlerNumber,
-    class: u8,
+    class: ClassNumber,
     routine: usize,
     actuals: &[Value],
 ) -> Result<(), AllocError>
@@ -361,7 +361,7 @@ pub fn make_for(
         fail(state, Cause::TooManyObjects);
         return Ok(());
     }
-    let number = count as u32 + 1;
+    let number = count as ObjectNumber + 1;
     let current = Reference {
         handler,
         number,

@@ -11,8 +11,8 @@ use crate::frame::{Activation, Origin, OwnCall};
 use crate::object::Objects;
 use crate::stack::Stack;
 use crate::state::{self, State};
-use crate::value::{Reference, Value};
-use sc_code::Program;
+use crate::value::{ObjectNumber, Reference, Value};
+use sc_code::{ClassNumber, Program};
 use sc_lockpass::HandlerNumber;
 use sc_model::Cause;
 use std::alloc::{AllocError, Global};
@@ -83,7 +83,7 @@ impl<'p> Store<'p> {
     }
 
     /// The number of the class of an object, or None where there is no object. It takes constant time.
-    pub fn class_of(&self, number: u32) -> Option<u8>
+    pub fn class_of(&self, number: ObjectNumber) -> Option<ClassNumber>
         ensures { result ≡ option_map (λ (o : PlainObject). o.class) (object_numbered number self.now.objects) }
     {
         self.state.objects.class_of(number as usize)
@@ -97,7 +97,7 @@ impl<'p> Store<'p> {
     }
 
     /// The attribute of the number `slot` of an object, or None where there is none. It takes constant time.
-    pub fn read(&self, number: u32, slot: usize) -> Option<Value>
+    pub fn read(&self, number: ObjectNumber, slot: usize) -> Option<Value>
         ensures { result ≡ attribute_of number slot self.now.objects }
     {
         self.state.objects.read(number as usize, slot)
@@ -113,7 +113,7 @@ impl<'p> Store<'p> {
 
     /// An object is made by a request that names no procedure: F1 where it breaks its invariant. Err where there is no
     /// memory; nothing has changed then.
-    pub fn birth(&mut self, class: u8) -> Result<(), AllocError>
+    pub fn birth(&mut self, class: ClassNumber) -> Result<(), AllocError>
         ensures ok { OnOk result (self.new ≡ born class self.old) }
         ensures err { OnErr result (self.new ≡ self.old) }
     {
@@ -144,7 +144,7 @@ impl<'p> Store<'p> {
 
     /// An object is made by a routine of this handler, without a procedure: F10 where there are as many objects as
     /// there may be; F1 where it breaks its invariant. Err where there is no memory; nothing has changed then.
-    pub fn make_object(&mut self, class: u8) -> Result<(), AllocError>
+    pub fn make_object(&mut self, class: ClassNumber) -> Result<(), AllocError>
         ensures ok { OnOk result (self.new ≡ made class self.old) }
         ensures err { OnErr result (self.new ≡ self.old) }
     {
@@ -157,7 +157,7 @@ impl<'p> Store<'p> {
     pub fn make_object_with(
         &mut self,
         handler: HandlerNumber,
-        class: u8,
+        class: ClassNumber,
         routine: usize,
         actuals: &[Value],
     ) -> Result<(), AllocError>
@@ -224,7 +224,7 @@ impl<'p> Store<'p> {
 
     /// Whether there is an object of the number, and it is settled: the store hasn't ended in a failure, and no frame
     /// has it as Current. It meets its class invariant then. Looks at each frame at most once.
-    pub fn settled(&self, number: u32) -> bool
+    pub fn settled(&self, number: ObjectNumber) -> bool
         ensures settled { result ≡ (is_settled number self.now && is_some (object_numbered number self.now.objects)) }
         ensures meets { IsTrue result → MeetsAt self.now.program (object_numbered number self.now.objects) }
     {
@@ -240,7 +240,7 @@ impl<'p> Store<'p> {
     }
 
     /// Whether there is an object of the number, and it meets its class invariant.
-    pub fn test_invariant(&self, number: u32) -> bool
+    pub fn test_invariant(&self, number: ObjectNumber) -> bool
         ensures { IsTrue result ↔ MeetsAt self.now.program (object_numbered number self.now.objects) }
     {
         state::object_meets(&self.state, number as usize)

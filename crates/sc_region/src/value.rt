@@ -2,9 +2,12 @@
 ghost use Rattle.std.specs.Prelude.{◌≡◌};
 ghost use Rattle.sc_region.specs.Values.{default_value, atom_of};
 
-use sc_code::DefaultValue;
+use sc_code::{ClassNumber, DefaultValue};
 use sc_formula::Atom;
 use sc_lockpass::HandlerNumber;
+
+/// The number of an object among those of its handler, from 1.
+pub type ObjectNumber = u32;
 
 /// A reference to an object. It takes 12 bytes.
 #[derive(Clone, Copy, Debug, PartialEq, Eq)]
@@ -12,9 +15,9 @@ pub struct Reference {
     /// The handler on which the object lies.
     pub handler: HandlerNumber,
     /// The object's number there, from 1.
-    pub number: u32,
+    pub number: ObjectNumber,
     /// The number of its class, so that an object that is still to be made has one.
-    pub class: u8,
+    pub class: ClassNumber,
 }
 
 /// The value of an entity or an expression. It takes 16 bytes.

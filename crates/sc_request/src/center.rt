@@ -14,7 +14,7 @@ use arrayvec::ArrayVec;
 use sc_handler::{Handler, HandlerStage, Log, Posting};
 use sc_lockpass::{HandlerNumber, Rights, Version};
 use sc_model::Status;
-use sc_region::{Errand, Job, Reference, Request};
+use sc_region::{ClassNumber, Errand, Job, NameNumber, Reference, Request};
 use std::alloc::{AllocError, Global};
 use std::collections::LinkedList;
 
@@ -61,8 +61,8 @@ impl Core {
     /// What grows later takes its memory from this allocator. Err where there is no memory.
     pub fn opening(
         alloc: Global,
-        class: u8,
-        procedure: u32,
+        class: ClassNumber,
+        procedure: NameNumber,
         version: Version,
     ) -> Result<Core, AllocError>
         ensures center { IfOk result (λ c. center_of c ≡ opened (most_handlers version) (root_of class procedure)) }
@@ -182,7 +182,7 @@ impl Core {
 }
 
 /// The creation of the root object, which nobody waits for.
-fn root_request(class: u8, procedure: u32) -> Request
+fn root_request(class: ClassNumber, procedure: NameNumber) -> Request
     ensures { result ≡ root_of class procedure }
 {
     Request {

@@ -12,7 +12,7 @@ use arrayvec::ArrayVec;
 use sc_handler::{HandlerStage, Posting, copy_values};
 use sc_lockpass::HandlerNumber;
 use sc_model::Cause;
-use sc_region::{Errand, Reference, Request, Value};
+use sc_region::{ClassNumber, Errand, NameNumber, Reference, Request, Value};
 use std::collections::LinkedList;
 
 impl State {
@@ -20,8 +20,8 @@ impl State {
     pub(crate) fn create(
         &mut self,
         handler: HandlerNumber,
-        class: u8,
-        procedure: Option<u32>,
+        class: ClassNumber,
+        procedure: Option<NameNumber>,
         actuals: &ArrayVec<Value, 16>,
         passes: bool,
         spare: &mut LinkedList<Posting>,
@@ -116,8 +116,8 @@ impl State {
 fn creation(
     poster: HandlerNumber,
     made: HandlerNumber,
-    class: u8,
-    procedure: Option<u32>,
+    class: ClassNumber,
+    procedure: Option<NameNumber>,
     actuals: &ArrayVec<Value, 16>,
     is_waited: bool,
 ) -> Request

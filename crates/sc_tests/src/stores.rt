@@ -2,9 +2,9 @@
 
 use crate::programs::program_of;
 use crate::rows::{expect_text, halves_of};
-use sc_code::Program;
+use sc_code::{ClassNumber, Program};
 use sc_model::Cause;
-use sc_region::{Activation, Origin, Reference, Store, Value};
+use sc_region::{Activation, ObjectNumber, Origin, Reference, Store, Value};
 use std::alloc::{AllocError, Global};
 use std::process::Abort;
 use std::test::Fail;
@@ -21,7 +21,7 @@ class SET feature n: INTEGER invariant n /= 0 end
 
 class FREE feature i: INTEGER b: BOOLEAN a: detachable FREE end";
 
-const LOW: u8 = 0;
+const LOW: ClassNumber = 0;
 
 const RUN: usize = 1;
 
@@ -77,11 +77,11 @@ born LOW run, push 1 ask 3, pop|1 RequestedCreation Runs at 0 [] None false fals
 #[derive(Clone, Copy)]
 enum Step<'t> {
     /// An object of the class is made by a request, and the routine entered on it, if there is one.
-    Born(u8, Option<usize>),
+    Born(ClassNumber, Option<usize>),
     /// The same by a routine.
-    Make(u8, Option<usize>),
+    Make(ClassNumber, Option<usize>),
     /// The routine is entered on the object of the number, with this actual, if there is one.
-    Push(u32, usize, Option<i64>),
+    Push(ObjectNumber, usize, Option<i64>),
     Pop,
     /// The first attribute of Current gets the value.
     Set(i64),
@@ -90,7 +90,7 @@ enum Step<'t> {
 }
 
 /// The number of a class.
-fn class_named(name: &str) -> Result<u8, Fail> {
+fn class_named(name: &str) -> Result<ClassNumber, Fail> {
     match name {
         "LOW" => Ok(LOW),
         "SET" => Ok(1),
@@ -143,7 +143,7 @@ fn step_of(text: &str) -> Result<Step<'_>, Fail> {
 }
 
 /// The number that the next object has; no row makes more than nine.
-fn next_number(store: &Store<'_>) -> u32 {
+fn next_number(store: &Store<'_>) -> ObjectNumber {
     for number in 1..10 {
         if store.class_of(number).is_none() {
             return number;
@@ -152,7 +152,7 @@ fn next_number(store: &Store<'_>) -> u32 {
     10
 }
 
-fn object(number: u32, class: u8) -> Reference {
+fn object(number: ObjectNumber, class: ClassNumber) -> Reference {
     Reference {
         handler: 0,
         number,
@@ -209,7 +209,11 @@ fn tell_value(text: &mut String, value: Value) -> Result<(), AllocError> {
     }
 }
 
-fn tell_object(text: &mut String, store: &Store<'_>, number: u32) -> Result<(), AllocError> {
+fn tell_object(
+    text: &mut String,
+    store: &Store<'_>,
+    number: ObjectNumber,
+) -> Result<(), AllocError> {
     let settled = if store.settled(number) {
         "settled"
     } else {

@@ -8,7 +8,7 @@ use sc_code::Program;
 use sc_handler::Log;
 use sc_lockpass::HandlerNumber;
 use sc_play::Region;
-use sc_region::{Job, Outcome, Want};
+use sc_region::{Job, ObjectNumber, Outcome, Want};
 use std::alloc::{AllocError, Global};
 
 /// A region, and the log of the jobs that it played, the first one first.
@@ -150,7 +150,7 @@ impl<'p> LoggedRegion<'p> {
 
     /// Whether there is an object of the number, and it is settled: the handler hasn't failed, and no routine that it is in
     /// the middle of runs on the object. It meets its class invariant then.
-    pub fn settled(&self, number: u32) -> bool
+    pub fn settled(&self, number: ObjectNumber) -> bool
         ensures settled { result ≡ (is_settled number (region_of self.now).store
             && is_some (object_numbered number (region_of self.now).store.objects)) }
         ensures meets { IsTrue result →
@@ -160,7 +160,7 @@ impl<'p> LoggedRegion<'p> {
     }
 
     /// Whether there is an object of the number, and it meets its class invariant.
-    pub fn test_invariant(&self, number: u32) -> bool
+    pub fn test_invariant(&self, number: ObjectNumber) -> bool
         ensures { IsTrue result ↔
             MeetsAt (region_of self.now).store.program (object_numbered number (region_of self.now).store.objects) }
     {

@@ -19,7 +19,7 @@ use sc_handler::Log;
 use sc_lockpass::{HandlerNumber, Version};
 use sc_model::Status;
 use sc_play::Region;
-use sc_region::{Breakdown, Job, Want};
+use sc_region::{Breakdown, Job, ObjectNumber, Want};
 use sc_request::Core;
 use std::alloc::{AllocError, Global};
 

@@ -7,7 +7,7 @@ ghost use Rattle.sc_play.specs.Taking.{answered, asks_answering, asks_call, asks
 
 use arrayvec::ArrayVec;
 use sc_acts::{ask_beginning, routine_of, unless_failed, version_in};
-use sc_code::{AttributeCode, FeatureCode, Program};
+use sc_code::{AttributeCode, ClassNumber, FeatureCode, NameNumber, Program};
 use sc_lockpass::HandlerNumber;
 use sc_model::Cause;
 use sc_region::{Errand, Origin, Reference, Request, Store, Value, Want};
@@ -30,7 +30,7 @@ fn ask_done(value: Option<Value>, asked: &mut Want)
 }
 
 /// The attribute at the number of the class of a number.
-fn attribute_at(program: &Program, class: u8, number: usize) -> Option<AttributeCode>
+fn attribute_at(program: &Program, class: ClassNumber, number: usize) -> Option<AttributeCode>
     ensures { result ≡ attribute_at program.now.image class number }
 {
     let code = program.classes().get(usize::from(class))?;
@@ -146,7 +146,7 @@ fn bear(store: &mut Store<'_>, request: &Request, routine: Option<usize>) -> Res
 fn make(
     store: &mut Store<'_>,
     request: &Request,
-    procedure: Option<u32>,
+    procedure: Option<NameNumber>,
     asked: &mut Want,
 ) -> Result<(), AllocError>
     requires { asked.old ≡ want.Continue }
