@@ -60,7 +60,7 @@ pub fn image<'s>(alloc: Global, tables: &'s Tables<'s>, most: u32) -> Result<Ima
         classes,
         routines: routines.codes,
         root_class: root_class(tables),
-        root_procedure,
+        root_procedure: root_procedure as usize,
         instructions: routines.instructions,
     })
 }

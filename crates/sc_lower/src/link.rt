@@ -21,7 +21,8 @@ fn name<'s>(linker: &mut Linker<'s>, text: &'s str) -> Result<usize, AllocError>
     ensures found { IfOk result (λ number. slice_get (pool_in linker.new).names number ≡ Some text.now) }
     ensures grows { OnOk result (Grows (pool_in linker.old) (pool_in linker.new)) }
 {
-    linker.names.number(text)
+    let number = linker.names.number(text)?;
+    Ok(number as usize)
 }
 
 /// The number of a new text.

@@ -4,7 +4,9 @@ ghost use Rattle.std.specs.Prelude.{◌≡◌, ℕ, List, [], Some, IfOk, OnOk, 
 ghost use Rattle.sc_code.specs.RequestRoom.{AreDistinct};
 ghost use Rattle.sc_lower.specs.Growing.{Extends};
 
+use crate::sums::within_32_bits;
 use indexmap::IndexSet;
+use sc_code::NameNumber;
 use std::alloc::{AllocError, Global};
 use std::marker::Model;
 
@@ -34,12 +36,13 @@ impl<'s> Names<'s> {
     }
 
     /// The number of a name, which is added behind the others where it isn't there yet. It looks once by hash.
-    pub fn number(&mut self, text: &'s str) -> Result<usize, AllocError>
+    pub fn number(&mut self, text: &'s str) -> Result<NameNumber, AllocError>
         ensures found { IfOk result (λ number. slice_get self.new number ≡ Some text.now) }
         ensures kept { OnOk result (Extends self.old self.new) }
         ensures distinct { AreDistinct self.new }
     {
-        let (number, _) = self.texts.insert_full(text)?;
+        let (place, _) = self.texts.insert_full(text)?;
+        let number = within_32_bits(place)?;
         Ok(number)
     }
 
