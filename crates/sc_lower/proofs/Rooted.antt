@@ -1,14 +1,18 @@
 -- The class that a system without faults is run from is one of its own.
-use Rattle.std.proofs.Common.{◌≡◌, ℕ, Bool, true, false, cond, List, Option, Some, None, refl, ap, ◌∙◌}
+use Rattle.std.proofs.Common.{◌≡◌, ◌<◌, ◌≤◌, ℕ, Bool, true, false, cond, List, Option, Some, None, length, refl, ap, ◌∙◌, arith}
+use Rattle.std.proofs.lemmas.List.{length-map}
 use Rattle.std.specs.Prelude.{◌||◌}
 use Rattle.std.specs.Option.{option_map, option_map_or}
-use Rattle.sc_tree.specs.Plain.{System}
+use Rattle.sc_tree.specs.Plain.{Class, System}
 use Rattle.sc_class.specs.declared.identity.ClassId.{ClassId}
 use Rattle.sc_class.specs.declared.identity.ClassId.TheVariants as class
 use Rattle.sc_class.specs.declared.fault.ClassFault.TheVariants as fault
 use Rattle.sc_class.specs.Names.{number_among}
 use Rattle.sc_class.specs.ClassNames.{Root, class_names, class_named, is_any, is_none, is_integer, is_boolean, number_of}
 use Rattle.sc_class.specs.Faults.ClassRules.{IsFaultless, creates_by, has_root, no_root}
+use Rattle.sc_class.proofs.Ancestry.{number_in_names}
+use Rattle.sc_class.proofs.NameLemmas.{number_below}
+use Rattle.sc_lower.proofs.FittingExpressions.{classes_few}
 
 rooted : (b : Bool) → (b ≡ false → ⊥) → b ≡ true
 rooted true f = refl
@@ -37,6 +41,24 @@ number_names s x k = by (is_any x) (is_none x) (is_integer x) (is_boolean x)
     by false false false true e = cc
     by false false false false e = ap (option_map (λ k. class.Declared k)) e
 
--- what the root's class stands for has the number that it has
-pub root_is : (s : System) (root : Root) → IsFaultless s root → (o : Option ClassId) → o ≡ class_named s root.class → (k : ℕ) × (o ≡ Some (class.Declared k)) × (number_of s root.class ≡ Some k)
-root_is s root none o e = let found = root_numbered s root none in (found.0, e ∙ number_names s root.class found.0 found.1, found.1)
+-- a class that has a number is one of the classes
+number_within : (s : System) (x : List ℕ) (k : ℕ) → number_of s x ≡ Some k → k < length s.classes
+number_within s x k e =
+    let names = class_names s.classes in
+    let l = number_below x names k (number_in_names x names k e) in
+    omega (arith, l, length-map s.classes (λ (c : Class). c.name))
+
+-- and in a system without faults there are at most 256
+small_number : (k n : ℕ) → k < n → n ≤ 256 → k < 256
+small_number k n l few = omega (arith, l, few)
+
+-- what the root's class stands for has the number that it has, which is below 256
+pub root_is : (s : System) (root : Root) → IsFaultless s root → (o : Option ClassId) → o ≡ class_named s root.class →
+    (k : ℕ) × (o ≡ Some (class.Declared k)) × (number_of s root.class ≡ Some k) × (k < 256)
+root_is s root none o e =
+    let found = root_numbered s root none in (
+      found.0,
+      e ∙ number_names s root.class found.0 found.1,
+      found.1,
+      small_number found.0 (length s.classes) (number_within s root.class found.0 found.1) (classes_few s root none),
+    )

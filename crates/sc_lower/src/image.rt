@@ -15,7 +15,7 @@ use crate::program::routines::{features_in_order, lower_routines};
 use crate::refusal::LoweringFault;
 use crate::sums::within_32_bits;
 use sc_class::{ClassId, Tables};
-use sc_code::Image;
+use sc_code::{ClassNumber, Image};
 use sc_typing::Numbering;
 use std::alloc::Global;
 
@@ -30,11 +30,11 @@ fn declared_number(class: Option<ClassId>) -> Option<usize>
 }
 
 /// The number of the class that the system is run from.
-fn root_class(tables: &Tables) -> usize
+fn root_class(tables: &Tables) -> ClassNumber
     ensures { number_of (system_in tables.now) (root_in tables.now).class ≡ Some result }
 {
     match declared_number(tables.class_named(&tables.root().class)) {
-        Some(number) => number,
+        Some(number) => number as ClassNumber,
         None => unreachable!(),
     }
 }
@@ -60,7 +60,7 @@ pub fn image<'s>(alloc: Global, tables: &'s Tables<'s>, most: u32) -> Result<Ima
         classes,
         routines: routines.codes,
         root_class: root_class(tables),
-        root_procedure: root_procedure as usize,
+        root_procedure,
         instructions: routines.instructions,
     })
 }

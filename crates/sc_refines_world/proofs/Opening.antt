@@ -1,15 +1,9 @@
 -- The opening of a program's world stands for the opening of its system.
-use Rattle.std.proofs.Common.{◌≡◌, ◌<◌, ◌≤◌, ◌+◌, ℕ, zero, suc, Bool, true, false, List, [], ◌∷◌, Option, Some, None, length, min, slice_get, refl, sym, ap, subst, ◌∙◌, arith}
-use Rattle.std.proofs.lemmas.Bool.{ltb-false, ltb-true}
-use Rattle.std.proofs.lemmas.Option.{slice_get_within}
+use Rattle.std.proofs.Common.{◌≡◌, ◌+◌, ℕ, zero, suc, Bool, true, false, List, [], ◌∷◌, Option, Some, None, length, slice_get, refl, sym, ap, subst, ◌∙◌, arith}
 use Rattle.std.specs.Option.{option_map_or}
 use Rattle.std.specs.Prelude.{nat_lt, if◌then◌else◌}
 use Rattle.sc_tree.specs.Plain.{System}
 use Rattle.sc_class.specs.ClassNames.{Root, number_of}
-use Rattle.sc_class.specs.Faults.ClassRules.{IsFaultless, limit}
-use Rattle.sc_class.specs.Faults.Limits.{many_classes}
-use Rattle.sc_class.specs.declared.fault.ClassFault.TheVariants as fault
-use Rattle.sc_rules.specs.Names.{RoutineName}
 use Rattle.sc_model.specs.Handlers as machine
 use Rattle.sc_model.specs.Runs as runs
 use Rattle.sc_model.specs.Runs.{root_request}
@@ -26,7 +20,6 @@ use Rattle.sc_play.specs.Regions.{PlainRegion, new_region}
 use Rattle.sc_refines_turn.specs.Taking.{IsNamed, IsNameOf}
 use Rattle.sc_code.specs.RequestRoom.{FitsRequests}
 use Rattle.sc_refines_turn.proofs.TurnWants.{distinct_names_have_numbers}
-use Rattle.sc_machine_values.proofs.Opening.{opening_fits}
 use Rattle.sc_refines_core.specs.Reached as halves
 use Rattle.sc_world.specs.Worlds.{max_handlers, new_regions}
 use Rattle.sc_refines_world.specs.Standing.{names_in}
@@ -63,55 +56,31 @@ opened_length p = new_length p 0 max_handlers
 
 -- ---- the root request
 
-min_below : (a b : ℕ) → a ≤ b → min a b ≡ a
-min_below a b l = omega (arith, l)
-
-some_number : (a b : ℕ) → Some a ≡ Some b → a ≡ b
-some_number a b e = cc
-
-module _ (s : System) (root : Root) (pure : RoutineName → Bool) (p : Image) (faultless : IsFaultless s root) (program : IsProgramOf s root p) (fits : FitsRequests p) where
+module _ (s : System) (root : Root) (p : Image) (program : IsProgramOf s root p) (fits : FitsRequests p) where
   abbrev names : List (List ℕ)
   names = names_in p
 
   class_is : option_map_or (λ k. k) (number_of s root.class) 0 ≡ p.root_class
   class_is = ap (λ (o : Option ℕ). option_map_or (λ k. k) o 0) program.root_class
 
-  few_classes : length s.classes ≤ 256
-  few_classes = by (nat_lt 256 (length s.classes)) refl
-    where
-      by : (b : Bool) → nat_lt 256 (length s.classes) ≡ b → length s.classes ≤ 256
-      by true e = absurd (faultless fault.Limit (limit (many_classes (ltb-true 256 (length s.classes) e))))
-      by false e = ltb-false 256 (length s.classes) e
-
-  small_class : min p.root_class 255 ≡ p.root_class
-  small_class =
-      let one : 0 < 1 = omega arith in
-      let there : option_map_or (λ k. k) (number_of s root.class) 0 < length s.classes = (opening_fits s root pure faultless 0 one).requests_fit.0.is_of_class in
-      min_below p.root_class 255 (omega (arith, there, class_is, few_classes))
-
   number_is : number_among root.procedure names ≡ p.root_procedure
   number_is = distinct_names_have_numbers names p.root_procedure root.procedure fits.distinct program.root_procedure
 
-  small_number : min p.root_procedure 4294967295 ≡ p.root_procedure
-  small_number =
-      let there = slice_get_within names p.root_procedure root.procedure program.root_procedure in
-      min_below p.root_procedure 4294967295 (omega (arith, there, fits.names))
-
   -- the core of the program's opening is that of the system's
-  pub opened_state : logs.opening (root_of (min p.root_class 255) (min p.root_procedure 4294967295)) ≡ halves.opened (numbering_by names) s root
+  pub opened_state : logs.opening (root_of p.root_class p.root_procedure) ≡ halves.opened (numbering_by names) s root
   opened_state =
-      ap (λ (k : ℕ). logs.opening (root_of k (min p.root_procedure 4294967295))) (small_class ∙ sym class_is)
-      ∙ ap (λ (k : ℕ). logs.opening (root_of (option_map_or (λ k. k) (number_of s root.class) 0) k)) (small_number ∙ sym number_is)
+      ap (λ (k : ℕ). logs.opening (root_of k p.root_procedure)) (sym class_is)
+      ∙ ap (λ (k : ℕ). logs.opening (root_of (option_map_or (λ k. k) (number_of s root.class) 0) k)) (sym number_is)
 
   -- it asks for what the program has a name for
-  pub opened_named : AllAsk (IsNamed names) (logs.opening (root_of (min p.root_class 255) (min p.root_procedure 4294967295)))
+  pub opened_named : AllAsk (IsNamed names) (logs.opening (root_of p.root_class p.root_procedure))
   opened_named k = by (nat_lt k 1)
     where
-      named : IsNameOf names (min p.root_procedure 4294967295)
-      named = (root.procedure, ap (slice_get names) small_number ∙ program.root_procedure)
+      named : IsNameOf names p.root_procedure
+      named = (root.procedure, program.root_procedure)
 
       by : (b : Bool) → Asks (IsNamed names)
-          (if b then record new_handler { queue = posted (root_of (min p.root_class 255) (min p.root_procedure 4294967295)) None ∷ [] } else new_handler)
+          (if b then record new_handler { queue = posted (root_of p.root_class p.root_procedure) None ∷ [] } else new_handler)
       by true = ((named, tt), tt)
       by false = (tt, tt)
 

@@ -1,11 +1,9 @@
 -- The world that runs stands for the machine, along turns from the opening of an accepted system's program on.
-use Rattle.std.proofs.Common.{◌≡◌, ◌≤◌, ℕ, Bool, List, [], Some, slice_get, refl, sym, subst, arith}
+use Rattle.std.proofs.Common.{◌≡◌, ◌≤◌, ℕ, List, [], Some, slice_get, refl, sym, subst, arith}
 use Rattle.sc_tree.specs.Plain.{System}
 use Rattle.sc_class.specs.ClassNames.{Root}
 use Rattle.sc_class.specs.Faults.ClassRules.{IsFaultless}
-use Rattle.sc_rules.specs.Names.{RoutineName}
 use Rattle.sc_rules.specs.SystemRules.{WellFormed}
-use Rattle.sc_rules.proofs.PurityStands.{purity_stands}
 use Rattle.sc_lockpass.specs.Versions.{most_handlers}
 use Rattle.sc_lockpass.specs.declared.version.Version.{Version}
 use Rattle.sc_lockpass.specs.declared.version.Version.TheVariants.{One, Two}
@@ -47,11 +45,8 @@ module _ (s : System) (root : Root) (p : Image) (faultless : IsFaultless s root)
   abbrev most : ℕ
   most = most_handlers v
 
-  pure : RoutineName → Bool
-  pure = (purity_stands s).0
-
   pub core : IsHalfOf n (opening s root) (opened p v).center.state
-  core = subst (IsHalfOf n (opening s root)) (sym (opened_state s root pure p faultless program fits)) (opens n s root)
+  core = subst (IsHalfOf n (opening s root)) (sym (opened_state s root p program fits)) (opens n s root)
 
   module _ (Placed : ℕ → PlainStore → Type 0) (Needs : ℕ → Job → Half → Type 0) (stores_turn : StoresTurn s root p faultless well most Placed Needs)
       (halves_meet : HalvesMeet s root p faultless well most Needs) (new_placed : (h : ℕ) → Placed h (new_store p)) (follow : RegionsFollow s root p faultless well most)
@@ -79,7 +74,7 @@ module _ (s : System) (root : Root) (p : Image) (faultless : IsFaultless s root)
       same_most = refl;
       none_out = λ h. refl;
       few = some_room v;
-      named = opened_named s root pure p faultless program fits;
+      named = opened_named s root p program fits;
       many = opened_length p;
       regions = λ h r is few. start_region h r is;
       others = λ h r is past. opened_at p h r is;
@@ -88,14 +83,14 @@ module _ (s : System) (root : Root) (p : Image) (faultless : IsFaultless s root)
     pub stands_along : (hs : List ℕ) (y : PlainWorld) → Runs hs (opened p v) y → StandsFor s p (run most s hs (opening s root)) y
     stands_along hs y runs =
         let remembered : RemembersAlong most n s hs (opening s root) (opened p v).center.state =
-        subst (RemembersAlong most n s hs (opening s root)) (sym (opened_state s root pure p faultless program fits)) (entries_are_remembered s root faultless well most n hs) in
+        subst (RemembersAlong most n s hs (opening s root)) (sym (opened_state s root p program fits)) (entries_are_remembered s root faultless well most n hs) in
         let last = along s root p faultless well most Placed Needs stores_turn halves_meet new_placed follow ask others_keep created settled_meet end_there picks reached_halves
         hs (opening s root) (opened p v) y (record { numbers = []; run_is = refl }) core remembered start runs in
         beside_stands s root p faultless well most Placed Needs stores_turn halves_meet new_placed follow ask others_keep created settled_meet end_there picks reached_halves
         (run most s hs (opening s root)) y (few_handlers v) last.1 last.0
 
     pub remembered : (hs : List ℕ) → RemembersAlong most n s hs (opening s root) (opened p v).center.state
-    remembered hs = subst (RemembersAlong most n s hs (opening s root)) (sym (opened_state s root pure p faultless program fits)) (entries_are_remembered s root faultless well most n hs)
+    remembered hs = subst (RemembersAlong most n s hs (opening s root)) (sym (opened_state s root p program fits)) (entries_are_remembered s root faultless well most n hs)
 
     -- the same where each turn is made in a world that is played anew
     pub stands_anew : KeptAlikeAreAlike → OpeningsAreOf → RunsStayOf → (hs : List ℕ) (y : PlainWorld) → RunsAnew p v hs (opened p v) y →

@@ -45,7 +45,7 @@ make 1, make 1|0 Take 1 Continue, 0 Take 1 Continue; ; open meets";
 
 /// The request to create an object of the first class on handler 0, by the root's procedure.
 fn creation(program: &Program) -> Request {
-    let name = program.root_procedure().min(u32::MAX as usize) as u32;
+    let name = program.root_procedure();
     Request {
         poster: None,
         target: Reference {

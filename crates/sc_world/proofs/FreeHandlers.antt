@@ -1,5 +1,5 @@
 -- Turns keep that each handler serves in the core what its region serves, and what follows of handlers that are free.
-use Rattle.std.proofs.Common.{Bor, option_copied, ◌≡◌, inl, inr, ◌&&◌, not, ℕ, zero, suc, Bool, true, false, List, [], ◌∷◌, Option, Some, None, Result, Ok, Err, IfOk, OnErr, is_none, length, slice_get, slice_set, min, take, refl, sym, ap, subst, ◌∙◌}
+use Rattle.std.proofs.Common.{Bor, option_copied, ◌≡◌, inl, inr, ◌&&◌, not, ℕ, zero, suc, Bool, true, false, List, [], ◌∷◌, Option, Some, None, Result, Ok, Err, IfOk, OnErr, is_none, length, slice_get, slice_set, take, refl, sym, ap, subst, ◌∙◌}
 use Rattle.std.proofs.lemmas.Option.{slice_get_past, slice_get_read}
 use Rattle.std.specs.Slice.{IsGetResult}
 use Rattle.sc_lockpass.specs.declared.version.Version.{Version}
@@ -34,7 +34,7 @@ each_new p h (suc n) (suc k) x e = each_new p (suc h) n k x e
 
 pub openings_are_linked : OpeningsAreLinked
 openings_are_linked p v =
-    linking.openings_are_linked p (most_handlers v) (min p.root_class 255) (min p.root_procedure 4294967295) (new_regions p 0 max_handlers)
+    linking.openings_are_linked p (most_handlers v) p.root_class p.root_procedure (new_regions p 0 max_handlers)
     (λ h x e. each_new p 0 max_handlers h x e)
 
 -- ---- one turn

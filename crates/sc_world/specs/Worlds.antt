@@ -1,5 +1,5 @@
 -- What a world is to its callers, and how it opens.
-use Rattle.std.specs.Prelude.{ℕ, zero, suc, min, List, [], ◌∷◌}
+use Rattle.std.specs.Prelude.{ℕ, zero, suc, List, [], ◌∷◌}
 use Rattle.sc_lockpass.specs.declared.version.Version.{Version}
 use Rattle.sc_lockpass.specs.Versions.{most_handlers}
 use Rattle.sc_code.specs.declared.program.Image.{Image}
@@ -29,10 +29,10 @@ new_regions p h (suc n) = new_region p h ∷ new_regions p (suc h) n
 abbrev pub max_handlers : ℕ
 max_handlers = 512
 
--- A program has at most 256 classes, and fewer names than 2^32.
+-- The first handler is asked to create the root object.
 abbrev pub opened : Image → Version → PlainWorld
 opened p v = record {
   most = most_handlers v;
-  center = core.opened (most_handlers v) (root_of (min p.root_class 255) (min p.root_procedure 4294967295));
+  center = core.opened (most_handlers v) (root_of p.root_class p.root_procedure);
   regions = new_regions p 0 max_handlers;
 }

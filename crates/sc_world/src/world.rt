@@ -297,14 +297,14 @@ impl<'p> World<'p> {
     }
 }
 
-/// The core of a program, which has at most 256 classes.
+/// The core of a program.
 fn open_core(alloc: Global, program: &Program, version: Version) -> Result<Core, AllocError>
     ensures center { IfOk result (λ c. center_of c ≡ (opened program.now.image version).center) }
     ensures version { IfOk result (λ c. c.state.rights.version ≡ version) }
 {
-    let class = program.root_class().min(u8::MAX as usize);
-    let procedure = program.root_procedure().min(u32::MAX as usize);
-    Core::opening(alloc, class as u8, procedure as u32, version)
+    let class = program.root_class();
+    let procedure = program.root_procedure();
+    Core::opening(alloc, class, procedure, version)
 }
 
 /// A region for each handler that there may be.

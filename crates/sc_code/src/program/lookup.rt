@@ -5,6 +5,7 @@ ghost use Rattle.std.specs.Prelude.{◌≡◌, slice_get};
 ghost use Rattle.sc_code.specs.CheckedImages.{IsOfCheckedSystem};
 ghost use Rattle.sc_code.specs.RequestRoom.{FitsRequests};
 
+use crate::numbers::{ClassNumber, NameNumber};
 use crate::program::{ClassCode, ConstantPool, Image, RoutineCode};
 
 /// A checked system in flat code.
@@ -57,14 +58,14 @@ impl Program {
     }
 
     /// The number of the class of the root object.
-    pub fn root_class(&self) -> usize
+    pub fn root_class(&self) -> ClassNumber
         ensures { result ≡ self.now.image.root_class }
     {
         self.image.root_class
     }
 
     /// The number of the name of the procedure that the root object is created by.
-    pub fn root_procedure(&self) -> usize
+    pub fn root_procedure(&self) -> NameNumber
         ensures { result ≡ self.now.image.root_procedure }
     {
         self.image.root_procedure
