@@ -42,21 +42,21 @@ same_some x y e = cc
 
 -- ---- a handler is created
 
-room_of : (c : RemoteCreation) (class : ℕ) (a : PlainActivation) (w : Want) (o : Option (Option ℕ)) →
-    option_and_then (λ p. if may_create c.count a then Some (creation_by c class p a) else None) o ≡ Some w → has_room c.count a ≡ true
-room_of c class a w None e = none_some w _ e
-room_of c class a w (Some p) e =
-    and_right (has_actuals c.count a) (has_room c.count a) (where_some (may_create c.count a) (creation_by c class p a) w e)
+room_of : (c : RemoteCreation) (a : PlainActivation) (w : Want) (o : Option (Option ℕ)) →
+    option_and_then (λ p. if may_create c.count a then Some (creation_by c p a) else None) o ≡ Some w → has_room c.count a ≡ true
+room_of c a w None e = none_some w _ e
+room_of c a w (Some p) e =
+    and_right (has_actuals c.count a) (has_room c.count a) (where_some (may_create c.count a) (creation_by c p a) w e)
 
-room_at : (c : RemoteCreation) (class : ℕ) (w : Want) (o : Option PlainActivation) (a : PlainActivation) → creation_in c class o ≡ Some w → o ≡ Some a → has_room c.count a ≡ true
-room_at c class w None a e k = none_some a _ k
-room_at c class w (Some b) a e k =
-    subst (λ (q : PlainActivation). has_room c.count q ≡ true) (same_some b a k) (room_of c class b w (procedure_number c.procedure) e)
+room_at : (c : RemoteCreation) (w : Want) (o : Option PlainActivation) (a : PlainActivation) → creation_in c o ≡ Some w → o ≡ Some a → has_room c.count a ≡ true
+room_at c w None a e k = none_some a _ k
+room_at c w (Some b) a e k =
+    subst (λ (q : PlainActivation). has_room c.count q ≡ true) (same_some b a k) (room_of c b w (procedure_number c.procedure) e)
 
 -- the reference has room where a creation is asked
-pub creation_room : (c : RemoteCreation) (class : ℕ) (w : Want) (o : Option PlainActivation) → creation_in c class o ≡ Some w → (a : PlainActivation) → o ≡ Some a →
+pub creation_room : (c : RemoteCreation) (w : Want) (o : Option PlainActivation) → creation_in c o ≡ Some w → (a : PlainActivation) → o ≡ Some a →
     has_room c.count a ≡ true
-creation_room c class w o e a k = room_at c class w o a e k
+creation_room c w o e a k = room_at c w o a e k
 
 -- ---- a block begins
 

@@ -11,7 +11,7 @@ use Rattle.sc_acts.specs.Creating.{has_room, with_reference}
 use Rattle.sc_region.specs.Calls.{last_values, on_top, past}
 use Rattle.sc_acts.specs.declared.act.RemoteCreation.{RemoteCreation}
 use Rattle.sc_acts.specs.Requesting.{awaiting_if}
-use Rattle.sc_acts.specs.Operands.{class_number, has_actuals, procedure_number}
+use Rattle.sc_acts.specs.Operands.{has_actuals, procedure_number}
 
 -- ---- the creation
 
@@ -23,20 +23,20 @@ creation_with class procedure n passes = record { class = class; procedure = pro
 abbrev pub may_create : ℕ → PlainActivation → Bool
 may_create n a = has_actuals n a && has_room n a
 
-abbrev pub creation_by : RemoteCreation → ℕ → Option ℕ → PlainActivation → Want
-creation_by c class procedure a =
-    want.Create class procedure (record { items = last_values c.count a.operands.values }) c.passes
+abbrev pub creation_by : RemoteCreation → Option ℕ → PlainActivation → Want
+creation_by c procedure a =
+    want.Create c.class procedure (record { items = last_values c.count a.operands.values }) c.passes
 
--- what the creation of an object of the class asks, where its procedure has a number and its operands are there
-abbrev pub creation_of : RemoteCreation → ℕ → PlainActivation → Option Want
-creation_of c class a =
-    option_and_then (λ procedure. if may_create c.count a then Some (creation_by c class procedure a) else None)
+-- what the creation asks, where its procedure has a number and its operands are there
+abbrev pub creation_of : RemoteCreation → PlainActivation → Option Want
+creation_of c a =
+    option_and_then (λ procedure. if may_create c.count a then Some (creation_by c procedure a) else None)
     (procedure_number c.procedure)
 
 -- the same of the topmost routine
-abbrev pub creation_in : RemoteCreation → ℕ → Option PlainActivation → Option Want
-creation_in c class None = None
-creation_in c class (Some a) = creation_of c class a
+abbrev pub creation_in : RemoteCreation → Option PlainActivation → Option Want
+creation_in c None = None
+creation_in c (Some a) = creation_of c a
 
 -- ---- what it makes of the store
 
@@ -52,13 +52,9 @@ abbrev pub created_as : Option Want → Reference → RemoteCreation → PlainSt
 created_as None r c x = failed cause.BadCode x
 created_as (Some w) r c x = on_top (creating r c) x
 
-abbrev pub created_of : ℕ → RemoteCreation → Option ℕ → PlainStore → PlainStore
-created_of h c None x = failed cause.BadCode x
-created_of h c (Some class) x = created_as (creation_in c class (top_activation x.frames)) (first_object h class) c x
-
 -- A handler is created by the one of this number.
 abbrev pub handler_created : ℕ → RemoteCreation → PlainStore → PlainStore
-handler_created h c x = created_of h c (class_number c.class) x
+handler_created h c x = created_as (creation_in c (top_activation x.frames)) (first_object h c.class) c x
 
 -- ---- what it asks
 
@@ -66,9 +62,5 @@ abbrev pub asks_created : Option Want → Want
 asks_created None = want.Fail cause.BadCode
 asks_created (Some w) = w
 
-abbrev pub asks_of : RemoteCreation → Option ℕ → Option PlainActivation → Want
-asks_of c None o = want.Fail cause.BadCode
-asks_of c (Some class) o = asks_created (creation_in c class o)
-
 abbrev pub asks_creating : RemoteCreation → Option PlainActivation → Want
-asks_creating c o = asks_of c (class_number c.class) o
+asks_creating c o = asks_created (creation_in c o)

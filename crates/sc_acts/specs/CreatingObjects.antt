@@ -8,7 +8,6 @@ use Rattle.sc_region.specs.Frames.{top_activation}
 use Rattle.sc_region.specs.Stores.{PlainStore, failed, max_objects, next_reference}
 use Rattle.sc_acts.specs.Creating.{created, created_by}
 use Rattle.sc_acts.specs.Entering.{asks_beginning}
-use Rattle.sc_acts.specs.Operands.{class_number}
 
 -- the reference to the next object of a handler, or to the last that a number can name
 abbrev pub nearest_reference : ℕ → ℕ → PlainStore → Reference
@@ -24,13 +23,9 @@ abbrev pub created_with : Option ℕ → Reference → ℕ → PlainStore → Pl
 created_with None r n x = created r n x
 created_with (Some name) r n x = created_by_name r name n x
 
-abbrev pub created_of : Option ℕ → ℕ → Option ℕ → ℕ → PlainStore → PlainStore
-created_of None h procedure n x = failed cause.BadCode x
-created_of (Some class) h procedure n x = created_with procedure (next_reference h class x) n x
-
 -- An object of the class is created by the handler of this number, with so many actuals.
 abbrev pub object_created : ℕ → ℕ → Option ℕ → ℕ → PlainStore → PlainStore
-object_created h class procedure n x = created_of (class_number class) h procedure n x
+object_created h class procedure n x = created_with procedure (next_reference h class x) n x
 
 -- what is asked where the store is this one afterwards, unless it fails
 abbrev pub asks_created : Option ℕ → PlainStore → Want

@@ -15,9 +15,6 @@ has_call n a = nat_lt n 17 && nat_lt n (length a.operands.values)
 
 -- ---- numbers
 
-abbrev pub class_number : ℕ → Option ℕ
-class_number n = if nat_lt n 256 then Some n else None
-
 abbrev pub name_number : ℕ → Option ℕ
 name_number n = if nat_lt n 4294967296 then Some n else None
 

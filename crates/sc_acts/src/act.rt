@@ -1,4 +1,5 @@
 //! What visible operations are, with what they name.
+use sc_code::ClassNumber;
 use sc_region::Reference;
 
 /// How a routine of the same handler is called.
@@ -22,7 +23,7 @@ pub struct RemoteCall {
 /// The creation of a handler, with its first object. The actuals are the last operands.
 #[derive(Clone, Copy)]
 pub struct RemoteCreation {
-    pub class: usize,
+    pub class: ClassNumber,
     /// The number of the creation procedure's name, if it has one.
     pub procedure: Option<usize>,
     /// How many actuals there are.
@@ -54,7 +55,7 @@ pub enum Act {
     Request(RemoteCall),
     /// An object of this handler is created, by the procedure of the name or without one.
     Create {
-        class: usize,
+        class: ClassNumber,
         procedure: Option<usize>,
         count: usize,
     },

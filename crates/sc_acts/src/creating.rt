@@ -1,18 +1,16 @@
 //! Creations of objects of this handler.
 ghost use Rattle.std.specs.Prelude.{◌≡◌, ◌<◌, OnOk, OnErr, Some, false, true, length};
 ghost use Rattle.sc_region.specs.Frames.{PlainActivation, activation_of, top_activation};
-ghost use Rattle.sc_region.specs.Stores.{made_for, next_reference};
+ghost use Rattle.sc_region.specs.Stores.{made_for};
 ghost use Rattle.sc_region.specs.declared.job.Want.TheVariants as want;
 ghost use Rattle.sc_acts.specs.Creating.{created, created_by, given, has_room_in, with_reference, without_last};
-ghost use Rattle.sc_acts.specs.CreatingObjects.{asks_created, created_by_name, created_with, nearest_reference, object_created};
+ghost use Rattle.sc_acts.specs.CreatingObjects.{asks_created, created_by_name, nearest_reference, object_created};
 ghost use Rattle.sc_region.specs.Calls.{in_call, on_top};
 ghost use Rattle.sc_acts.specs.Entering.{Calls, asks_beginning};
 ghost use Rattle.sc_acts.specs.Turning.{unless_failed};
 
 use crate::beginning::ask_beginning;
 use crate::caller::{Caller, look, no_caller, resume, suspend};
-use crate::numbers::class_number;
-use crate::stages::misfit;
 use crate::steps::{pass, unless_failed};
 use crate::versions::routine_of;
 use sc_code::ClassNumber;
@@ -182,7 +180,7 @@ fn create_by(
     Ok(())
 }
 
-// ---- of the class of a number
+// ---- of a class
 
 /// The reference to the next object of this handler; where no number can say which it is, to the last that one can.
 fn next_reference(store: &Store<'_>, handler: HandlerNumber, class: ClassNumber) -> Reference
@@ -220,36 +218,12 @@ fn create_by_name(
     }
 }
 
-/// An object of the class is created, by its procedure of the name or without one. Err where there is no memory; nothing
-/// has changed then.
-fn create_by_number(
-    store: &mut Store<'_>,
-    handler: HandlerNumber,
-    class: ClassNumber,
-    procedure: Option<usize>,
-    count: usize,
-    asked: &mut Want,
-) -> Result<(), AllocError>
-    requires { asked.old ≡ want.Continue }
-    ensures ok { OnOk result (store.new ≡ created_with procedure (next_reference handler class store.old) count store.old) }
-    ensures want { OnOk result (asked.new ≡ unless_failed store.new.failure (asks_created procedure store.new)) }
-    ensures err { OnErr result (store.new ≡ store.old) }
-    ensures kept { OnErr result (asked.new ≡ asked.old) }
-{
-    let object = next_reference(store, handler, class);
-    match procedure {
-        None => create(store, object, count, asked),
-        Some(name) => create_by_name(store, object, name, count, asked),
-    }
-}
-
 /// An object of the class is created, by its procedure of the name or without one, with the last operands, so many, as
-/// actuals: F16 where the class has no number, and F1, F10, F11 and F16 as in `create` and `create_by`. Err where there is
-/// no memory; nothing has changed then.
+/// actuals: F1, F10, F11 and F16 as in `create` and `create_by`. Err where there is no memory; nothing has changed then.
 pub fn create_object(
     store: &mut Store<'_>,
     handler: HandlerNumber,
-    class: usize,
+    class: ClassNumber,
     procedure: Option<usize>,
     count: usize,
     asked: &mut Want,
@@ -260,11 +234,9 @@ pub fn create_object(
     ensures err { OnErr result (store.new ≡ store.old) }
     ensures kept { OnErr result (asked.new ≡ asked.old) }
 {
-    match class_number(class) {
-        Some(class) => create_by_number(store, handler, class, procedure, count, asked),
-        None => {
-            misfit(store, asked);
-            Ok(())
-        }
+    let object = next_reference(store, handler, class);
+    match procedure {
+        None => create(store, object, count, asked),
+        Some(name) => create_by_name(store, object, name, count, asked),
     }
 }

@@ -6,11 +6,10 @@ ghost use Rattle.sc_region.specs.Calls.{on_top};
 ghost use Rattle.sc_acts.specs.CreatingHandlers.{asks_creating, creating, creation_in, creation_of, handler_created, may_create};
 
 use crate::act::RemoteCreation;
-use crate::numbers::{class_number, procedure_number};
+use crate::numbers::procedure_number;
 use crate::operands::{has_actuals, last_values};
 use crate::stages::{await_if, misfit};
 use crate::steps::go_past;
-use sc_code::ClassNumber;
 use sc_lockpass::HandlerNumber;
 use sc_region::{Activation, Reference, Store, Value, Want};
 
@@ -21,20 +20,16 @@ fn may_create(activation: &Activation, count: usize) -> bool
     has_actuals(activation, count) && activation.operands.has_room_under(count)
 }
 
-/// What the creation of an object of the class asks, where its procedure has a number and its operands are there.
-fn creation_of(
-    activation: &Activation,
-    class: ClassNumber,
-    creation: RemoteCreation,
-) -> Option<Want>
-    ensures { result ≡ creation_of creation class (activation_of activation.now) }
+/// What the creation asks, where its procedure has a number and its operands are there.
+fn creation_of(activation: &Activation, creation: RemoteCreation) -> Option<Want>
+    ensures { result ≡ creation_of creation (activation_of activation.now) }
 {
     let procedure = procedure_number(creation.procedure)?;
     if !may_create(activation, creation.count) {
         return None;
     }
     Some(Want::Create {
-        class,
+        class: creation.class,
         procedure,
         actuals: last_values(activation, creation.count),
         passes: creation.passes,
@@ -42,11 +37,11 @@ fn creation_of(
 }
 
 /// The same of the topmost routine.
-fn creation_in(store: &Store<'_>, class: ClassNumber, creation: RemoteCreation) -> Option<Want>
-    ensures { result ≡ creation_in creation class (top_activation store.now.frames) }
+fn creation_in(store: &Store<'_>, creation: RemoteCreation) -> Option<Want>
+    ensures { result ≡ creation_in creation (top_activation store.now.frames) }
 {
     match store.top() {
-        Some(activation) => creation_of(activation, class, creation),
+        Some(activation) => creation_of(activation, creation),
         None => None,
     }
 }
@@ -73,9 +68,9 @@ fn begin(store: &mut Store<'_>, first: Reference, creation: RemoteCreation)
 }
 
 /// A handler is created by this one, with an object of the class, by the procedure of the name or without one: F16 where
-/// there are fewer operands than the creation takes, or more than a request has room for, or where the class or the name
-/// has no number there. The creator goes on with a reference to the object, which has the creator's number until that of
-/// the new handler is told; with lock passing it waits for the answer.
+/// there are fewer operands than the creation takes, or more than a request has room for, or where the name has no number
+/// there. The creator goes on with a reference to the object, which has the creator's number until that of the new handler
+/// is told; with lock passing it waits for the answer.
 ///
 /// It stays a call, as `request` does.
 #[inline(never)]
@@ -88,18 +83,14 @@ pub fn create_handler(
     ensures store { store.new ≡ handler_created handler creation store.old }
     ensures want { asked.new ≡ asks_creating creation (top_activation store.old.frames) }
 {
-    let Some(class) = class_number(creation.class) else {
-        misfit(store, asked);
-        return;
-    };
-    let Some(want) = creation_in(store, class, creation) else {
+    let Some(want) = creation_in(store, creation) else {
         misfit(store, asked);
         return;
     };
     let first = Reference {
         handler,
         number: 1,
-        class,
+        class: creation.class,
     };
     begin(store, first, creation);
     *asked = want;

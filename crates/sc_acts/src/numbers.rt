@@ -1,19 +1,8 @@
-//! Numbers of classes and names, as what is asked has room for them.
+//! Numbers of names, as what is asked has room for them.
 ghost use Rattle.std.specs.Prelude.{◌≡◌};
-ghost use Rattle.sc_acts.specs.Operands.{class_number, name_number, procedure_number};
+ghost use Rattle.sc_acts.specs.Operands.{name_number, procedure_number};
 
-use sc_code::{ClassNumber, NameNumber};
-
-/// The number of a class, where there is room for it.
-pub fn class_number(class: usize) -> Option<ClassNumber>
-    ensures { result ≡ class_number class }
-{
-    if class < 256 {
-        Some(class as ClassNumber)
-    } else {
-        None
-    }
-}
+use sc_code::NameNumber;
 
 /// The number of a name, where there is room for it.
 pub fn name_number(name: usize) -> Option<NameNumber>

@@ -1,5 +1,6 @@
 //! What operations name that has no room in them.
 
+use crate::numbers::ClassNumber;
 use sc_class::ClassId;
 
 /// A call.
@@ -21,7 +22,7 @@ pub struct CallSite {
 #[derive(Clone, Copy)]
 pub struct CreationSite {
     /// The number of the class.
-    pub class: usize,
+    pub class: ClassNumber,
     /// The number of the creation procedure's name, if it has one.
     pub procedure: Option<usize>,
     /// How many actuals it has.

@@ -11,7 +11,7 @@ ghost use Rattle.sc_routines.specs.Unlinked.{operation_in, unlinked, unlinked_ca
 
 use crate::link_pools::add;
 use crate::link_tables::Linker;
-use sc_code::{CallSite, CreationSite, Heads, ObjectTest, Operation, TestedType};
+use sc_code::{CallSite, ClassNumber, CreationSite, Heads, ObjectTest, Operation, TestedType};
 use sc_routines::{SitedOperation, UnlinkedCall, UnlinkedCreation, UnlinkedOperation};
 use std::alloc::AllocError;
 
@@ -81,7 +81,7 @@ fn creation<'s>(
 {
     let procedure = procedure(linker, creation.procedure)?;
     let site = CreationSite {
-        class: creation.class,
+        class: creation.class as ClassNumber,
         procedure,
         count: creation.count,
         passes: creation.passes,

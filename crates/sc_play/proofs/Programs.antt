@@ -42,7 +42,6 @@ use Rattle.sc_play.specs.Answering.{granted_in, replied_in, runs, top_stage}
 use Rattle.sc_acts.specs.Blocks.{heads_in, innermost_in, left_with, opened_with}
 use Rattle.sc_acts.specs.CreatingHandlers as handlers
 use Rattle.sc_acts.specs.CreatingObjects as objects
-use Rattle.sc_acts.specs.Operands.{class_number}
 use Rattle.sc_acts.specs.Requesting.{request_in, sent}
 use Rattle.sc_play.specs.Taking.{answered, attribute_at, born_by, taken_call, taken_creation, taken_errand, taken_on, taken_version}
 use Rattle.sc_play.specs.Turns.{Becomes, GoesOn, TurnIn, TurnMade, TurnOf, TurnUnder, Turns, begun, done, first, more, told_unless}
@@ -122,10 +121,6 @@ created_with_keeps (Some name) r n x =
     kept_if x.program (nat_lt (length x.objects) max_objects) (created_at r name n (top_activation x.frames) x) (failed cause.TooManyObjects x)
     (created_at_keeps r name n (top_activation x.frames) x) refl
 
-created_of_keeps : (o : Option ℕ) (h : ℕ) (procedure : Option ℕ) (n : ℕ) (x : PlainStore) → (objects.created_of o h procedure n x).program ≡ x.program
-created_of_keeps None h procedure n x = refl
-created_of_keeps (Some class) h procedure n x = created_with_keeps procedure (next_reference h class x) n x
-
 refused_as_keeps : (o : Origin) (me : Reference) (x : PlainStore) → (refused_as o me x).program ≡ x.program
 refused_as_keeps origin.Unqualified me x = refl
 refused_as_keeps origin.Qualified me x = refl
@@ -162,10 +157,6 @@ created_as_keeps : (o : Option Want) (r : Reference) (c : RemoteCreation) (x : P
 created_as_keeps None r c x = refl
 created_as_keeps (Some w) r c x = refl
 
-handler_created_keeps : (h : ℕ) (c : RemoteCreation) (o : Option ℕ) (x : PlainStore) → (handlers.created_of h c o x).program ≡ x.program
-handler_created_keeps h c None x = refl
-handler_created_keeps h c (Some class) x = created_as_keeps (handlers.creation_in c class (top_activation x.frames)) (handlers.first_object h class) c x
-
 opened_keeps : (k : ℕ) (o : Option (List Value)) (x : PlainStore) → (opened_with k o x).program ≡ x.program
 opened_keeps k None x = refl
 opened_keeps k (Some us) x = refl
@@ -181,8 +172,8 @@ acted_keeps h (act.PrintText k) x = refl
 acted_keeps h (act.Until back) x = refl
 acted_keeps h (act.Enter calling me name n gives) x = called_at_keeps calling me name n gives (top_activation x.frames) x
 acted_keeps h (act.Request c) x = sent_keeps (request_in h c (top_activation x.frames)) c x
-acted_keeps h (act.Create class procedure n) x = created_of_keeps (class_number class) h procedure n x
-acted_keeps h (act.CreateHandler c) x = handler_created_keeps h c (class_number c.class) x
+acted_keeps h (act.Create class procedure n) x = created_with_keeps procedure (next_reference h class x) n x
+acted_keeps h (act.CreateHandler c) x = created_as_keeps (handlers.creation_in c (top_activation x.frames)) (handlers.first_object h c.class) c x
 acted_keeps h act.Start x = refl
 acted_keeps h (act.Refuse k) x = refused_at_keeps (formals_at x.program k) (top_current x.frames) (top_activation x.frames) x
 acted_keeps h (act.Open k n) x = opened_keeps k (heads_in k n (top_activation x.frames)) x

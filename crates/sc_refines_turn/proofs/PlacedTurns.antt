@@ -84,7 +84,7 @@ use Rattle.sc_refines_turn.proofs.Quiet.{exits_here}
 use Rattle.sc_refines_turn.proofs.Refusals.{refusal}
 use Rattle.sc_refines_turn.proofs.ValueRoom.{answers_have_room}
 use Rattle.sc_refines_turn.proofs.ShownSteps.{creates_is, exits_is, fails_is}
-use Rattle.sc_refines_turn.proofs.ToldOperations.{call_there, class_fits, creation_there, enter_there, few_actuals, heads_there, name_fits, name_there, numbered, operands_there, procedure_fits, procedure_numbered, procedure_there, ready_in, small_creation}
+use Rattle.sc_refines_turn.proofs.ToldOperations.{call_there, creation_there, enter_there, few_actuals, heads_there, name_fits, name_there, numbered, operands_there, procedure_fits, procedure_numbered, procedure_there, ready_in, small_creation}
 
 -- ---- objects
 
@@ -329,11 +329,9 @@ module _ (serve : ProgramsServe) (h : ℕ) (y : PlainStore) (sound : IsSound y) 
 
     may_create_alone : IsTold alone b → MayAct h (act.Create class None n) b
     may_create_alone told_so =
-        let a = ready_in b.program (act.Create class None n) (top_activation b.frames) told_so in
-        let small = small_creation b.program class None n (program_there alone b comes) a.2.named in
         let few = no_fewer (nat_lt (length os) max_objects) (meets_invariant s (fresh_object s class)) (nat_lt (length behind.values) (run_of s met.frame.routine).code.depth) met.does in
         let count = length-map b.objects (object_in s) in
-        (class_fits class small.1, record { lives = lives_there alone b comes; handler = runs_on alone b comes; unborn = unborn_there alone b comes (omega (arith, few, count)) })
+        record { lives = lives_there alone b comes; handler = runs_on alone b comes; unborn = unborn_there alone b comes (omega (arith, few, count)) }
 
   module _ (class k n : ℕ) (b : PlainStore) (comes : Comes (hop.Comes (act.Create class (Some k) n)) y b) where
     abbrev creation : Hop
@@ -413,7 +411,7 @@ module _ (serve : ProgramsServe) (h : ℕ) (y : PlainStore) (sound : IsSound y) 
         let small = small_creation b.program class (Some k) n (program_there creation b comes) a.2.named in
         let has : Has n (top_activation b.frames) = subst (λ o. Has n o) (sym a.1) (let l = small.0 in operands_there n a.0 (omega (arith, l)) a.2.operands) in
         let room = has_room_there (nat_lt (length there) max_objects) (nat_lt (length after.values) code.depth) refl made.does in
-        (class_fits class small.1, (name_at b.program k, procedure_there b.program class (Some k) n a.2.named), has, sym room_same ∙ room, routine_there a.2.named, runs_on creation b comes)
+        ((name_at b.program k, procedure_there b.program class (Some k) n a.2.named), has, sym room_same ∙ room, routine_there a.2.named, runs_on creation b comes)
 
   -- Whatever operation comes, it may be done.
   may_act : (a : Act) (b : PlainStore) → Comes (hop.Comes a) y b → IsTold (hop.Comes a) b → MayAct h a b
@@ -446,8 +444,7 @@ module _ (serve : ProgramsServe) (h : ℕ) (y : PlainStore) (sound : IsSound y) 
       let small = small_creation b.program class k n requests q.2.named in
       let name = procedure_there b.program class k n q.2.named in (
         procedure_numbered b k requests name,
-        subst (λ o. MayCreate class k n o) (sym q.1)
-            (class_fits class small.1, procedure_fits b.program k requests name, creation_there n q.0 small.0 q.2.operands (q.2.room refl)),
+        subst (λ o. MayCreate k n o) (sym q.1) (procedure_fits b.program k requests name, creation_there n q.0 small.0 q.2.operands (q.2.room refl)),
       )
   may_act (act.Open first n) b comes told_so =
       let a = act.Open first n in

@@ -45,7 +45,6 @@ use Rattle.sc_acts.specs.Blocks.{closing, heads_in, innermost_in, left_with, ope
 use Rattle.sc_acts.specs.CreatingHandlers as handlers
 use Rattle.sc_acts.specs.CreatingHandlers.{created_as, creation_in, creation_with}
 use Rattle.sc_acts.specs.CreatingObjects as objects
-use Rattle.sc_acts.specs.Operands.{class_number}
 use Rattle.sc_acts.specs.Requesting as requesting
 use Rattle.sc_acts.specs.Requesting.{awaiting_if, call_of, request_in, sent}
 use Rattle.sc_play.specs.Taking as taking
@@ -151,10 +150,9 @@ created_by_free r k n z (Some a) free =
     (made_if_free (routine_in (version_in z.program r.class k)) r (last_values n a.operands.values) (on_top (with_reference r) (on_top (in_call n false) z))
     (top_free (with_reference r) (λ a h. h) (top_frame (in_call n false) z.frames) (top_free (in_call n false) (λ a h. tt) z.frames free))) tt
 
-created_free : (h : ℕ) (class : Option ℕ) (k : Option ℕ) (n : ℕ) (z : PlainStore) → CreateForNothing z.frames → CreateForNothing (objects.created_of class h k n z).frames
-created_free h None k n z free = tt
-created_free h (Some class) None n z free = given_free n (next_reference h class z) (made class z) (made_free class z free)
-created_free h (Some class) (Some k) n z free =
+created_free : (h class : ℕ) (k : Option ℕ) (n : ℕ) (z : PlainStore) → CreateForNothing z.frames → CreateForNothing (objects.object_created h class k n z).frames
+created_free h class None n z free = given_free n (next_reference h class z) (made class z) (made_free class z free)
+created_free h class (Some k) n z free =
     either_free (nat_lt (length z.objects) max_objects) (created_at (next_reference h class z) k n (top_activation z.frames) z) (failed cause.TooManyObjects z)
     (created_by_free (next_reference h class z) k n z (top_activation z.frames) free) tt
 
@@ -164,11 +162,10 @@ created_as_free None r class k n passes z free = tt
 created_as_free (Some w) r class k n passes z free =
     top_free (handlers.creating r (creation_with class k n passes)) (λ a h. awaiting_free passes r.handler false true (with_reference r (past n a)) h refl) z.frames free
 
-handler_free : (h class : ℕ) (k : Option ℕ) (n : ℕ) (passes : Bool) (q : Option ℕ) (z : PlainStore) → CreateForNothing z.frames →
-    CreateForNothing (handlers.created_of h (creation_with class k n passes) q z).frames
-handler_free h class k n passes None z free = tt
-handler_free h class k n passes (Some j) z free =
-    created_as_free (creation_in (creation_with class k n passes) j (top_activation z.frames)) (handlers.first_object h j) class k n passes z free
+handler_free : (h class : ℕ) (k : Option ℕ) (n : ℕ) (passes : Bool) (z : PlainStore) → CreateForNothing z.frames →
+    CreateForNothing (handlers.handler_created h (creation_with class k n passes) z).frames
+handler_free h class k n passes z free =
+    created_as_free (creation_in (creation_with class k n passes) (top_activation z.frames)) (handlers.first_object h class) class k n passes z free
 
 -- ---- ends
 
@@ -241,8 +238,8 @@ acted_free h (act.Until n) z free = round_free n z.frames free
 acted_free h (act.Enter c r k n gives) z free = called_free c r k n gives z (top_activation z.frames) free
 acted_free h (act.Request q) z free =
     sent_free (request_in h q (top_activation z.frames)) q.object q.name q.count q.gives q.passes z free
-acted_free h (act.Create class k n) z free = created_free h (class_number class) k n z free
-acted_free h (act.CreateHandler q) z free = handler_free h q.class q.procedure q.count q.passes (class_number q.class) z free
+acted_free h (act.Create class k n) z free = created_free h class k n z free
+acted_free h (act.CreateHandler q) z free = handler_free h q.class q.procedure q.count q.passes z free
 acted_free h act.Start z free = top_free (past 0) (λ a h. h) z.frames free
 acted_free h (act.Refuse k) z free = refused_free (formals_at z.program k) (top_current z.frames) (top_activation z.frames) z free
 acted_free h (act.Open k n) z free = opened_free k (heads_in k n (top_activation z.frames)) z free

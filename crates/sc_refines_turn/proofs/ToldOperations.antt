@@ -33,8 +33,7 @@ use Rattle.sc_acts.specs.Blocks.{heads_in, may_open, opened_with}
 use Rattle.sc_acts.specs.CreatingHandlers as creating
 use Rattle.sc_acts.specs.CreatingHandlers.{created_as, creation_by, creation_in, creation_of, creation_with, may_create}
 use Rattle.sc_acts.specs.CreatingObjects.{created_with}
-use Rattle.sc_acts.specs.CreatingObjects as objects
-use Rattle.sc_acts.specs.Operands.{class_number, has_actuals, has_call, name_number, procedure_number}
+use Rattle.sc_acts.specs.Operands.{has_actuals, has_call, name_number, procedure_number}
 use Rattle.sc_acts.specs.Requesting as requesting
 use Rattle.sc_acts.specs.Requesting.{call_of, request_by, request_in, request_of, sent}
 use Rattle.sc_refines_turn.specs.Acting as acting
@@ -140,9 +139,6 @@ pub procedure_fits : (p : Image) (x : Option ℕ) → FitsRequests p → HasProc
 procedure_fits p None fits e = refl
 procedure_fits p (Some x) fits e = ap (λ o. option_map (λ (k : ℕ). Some k) o) (name_fits p x fits e)
 
-pub class_fits : (class : ℕ) → class < 256 → class_number class ≡ Some class
-class_fits class l = ap (λ b. if b then Some class else None) (less_is class 256 l)
-
 pub numbered : (z : PlainStore) (x : ℕ) → FitsRequests z.program → HasName z.program x → IsNumbered z x
 numbered z x fits e = distinct_names_have_numbers (names_of z) x (name_at z.program x) fits.distinct e
 
@@ -189,21 +185,20 @@ module _ (serve : ProgramsServe) where
       let c = creation_with class k n passes in
       let small = small_creation z.program class k n t.fits b.2.named in
       let name = procedure_there z.program class k n b.2.named in
-      let class_there = class_fits class small.1 in
       let fits = procedure_fits z.program k t.fits name in
       let there = creation_there n a small.0 b.2.operands (b.2.room refl) in
-      let asked : creation_in c class (top_activation z.frames) ≡ Some (creation_by c class k a) =
-      ap (creation_in c class) b.1
-      ∙ ap (λ q. option_and_then (λ procedure. if may_create n a then Some (creation_by c class procedure a) else None) q) fits
-      ∙ ap (λ b. if b then Some (creation_by c class k a) else None) there in
+      let asked : creation_in c (top_activation z.frames) ≡ Some (creation_by c k a) =
+      ap (creation_in c) b.1
+      ∙ ap (λ q. option_and_then (λ procedure. if may_create n a then Some (creation_by c procedure a) else None) q) fits
+      ∙ ap (λ b. if b then Some (creation_by c k a) else None) there in
       let made : on_top (acting.creating h class n passes) z ≡ acted h o z =
       top_same (acting.creating h class n passes) (creating.creating (creating.first_object h class) c) (λ a. await_same passes h false true (with_reference (acting.first_object h class) (past n a))) z
-      ∙ sym (ap (λ q. creating.created_of h c q z) class_there ∙ ap (λ q. created_as q (creating.first_object h class) c z) asked) in
+      ∙ sym (ap (λ q. created_as q (creating.first_object h class) c z) asked) in
       let turns : Turns h o y z = λ s x is region. subst (λ w. IsRegionOf s (turn s h x) w) made (handlers_are_created serve h class k n passes y z t.comes s x is region) in (
         turns,
         λ s x is region.
             creations_ask serve h class k n passes y z (acted h o z) t.comes (procedure_numbered z k t.fits name)
-            (subst (λ o. MayCreate class k n o) (sym b.1) (class_there, fits, there)) s x is region (turns s x is region),
+            (subst (λ o. MayCreate k n o) (sym b.1) (fits, there)) s x is region (turns s x is region),
       )
 
   pub told_blocks_begin : ToldBlocksBegin
@@ -220,11 +215,7 @@ module _ (serve : ProgramsServe) where
       subst (λ w. IsRegionOf s (turn s h x) w) (here ∙ sym (ap (λ q. opened_with first q z) opens)) (blocks_begin serve first n y z t.comes s h x is region)
 
   pub told_objects_are_created : ToldObjectsAreCreated
-  told_objects_are_created h class n y z t creator s x is region =
-      let b = ready_in z.program (act.Create class None n) (top_activation z.frames) t.told in
-      let small = small_creation z.program class None n t.fits b.2.named in
-      subst (λ w. IsRegionOf s (turn s h x) w) (sym (ap (λ q. objects.created_of q h None n z) (class_fits class small.1)))
-      (objects_are_created serve h class n y z t.comes creator s h x is region)
+  told_objects_are_created h class n y z t creator s x is region = objects_are_created serve h class n y z t.comes creator s h x is region
 
   pub told_objects_are_created_by : ToldObjectsAreCreatedBy
   told_objects_are_created_by h class k n routine y z t own room found s x is region =
@@ -232,5 +223,4 @@ module _ (serve : ProgramsServe) where
       let small = small_creation z.program class (Some k) n t.fits b.2.named in
       let name = procedure_there z.program class (Some k) n b.2.named in
       let has : Has n (top_activation z.frames) = subst (λ o. Has n o) (sym b.1) (let l = small.0 in operands_there n b.0 (omega (arith, l)) b.2.operands) in
-      subst (λ w. IsRegionOf s (turn s h x) w) (sym (ap (λ q. objects.created_of q h (Some k) n z) (class_fits class small.1)))
-      (objects_are_created_by_name serve h class k n (name_at z.program k) y z t.comes own name has room (λ few. (routine, found)) s h x is region)
+      objects_are_created_by_name serve h class k n (name_at z.program k) y z t.comes own name has room (λ few. (routine, found)) s h x is region

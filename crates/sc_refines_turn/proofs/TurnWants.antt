@@ -53,9 +53,9 @@ use Rattle.sc_acts.specs.Turning.{unless_failed}
 use Rattle.sc_interp.specs.Values.{reference_of, value_of, values_of}
 use Rattle.sc_acts.proofs.Options.{some_same}
 use Rattle.sc_acts.specs.Blocks.{asks_leaving, asks_left, innermost}
-use Rattle.sc_acts.specs.CreatingHandlers.{asks_creating, asks_of, creation_by, creation_in, creation_with, may_create}
+use Rattle.sc_acts.specs.CreatingHandlers.{asks_creating, creation_by, creation_in, creation_with, may_create}
 use Rattle.sc_acts.specs.CreatingHandlers as creating
-use Rattle.sc_acts.specs.Operands.{class_number, has_call, name_number, procedure_number}
+use Rattle.sc_acts.specs.Operands.{has_call, name_number, procedure_number}
 use Rattle.sc_acts.specs.Requesting.{asks_requesting, asks_sending, call_of, request_by, request_of}
 use Rattle.sc_refines_turn.specs.Acting.{AreWhole, Comes, Meets}
 use Rattle.sc_refines_turn.specs.Wanting.{BlockEndsAsk, CreationsAsk, DistinctNamesHaveNumbers, IsNumbered, IsProcedure, MayCreate, MayRequest, RefusalsAsk, RequestsAsk, RoutineEndsAsk}
@@ -300,14 +300,13 @@ module _ (serve : ProgramsServe) where
       ap (option_map (λ t. number_among t (names_of y))) seen.procedure_is ∙ procedure_in k y z comes.remains.program numbered in
       let vs : map asked.value_of (values.values_of seen.actuals) ≡ last_values n a.operands.values =
       ap (map asked.value_of) (seen.actuals_are ∙ sym (values_taken n [] a.operands.values)) ∙ values_back (last_values n a.operands.values) in
-      let may_here = subst (λ fs. MayCreate class k n (top_activation fs)) m.frames may in
+      let may_here = subst (λ fs. MayCreate k n (top_activation fs)) m.frames may in
       let c = creation_with class k n passes in
       let v = want.Create class (option_map (λ t. number_among t (names_of y)) seen.procedure) (record { items = map asked.value_of (values.values_of seen.actuals) }) passes in
       let asks : v ≡ asks_creating c (Some a) =
       ap (λ j. want.Create class j (record { items = map asked.value_of (values.values_of seen.actuals) }) passes) number
       ∙ ap (λ us. want.Create class k (record { items = us }) passes) vs
-      ∙ sym (ap (λ q. asks_of c q (Some a)) may_here.0
-      ∙ ap (λ q. creating.asks_created (option_and_then (λ procedure. if may_create n a then Some (creation_by c class procedure a) else None) q)) may_here.1
-      ∙ ap (λ b. creating.asks_created (if b then Some (creation_by c class k a) else None)) may_here.2) in
+      ∙ sym (ap (λ q. creating.asks_created (option_and_then (λ procedure. if may_create n a then Some (creation_by c procedure a) else None) q)) may_here.0
+      ∙ ap (λ b. creating.asks_created (if b then Some (creation_by c k a) else None)) may_here.1) in
       told_by names s h x w v left_so (asked_is s x o y z m names h (model.CreatesHandler class seen.procedure seen.actuals seen.type passes) seen.act)
       ∙ ap (unless_failed w.failure) (asks ∙ sym (ap (λ fs. asks_creating c (top_activation fs)) m.frames))

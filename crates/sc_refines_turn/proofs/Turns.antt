@@ -41,8 +41,7 @@ use Rattle.sc_acts.specs.Blocks as blocks
 use Rattle.sc_acts.specs.Blocks.{block_left, heads_in, innermost, innermost_in, left_with, opened_with}
 use Rattle.sc_acts.specs.CreatingHandlers as creating_handlers
 use Rattle.sc_acts.specs.CreatingHandlers.{creation_by, creation_with, handler_created, may_create}
-use Rattle.sc_acts.specs.CreatingObjects as creating_objects
-use Rattle.sc_acts.specs.Operands.{class_number, has_call}
+use Rattle.sc_acts.specs.Operands.{has_call}
 use Rattle.sc_acts.specs.Requesting as requesting
 use Rattle.sc_acts.specs.Requesting.{call_of, request_by, requested, sent}
 use Rattle.sc_play.specs.Taking as taking
@@ -101,28 +100,23 @@ requested_is h r k n gives passes z may = by_waits (passes || gives) ∙ by (top
         sym (ap (λ q. sent (option_and_then (λ name. if has_call n a then Some (request_by h c name a) else None) q) c z) may.0
         ∙ ap (λ b. sent (if b then Some (request_by h c k a) else None) c z) may.1)
 
-handler_created_is : (h class : ℕ) (k : Option ℕ) (n : ℕ) (passes : Bool) (z : PlainStore) → MayCreate class k n (top_activation z.frames) →
+handler_created_is : (h class : ℕ) (k : Option ℕ) (n : ℕ) (passes : Bool) (z : PlainStore) → MayCreate k n (top_activation z.frames) →
     on_top (creating h class n passes) z ≡ handler_created h (creation_with class k n passes) z
 handler_created_is h class k n passes z may = by_waits passes ∙ by (top_activation z.frames) may
-    ∙ sym (ap (λ q. creating_handlers.created_of h (creation_with class k n passes) q z) (class_is (top_activation z.frames) may))
   where
     by_waits : (b : Bool) → on_top (λ a. acting.awaiting_if b h false true (with_reference (acting.first_object h class) (past n a))) z
         ≡ on_top (λ a. requesting.awaiting_if b h false true (with_reference (acting.first_object h class) (past n a))) z
     by_waits true = refl
     by_waits false = refl
 
-    class_is : (o : Option PlainActivation) → MayCreate class k n o → class_number class ≡ Some class
-    class_is None may = absurd may
-    class_is (Some a) may = may.0
-
-    by : (o : Option PlainActivation) → MayCreate class k n o →
+    by : (o : Option PlainActivation) → MayCreate k n o →
         on_top (creating_handlers.creating (acting.first_object h class) (creation_with class k n passes)) z
-        ≡ creating_handlers.created_as (creating_handlers.creation_in (creation_with class k n passes) class o) (acting.first_object h class) (creation_with class k n passes) z
+        ≡ creating_handlers.created_as (creating_handlers.creation_in (creation_with class k n passes) o) (acting.first_object h class) (creation_with class k n passes) z
     by None may = absurd may
     by (Some a) may =
         let c = creation_with class k n passes in
-        sym (ap (λ q. creating_handlers.created_as (option_and_then (λ procedure. if may_create n a then Some (creation_by c class procedure a) else None) q) (acting.first_object h class) c z) may.1
-        ∙ ap (λ b. creating_handlers.created_as (if b then Some (creation_by c class k a) else None) (acting.first_object h class) c z) may.2)
+        sym (ap (λ q. creating_handlers.created_as (option_and_then (λ procedure. if may_create n a then Some (creation_by c procedure a) else None) q) (acting.first_object h class) c z) may.0
+        ∙ ap (λ b. creating_handlers.created_as (if b then Some (creation_by c k a) else None) (acting.first_object h class) c z) may.1)
 
 written_is : (k : ℕ) (us vs : List Value) → acting.written k us vs ≡ blocks.written k us vs
 written_is k [] vs = refl
@@ -173,12 +167,11 @@ module _ (serve : ProgramsServe) (h : ℕ) (y : PlainStore) (s : System) (x : Ha
         (acted h (act.Create class k n) b).program ≡ y.program → DoesSo (act.Create class k n)
     creates class None n comes may program =
         let a = act.Create class None n in
-        as_store a _ (sym (ap (λ q. creating_objects.created_of q h None n b) may.0)) (objects_are_created serve h class n y b comes may.1 s h x is region)
+        as_store a _ refl (objects_are_created serve h class n y b comes may s h x is region)
         (object_creations_ask serve h class None n y b (acted h a b) comes program s x is region)
     creates class (Some k) n comes may program =
         let a = act.Create class (Some k) n in
-        as_store a _ (sym (ap (λ q. creating_objects.created_of q h (Some k) n b) may.0))
-        (objects_are_created_by_name serve h class k n may.1.0 y b comes may.5 may.1.1 may.2 may.3 may.4 s h x is region)
+        as_store a _ refl (objects_are_created_by_name serve h class k n may.0.0 y b comes may.4 may.0.1 may.1 may.2 may.3 s h x is region)
         (object_creations_ask serve h class (Some k) n y b (acted h a b) comes program s x is region)
 
     refuses : (k : ℕ) → Comes (hop.Comes (act.Refuse k)) y b → AreWhole b → DoesSo (act.Refuse k)

@@ -39,7 +39,6 @@ use Rattle.sc_acts.specs.CreatingHandlers as handlers
 use Rattle.sc_acts.specs.CreatingHandlers.{created_as, creation_in, creation_with}
 use Rattle.sc_acts.specs.CreatingObjects as objects
 use Rattle.sc_acts.specs.CreatingObjects.{created_with}
-use Rattle.sc_acts.specs.Operands.{class_number}
 use Rattle.sc_acts.specs.Requesting as requesting
 use Rattle.sc_acts.specs.Requesting.{awaiting_if, call_of, request_in, sent}
 use Rattle.sc_refines_turn.specs.Acting.{TakesResult, TopRuns}
@@ -212,10 +211,9 @@ created_by_room r k n z (Some a) room = by (has_room n a && has_operands n a)
         made_if_room (routine_in (version_in z.program r.class k)) r (last_values n a.operands.values) (on_top (with_reference r) (on_top (in_call n false) z)) (caller_room r n z.frames room)
     by false = tt
 
-created_room : (h : ℕ) (class : Option ℕ) (k : Option ℕ) (n : ℕ) (z : PlainStore) → RunsWithRoom z.frames → HaveRoom (objects.created_of class h k n z).frames
-created_room h None k n z kept = tt
-created_room h (Some class) None n z kept = given_room n (next_reference h class z) (made class z) (made_keeps class z kept)
-created_room h (Some class) (Some k) n z kept = by (nat_lt (length z.objects) max_objects)
+created_room : (h class : ℕ) (k : Option ℕ) (n : ℕ) (z : PlainStore) → RunsWithRoom z.frames → HaveRoom (objects.object_created h class k n z).frames
+created_room h class None n z kept = given_room n (next_reference h class z) (made class z) (made_keeps class z kept)
+created_room h class (Some k) n z kept = by (nat_lt (length z.objects) max_objects)
   where
     by : (b : Bool) → HaveRoom (if b then created_at (next_reference h class z) k n (top_activation z.frames) z else failed cause.TooManyObjects z).frames
     by true = created_by_room (next_reference h class z) k n z (top_activation z.frames) kept.1
@@ -235,12 +233,11 @@ created_as_room : (w : Option Want) (r : Reference) (class : ℕ) (k : Option �
 created_as_room None r class k n passes z room = tt
 created_as_room (Some w) r class k n passes z room = room
 
-handler_room : (h class : ℕ) (k : Option ℕ) (n : ℕ) (passes : Bool) (q : Option ℕ) (z : PlainStore) → RunsWithRoom z.frames →
-    HaveRoom (handlers.created_of h (creation_with class k n passes) q z).frames
-handler_room h class k n passes None z kept = tt
-handler_room h class k n passes (Some j) z kept =
-    created_as_room (creation_in (creation_with class k n passes) j (top_activation z.frames)) (handlers.first_object h j) class k n passes z
-    (creating_room (handlers.first_object h j) class k n passes z.frames kept.0 kept.1)
+handler_room : (h class : ℕ) (k : Option ℕ) (n : ℕ) (passes : Bool) (z : PlainStore) → RunsWithRoom z.frames →
+    HaveRoom (handlers.handler_created h (creation_with class k n passes) z).frames
+handler_room h class k n passes z kept =
+    created_as_room (creation_in (creation_with class k n passes) (top_activation z.frames)) (handlers.first_object h class) class k n passes z
+    (creating_room (handlers.first_object h class) class k n passes z.frames kept.0 kept.1)
 
 -- ---- ends
 
@@ -333,8 +330,8 @@ acts_room h (act.Enter c r k n gives) z t kept = called_room c r k n gives z (to
 acts_room h (act.Request q) z t kept =
     sent_room (request_in h q (top_activation z.frames)) q.object q.name q.count q.gives q.passes z
     (sending_room z.program q.object q.name q.count q.gives q.passes z.frames t kept.0 kept.1)
-acts_room h (act.Create class k n) z t kept = created_room h (class_number class) k n z kept
-acts_room h (act.CreateHandler q) z t kept = handler_room h q.class q.procedure q.count q.passes (class_number q.class) z kept
+acts_room h (act.Create class k n) z t kept = created_room h class k n z kept
+acts_room h (act.CreateHandler q) z t kept = handler_room h q.class q.procedure q.count q.passes z kept
 acts_room h act.Start z t kept = top_runs (past 0) (λ a. refl) z.frames kept.0 kept.1
 acts_room h (act.Refuse k) z t kept = refused_room (formals_at z.program k) (top_current z.frames) (top_activation z.frames) z kept.1
 acts_room h (act.Open first n) z t kept = opened_room first (heads_in first n (top_activation z.frames)) z kept.1

@@ -20,7 +20,6 @@ use Rattle.sc_region_turns.specs.RegionSteps.{IsProgramFor, first_want, names_of
 use Rattle.sc_region_turns.specs.RegionTurns.{Half, taken_turn, turn}
 use Rattle.sc_acts.specs.Tables.{version_in}
 use Rattle.sc_play.specs.Answering.{top_stage}
-use Rattle.sc_acts.specs.Operands.{class_number}
 use Rattle.sc_play.specs.Turns.{FirstTurn, GoesOn, TurnIn, TurnMade, TurnOf, TurnUnder, begun}
 use Rattle.sc_refines_turn.specs.Acting.{AreWhole, IsCreator, RunsOn, TakesResult}
 use Rattle.sc_refines_turn.specs.Jobs.{TakesAnswer}
@@ -32,24 +31,24 @@ use Rattle.sc_refines_turn.specs.Wanting.{IsNumbered, IsProcedure, MayCreate, Ma
 
 -- ---- what is asked of a store where an operation is done
 
--- The class has a number, and the store may create. A procedure's operands are there, with room for the reference, and
--- its name is that of a routine where there is room for one more object.
+-- The store may create. A procedure's operands are there, with room for the reference, and its name is that of a
+-- routine where there is room for one more object.
 abbrev pub MayCreateHere : ℕ → ℕ → Option ℕ → ℕ → PlainStore → Type 0
-MayCreateHere h class None n z = (class_number class ≡ Some class) × IsCreator h z
+MayCreateHere h class None n z = IsCreator h z
 MayCreateHere h class (Some k) n z =
-    (class_number class ≡ Some class) × IsNameOf (names_of z) k × Has n (top_activation z.frames)
+    IsNameOf (names_of z) k × Has n (top_activation z.frames)
     × (has_room_in n (top_activation z.frames) ≡ true)
     × (nat_lt (length z.objects) max_objects ≡ true →
     (routine : ℕ) × (routine_in (version_in z.program class k) ≡ Some routine)) × RunsOn h z
 
--- The numbers of the operation are those of names and classes, and its operands are there. Where objects are tested,
+-- The numbers of the operation are those of names, and its operands are there. Where objects are tested,
 -- they are whole, and a routine that ends has a Result for its caller.
 abbrev pub MayAct : ℕ → Act → PlainStore → Type 0
 MayAct h (act.Enter c r k n gives) z = IsNameOf (names_of z) k × HasCall c n (top_activation z.frames)
 MayAct h (act.Request q) z = IsNumbered z q.name × MayRequest q.name q.count (top_activation z.frames)
 MayAct h (act.Create class k n) z = MayCreateHere h class k n z
 MayAct h (act.CreateHandler q) z =
-    IsProcedure z q.procedure × MayCreate q.class q.procedure q.count (top_activation z.frames)
+    IsProcedure z q.procedure × MayCreate q.procedure q.count (top_activation z.frames)
 MayAct h (act.Open first n) z = MayOpen first n (top_activation z.frames)
 MayAct h (act.Refuse k) z = AreWhole z
 MayAct h act.Exit z = AreWhole z × TakesResult z.frames

@@ -18,7 +18,7 @@ use Rattle.sc_acts.specs.Tables.{formals_at, name_at}
 use Rattle.sc_acts.specs.Turning.{unless_failed}
 use Rattle.sc_acts.specs.Blocks.{asks_leaving}
 use Rattle.sc_acts.specs.CreatingHandlers.{asks_creating, creation_with, may_create}
-use Rattle.sc_acts.specs.Operands.{class_number, has_call, name_number, procedure_number}
+use Rattle.sc_acts.specs.Operands.{has_call, name_number, procedure_number}
 use Rattle.sc_acts.specs.Requesting.{asks_requesting, call_of}
 use Rattle.sc_refines_turn.specs.Acting.{AreWhole, Comes}
 
@@ -77,16 +77,15 @@ RequestsAsk =
     MayRequest k n (top_activation z.frames) →
     TurnAsks h y w (asks_requesting h (call_of r k n gives passes) (top_activation z.frames))
 
--- The numbers of the class and of the procedure have room, and the operands are there, with room for the reference.
-abbrev pub MayCreate : ℕ → Option ℕ → ℕ → Option PlainActivation → Type 0
-MayCreate class k n None = ⊥
-MayCreate class k n (Some a) =
-    (class_number class ≡ Some class) × (procedure_number k ≡ Some k) × (may_create n a ≡ true)
+-- The number of the procedure has room, and the operands are there, with room for the reference.
+abbrev pub MayCreate : Option ℕ → ℕ → Option PlainActivation → Type 0
+MayCreate k n None = ⊥
+MayCreate k n (Some a) = (procedure_number k ≡ Some k) × (may_create n a ≡ true)
 
 -- The creation of a handler asks for it.
 abbrev pub CreationsAsk : Type 0
 CreationsAsk =
     (h class : ℕ) (k : Option ℕ) (n : ℕ) (passes : Bool) (y z w : PlainStore) →
     Comes (hop.Comes (act.CreateHandler (creation_with class k n passes))) y z → IsProcedure z k →
-    MayCreate class k n (top_activation z.frames) →
+    MayCreate k n (top_activation z.frames) →
     TurnAsks h y w (asks_creating (creation_with class k n passes) (top_activation z.frames))

@@ -56,18 +56,15 @@ use Rattle.sc_acts.specs.Blocks as blocks
 use Rattle.sc_acts.specs.Blocks.{closing, innermost, left_with, may_open, opened_with}
 use Rattle.sc_acts.specs.CreatingHandlers as handlers
 use Rattle.sc_acts.specs.CreatingHandlers.{created_as, creation_in, first_object}
-use Rattle.sc_acts.specs.CreatingObjects as objects
 use Rattle.sc_acts.specs.CreatingObjects.{created_with}
-use Rattle.sc_acts.specs.Operands.{class_number}
 use Rattle.sc_acts.specs.declared.act.RemoteCreation.{RemoteCreation}
 use Rattle.sc_acts.specs.declared.act.RemoteCall.{RemoteCall}
 use Rattle.sc_acts.specs.Requesting.{awaiting_if, request_in, sending, sent, is_waited}
 use Rattle.sc_play.specs.Turns.{done}
 use Rattle.sc_region_turns.specs.RegionSteps.{number_among}
 use Rattle.sc_refines_turn.specs.Wanting.{DistinctNamesHaveNumbers}
-use Rattle.sc_refines_turn.proofs.Unique.{hop_shown}
 use Rattle.sc_refines_world.proofs.Exact.{Grown}
-use Rattle.sc_refines_world.proofs.Molds.{Mold, OneOf, Told, coded_mold, entry_mold, mold_at, mold_of, molds_of, next_mold, told_none}
+use Rattle.sc_refines_world.proofs.Molds.{Mold, OneOf, Told, coded_mold, entry_mold, mold_at, mold_of, molds_of, next_mold}
 
 -- ---- what is left
 
@@ -272,9 +269,8 @@ module _ (distinct : DistinctNamesHaveNumbers) (h : ℕ) (s : System) (c : Code)
     tells = passed (handlers.creating q call t) (awaits_mold call.passes q.handler false true (with_reference q (past call.count t)));
   }
 
-  creating_of : (class : Option ℕ) (call : RemoteCreation) → Left p os (OneOf (mold_at n (t.place + 1) r (values_of t.slots) ∷ ms)) (handlers.created_of h call class here)
-  creating_of None call = fallen_one p os _ _ here unmoved
-  creating_of (Some class) call = creating_as (creation_in call class (Some t)) (first_object h class) call
+  creating : (call : RemoteCreation) → Left p os (OneOf (mold_at n (t.place + 1) r (values_of t.slots) ∷ ms)) (handlers.handler_created h call here)
+  creating call = creating_as (creation_in call (Some t)) (first_object h call.class) call
 
   -- ---- objects of the same handler
 
@@ -406,13 +402,6 @@ module _ (distinct : DistinctNamesHaveNumbers) (h : ℕ) (s : System) (c : Code)
   created_so class None k name = created_none class k
   created_so class (Some x) k name = created_named class x k name
 
-  creating : (class : ℕ) (x : Option ℕ) (k : ℕ) → HasProcedure p x → Left p os (Says (act.Create class x k)) (acted h (act.Create class x k) here)
-  creating class x k name = by (nat_lt class 256)
-    where
-      by : (b : Bool) → Left p os (Says (act.Create class x k)) (objects.created_of (if b then Some class else None) h x k here)
-      by true = created_so class x k name
-      by false = fallen p os _ _ here unmoved (told_none p n r ms _ (hop_shown p s c me_flat (hop.Comes (act.Create class x k)) f tt))
-
   -- ---- ends
 
   left_one : Left p os (OneOf ms) (left here)
@@ -483,8 +472,8 @@ module _ (distinct : DistinctNamesHaveNumbers) (h : ℕ) (s : System) (c : Code)
   acted_tells (act.Enter calling.Unqualified q x k gives) ready = entering calling.Unqualified q x k gives (name_there x k gives ready.named)
   acted_tells (act.Enter calling.Qualified q x k gives) ready = entering calling.Qualified q x k gives (name_there x k gives ready.named)
   acted_tells (act.Request call) ready = requesting (request_in h call (Some t)) call
-  acted_tells (act.Create class x k) ready = creating class x k (procedure_there class x k ready.named)
-  acted_tells (act.CreateHandler call) ready = creating_of (class_number call.class) call
+  acted_tells (act.Create class x k) ready = created_so class x k (procedure_there class x k ready.named)
+  acted_tells (act.CreateHandler call) ready = creating call
   acted_tells act.Start ready = simple 0 here refl refl refl
   acted_tells (act.Refuse k) ready = refusing k
   acted_tells (act.Open first k) ready = opening first k

@@ -39,7 +39,7 @@ use Rattle.sc_acts.specs.Turning.{unless_failed}
 use Rattle.sc_acts.specs.Acting.{asks_acted}
 use Rattle.sc_play.specs.Answering.{top_stage}
 use Rattle.sc_acts.specs.Blocks.{asks_left, asks_opened, heads_in, innermost_in}
-use Rattle.sc_acts.specs.CreatingHandlers.{asks_creating, asks_of, creation_by, creation_of, creation_with, may_create}
+use Rattle.sc_acts.specs.CreatingHandlers.{asks_creating, creation_by, creation_of, creation_with, may_create}
 use Rattle.sc_acts.specs.CreatingHandlers as handlers
 use Rattle.sc_acts.specs.CreatingObjects as objects
 use Rattle.sc_acts.specs.Operands.{has_call, procedure_number}
@@ -125,25 +125,21 @@ module _ (names : List (List ℕ)) where
 
   -- the number of the creation procedure is that of a name, if there is one
   module _ (class n : ℕ) (passes : Bool) (a : PlainActivation) where
-    numbered_named : (procedure : Option ℕ) (number k : ℕ) (b d : Bool) → IsNameOf names k →
-        AsksNamed names (handlers.asks_created (option_and_then (λ o. if d then Some (creation_by (creation_with class procedure n passes) number o a) else None)
+    numbered_named : (procedure : Option ℕ) (k : ℕ) (b d : Bool) → IsNameOf names k →
+        AsksNamed names (handlers.asks_created (option_and_then (λ o. if d then Some (creation_by (creation_with class procedure n passes) o a) else None)
         (option_map (λ k. Some k) (if b then Some k else None))))
-    numbered_named procedure number k false d is = tt
-    numbered_named procedure number k true false is = tt
-    numbered_named procedure number k true true is = is
+    numbered_named procedure k false d is = tt
+    numbered_named procedure k true false is = tt
+    numbered_named procedure k true true is = is
 
-    creation_named : (procedure : Option ℕ) (number : ℕ) → IsNamed names (errand.Makes procedure) → (d : Bool) →
-        AsksNamed names (handlers.asks_created (option_and_then (λ o. if d then Some (creation_by (creation_with class procedure n passes) number o a) else None) (procedure_number procedure)))
-    creation_named None number is true = tt
-    creation_named None number is false = tt
-    creation_named (Some k) number is d = numbered_named (Some k) number k (nat_lt k 4294967296) d is
+    creation_named : (procedure : Option ℕ) → IsNamed names (errand.Makes procedure) → (d : Bool) →
+        AsksNamed names (handlers.asks_created (option_and_then (λ o. if d then Some (creation_by (creation_with class procedure n passes) o a) else None) (procedure_number procedure)))
+    creation_named None is true = tt
+    creation_named None is false = tt
+    creation_named (Some k) is d = numbered_named (Some k) k (nat_lt k 4294967296) d is
 
     creating_named : (procedure : Option ℕ) → IsNamed names (errand.Makes procedure) → AsksNamed names (asks_creating (creation_with class procedure n passes) (Some a))
-    creating_named procedure is = by (nat_lt class 256)
-      where
-        by : (b : Bool) → AsksNamed names (asks_of (creation_with class procedure n passes) (if b then Some class else None) (Some a))
-        by true = creation_named procedure class is (may_create n a)
-        by false = tt
+    creating_named procedure is = creation_named procedure is (may_create n a)
 
 -- ---- a routine goes on
 

@@ -35,9 +35,9 @@ use Rattle.sc_acts.specs.Turning.{round_ended}
 use Rattle.sc_acts.specs.Acting.{acted, asks_acted}
 use Rattle.sc_acts.specs.Blocks.{asks_left, asks_opened, closing, heads_in, innermost_in, left_with, opened_with, opening}
 use Rattle.sc_acts.specs.CreatingHandlers as remote
-use Rattle.sc_acts.specs.CreatingHandlers.{asks_of, created_as, creating, creation_by, creation_in, creation_with, first_object, may_create}
-use Rattle.sc_acts.specs.CreatingObjects.{asks_created, created_of, created_with}
-use Rattle.sc_acts.specs.Operands.{class_number, procedure_number}
+use Rattle.sc_acts.specs.CreatingHandlers.{created_as, creating, creation_by, creation_in, creation_with, first_object, may_create}
+use Rattle.sc_acts.specs.CreatingObjects.{asks_created, created_with}
+use Rattle.sc_acts.specs.Operands.{procedure_number}
 use Rattle.sc_acts.specs.Requesting.{asks_sending, asks_sent, awaiting_if, call_of, request_in, sending, sent}
 use Rattle.sc_request_counts.specs.Serving.{served}
 use Rattle.sc_request_counts.specs.Turns.{left_after}
@@ -147,10 +147,6 @@ created_with_serves n (Some name) r k x s =
     if_serves (nat_lt (length x.objects) max_objects) n (created_at r name k (top_activation x.frames) x) (failed cause.TooManyObjects x)
     (created_at_serves n r name k (top_activation x.frames) x refl s) (failed_serves n cause.TooManyObjects x)
 
-created_of_serves : (n : ℕ) (class : Option ℕ) (h : ℕ) (procedure : Option ℕ) (k : ℕ) (x : PlainStore) → Serving n x → Serving n (created_of class h procedure k x)
-created_of_serves n None h procedure k x s = failed_serves n cause.BadCode x
-created_of_serves n (Some class) h procedure k x s = created_with_serves n procedure (next_reference h class x) k x s
-
 created_left : (procedure : Option ℕ) (y : PlainStore) (n : ℕ) → left_after (asks_created procedure y) n ≡ n
 created_left None y n = refl
 created_left (Some name) y n = beginning_left y.program (top_activation y.frames) n
@@ -158,33 +154,32 @@ created_left (Some name) y n = beginning_left y.program (top_activation y.frames
 -- ---- handlers
 
 module _ (class : ℕ) (procedure : Option ℕ) (k : ℕ) (passes : Bool) (n : ℕ) where
-  may_left : (b : Bool) (j : ℕ) (p : Option ℕ) (a : PlainActivation) →
-      left_after (remote.asks_created (if b then Some (creation_by (creation_with class procedure k passes) j p a) else None)) n ≡ n
-  may_left true j p a = refl
-  may_left false j p a = refl
+  may_left : (b : Bool) (p : Option ℕ) (a : PlainActivation) →
+      left_after (remote.asks_created (if b then Some (creation_by (creation_with class procedure k passes) p a) else None)) n ≡ n
+  may_left true p a = refl
+  may_left false p a = refl
 
-  procedure_left : (o : Option (Option ℕ)) (j : ℕ) (a : PlainActivation) →
-      left_after (remote.asks_created (option_and_then (λ p. if may_create k a then Some (creation_by (creation_with class procedure k passes) j p a) else None) o)) n ≡ n
-  procedure_left None j a = refl
-  procedure_left (Some p) j a = may_left (may_create k a) j p a
+  procedure_left : (o : Option (Option ℕ)) (a : PlainActivation) →
+      left_after (remote.asks_created (option_and_then (λ p. if may_create k a then Some (creation_by (creation_with class procedure k passes) p a) else None) o)) n ≡ n
+  procedure_left None a = refl
+  procedure_left (Some p) a = may_left (may_create k a) p a
 
-  creation_left : (j : ℕ) (o : Option PlainActivation) → left_after (remote.asks_created (creation_in (creation_with class procedure k passes) j o)) n ≡ n
-  creation_left j None = refl
-  creation_left j (Some a) = procedure_left (procedure_number procedure) j a
+  creation_left : (o : Option PlainActivation) → left_after (remote.asks_created (creation_in (creation_with class procedure k passes) o)) n ≡ n
+  creation_left None = refl
+  creation_left (Some a) = procedure_left (procedure_number procedure) a
 
   created_as_serves : (o : Option Want) (r : Reference) (x : PlainStore) → Serving n x → Serving n (created_as o r (creation_with class procedure k passes) x)
   created_as_serves None r x s = failed_serves n cause.BadCode x
   created_as_serves (Some w) r x s =
       on_top_serves (creating r (creation_with class procedure k passes)) n x (λ a. awaiting_same passes r.handler false true (with_reference r (past k a))) s
 
-  handler_serves : (h : ℕ) (j : Option ℕ) (x : PlainStore) → Serving n x →
-      Serving (left_after (asks_of (creation_with class procedure k passes) j (top_activation x.frames)) n) (remote.created_of h (creation_with class procedure k passes) j x)
-  handler_serves h None x s = failed_serves n cause.BadCode x
-  handler_serves h (Some j) x s =
-      let o : Option Want = creation_in (creation_with class procedure k passes) j (top_activation x.frames) in
-      so_many n (left_after (remote.asks_created o) n) (created_as o (first_object h j) (creation_with class procedure k passes) x)
-      (sym (creation_left j (top_activation x.frames)))
-      (created_as_serves o (first_object h j) x s)
+  handler_serves : (h : ℕ) (x : PlainStore) → Serving n x →
+      Serving (left_after (remote.asks_creating (creation_with class procedure k passes) (top_activation x.frames)) n) (remote.handler_created h (creation_with class procedure k passes) x)
+  handler_serves h x s =
+      let o : Option Want = creation_in (creation_with class procedure k passes) (top_activation x.frames) in
+      so_many n (left_after (remote.asks_created o) n) (created_as o (first_object h class) (creation_with class procedure k passes) x)
+      (sym (creation_left (top_activation x.frames)))
+      (created_as_serves o (first_object h class) x s)
 
 -- ---- refusals
 
@@ -286,8 +281,8 @@ acted_serves n h (act.Request q) x s =
     sent_serves n (request_in h q (top_activation x.frames)) q.object q.name q.count q.gives q.passes x s
 acted_serves n h (act.Create class procedure k) x s =
     let y : PlainStore = acted h (act.Create class procedure k) x in
-    so_many n (left_after (asks_created procedure y) n) y (sym (created_left procedure y n)) (created_of_serves n (class_number class) h procedure k x s)
-acted_serves n h (act.CreateHandler q) x s = handler_serves q.class q.procedure q.count q.passes n h (class_number q.class) x s
+    so_many n (left_after (asks_created procedure y) n) y (sym (created_left procedure y n)) (created_with_serves n procedure (next_reference h class x) k x s)
+acted_serves n h (act.CreateHandler q) x s = handler_serves q.class q.procedure q.count q.passes n h x s
 acted_serves n h act.Start x s = on_top_serves (past 0) n x (λ a. refl) s
 acted_serves n h (act.Refuse k) x s = refused_serves n (formals_at x.program k) x.frames x refl s
 acted_serves n h (act.Open first k) x s = opened_serves n first (heads_in first k (top_activation x.frames)) x s

@@ -4,7 +4,7 @@ use Rattle.sc_region.specs.Stores.{PlainStore, next_reference}
 use Rattle.sc_acts.specs.Creating.{created}
 use Rattle.sc_acts.specs.CreatingObjects.{created_by_name, created_with}
 use Rattle.sc_acts.proofs.Created.{created_nearest, created_by_name_nearest}
-use Rattle.sc_acts.proofs.creating.create_by_number.Goals as goal
+use Rattle.sc_acts.proofs.creating.create_object.Goals as goal
 
 pub returns-in-None-clause-ok : goal.returns-in-None-clause-ok
 returns-in-None-clause-ok c =
