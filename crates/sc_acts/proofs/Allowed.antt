@@ -2,7 +2,6 @@
 use Rattle.std.proofs.Common.{◌≡◌, ℕ, ◌+◌, ◌≤◌, List, [], Option, Some, None, Bool, true, false, length, refl, sym, ap, subst, arith}
 use Rattle.std.proofs.lemmas.Bool.{ltb-true, ltb-false}
 use Rattle.std.specs.Prelude.{◌&&◌, not, if◌then◌else◌}
-use Rattle.std.specs.Option.{option_and_then}
 use Rattle.sc_region.specs.declared.job.Want.{Want}
 use Rattle.sc_region.specs.declared.value.Value.{Value}
 use Rattle.sc_region.specs.Frames.{PlainActivation}
@@ -12,7 +11,7 @@ use Rattle.sc_region.proofs.DeeperOperands.{taken_length}
 use Rattle.sc_acts.specs.declared.act.RemoteCreation.{RemoteCreation}
 use Rattle.sc_acts.specs.CreatingHandlers.{creation_by, creation_in, may_create}
 use Rattle.sc_acts.specs.Blocks.{heads_in, may_open}
-use Rattle.sc_acts.specs.Operands.{has_actuals, procedure_number}
+use Rattle.sc_acts.specs.Operands.{has_actuals}
 
 and_left : (p q : Bool) → p && q ≡ true → p ≡ true
 and_left true q e = refl
@@ -42,16 +41,13 @@ same_some x y e = cc
 
 -- ---- a handler is created
 
-room_of : (c : RemoteCreation) (a : PlainActivation) (w : Want) (o : Option (Option ℕ)) →
-    option_and_then (λ p. if may_create c.count a then Some (creation_by c p a) else None) o ≡ Some w → has_room c.count a ≡ true
-room_of c a w None e = none_some w _ e
-room_of c a w (Some p) e =
-    and_right (has_actuals c.count a) (has_room c.count a) (where_some (may_create c.count a) (creation_by c p a) w e)
+room_of : (c : RemoteCreation) (a : PlainActivation) (w : Want) → (if may_create c.count a then Some (creation_by c a) else None) ≡ Some w → has_room c.count a ≡ true
+room_of c a w e = and_right (has_actuals c.count a) (has_room c.count a) (where_some (may_create c.count a) (creation_by c a) w e)
 
 room_at : (c : RemoteCreation) (w : Want) (o : Option PlainActivation) (a : PlainActivation) → creation_in c o ≡ Some w → o ≡ Some a → has_room c.count a ≡ true
 room_at c w None a e k = none_some a _ k
 room_at c w (Some b) a e k =
-    subst (λ (q : PlainActivation). has_room c.count q ≡ true) (same_some b a k) (room_of c b w (procedure_number c.procedure) e)
+    subst (λ (q : PlainActivation). has_room c.count q ≡ true) (same_some b a k) (room_of c b w e)
 
 -- the reference has room where a creation is asked
 pub creation_room : (c : RemoteCreation) (w : Want) (o : Option PlainActivation) → creation_in c o ≡ Some w → (a : PlainActivation) → o ≡ Some a →

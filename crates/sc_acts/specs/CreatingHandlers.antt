@@ -1,6 +1,5 @@
 -- What the creation of a handler makes of its creator's store, and what it asks.
 use Rattle.std.specs.Prelude.{ℕ, ◌&&◌, Bool, true, false, Option, Some, None, if◌then◌else◌}
-use Rattle.std.specs.Option.{option_and_then}
 use Rattle.sc_model.specs.declared.cause.Cause.TheVariants as cause
 use Rattle.sc_region.specs.declared.job.Want.{Want}
 use Rattle.sc_region.specs.declared.job.Want.TheVariants as want
@@ -11,7 +10,7 @@ use Rattle.sc_acts.specs.Creating.{has_room, with_reference}
 use Rattle.sc_region.specs.Calls.{last_values, on_top, past}
 use Rattle.sc_acts.specs.declared.act.RemoteCreation.{RemoteCreation}
 use Rattle.sc_acts.specs.Requesting.{awaiting_if}
-use Rattle.sc_acts.specs.Operands.{has_actuals, procedure_number}
+use Rattle.sc_acts.specs.Operands.{has_actuals}
 
 -- ---- the creation
 
@@ -23,15 +22,13 @@ creation_with class procedure n passes = record { class = class; procedure = pro
 abbrev pub may_create : ℕ → PlainActivation → Bool
 may_create n a = has_actuals n a && has_room n a
 
-abbrev pub creation_by : RemoteCreation → Option ℕ → PlainActivation → Want
-creation_by c procedure a =
-    want.Create c.class procedure (record { items = last_values c.count a.operands.values }) c.passes
+abbrev pub creation_by : RemoteCreation → PlainActivation → Want
+creation_by c a =
+    want.Create c.class c.procedure (record { items = last_values c.count a.operands.values }) c.passes
 
--- what the creation asks, where its procedure has a number and its operands are there
+-- what the creation asks, where its operands are there
 abbrev pub creation_of : RemoteCreation → PlainActivation → Option Want
-creation_of c a =
-    option_and_then (λ procedure. if may_create c.count a then Some (creation_by c procedure a) else None)
-    (procedure_number c.procedure)
+creation_of c a = if may_create c.count a then Some (creation_by c a) else None
 
 -- the same of the topmost routine
 abbrev pub creation_in : RemoteCreation → Option PlainActivation → Option Want

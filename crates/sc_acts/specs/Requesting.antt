@@ -1,6 +1,5 @@
 -- What a call on an object of another handler makes of a store, and what it asks.
 use Rattle.std.specs.Prelude.{ℕ, Bool, true, false, ◌||◌, Option, Some, None, if◌then◌else◌}
-use Rattle.std.specs.Option.{option_and_then}
 use Rattle.sc_model.specs.declared.cause.Cause.TheVariants as cause
 use Rattle.sc_region.specs.declared.frame.Stage.TheVariants as stage
 use Rattle.sc_region.specs.declared.job.Errand.TheVariants as errand
@@ -13,7 +12,7 @@ use Rattle.sc_region.specs.Stores.{PlainStore, failed}
 use Rattle.sc_acts.specs.Creating.{without_last}
 use Rattle.sc_region.specs.Calls.{last_values, on_top, past}
 use Rattle.sc_acts.specs.declared.act.RemoteCall.{RemoteCall}
-use Rattle.sc_acts.specs.Operands.{has_call, name_number}
+use Rattle.sc_acts.specs.Operands.{has_call}
 
 -- a call of the feature of this name, with so many actuals, that gives a value or passes locks, if it does
 abbrev pub call_of : Reference → ℕ → ℕ → Bool → Bool → RemoteCall
@@ -30,19 +29,18 @@ awaiting_if true k gives is_creation a = record a { stage = stage.Awaits k gives
 
 -- ---- the request
 
-abbrev pub request_by : ℕ → RemoteCall → ℕ → PlainActivation → Request
-request_by h c name a = record {
+abbrev pub request_by : ℕ → RemoteCall → PlainActivation → Request
+request_by h c a = record {
   poster = Some h;
   target = c.object;
-  errand = errand.Calls name;
+  errand = errand.Calls c.name;
   actuals = record { items = last_values c.count a.operands.values };
   is_waited = is_waited c;
 }
 
--- the request of this handler that the call is, where its name has a number and its operands are there
+-- the request of this handler that the call is, where its operands are there
 abbrev pub request_of : ℕ → RemoteCall → PlainActivation → Option Request
-request_of h c a =
-    option_and_then (λ name. if has_call c.count a then Some (request_by h c name a) else None) (name_number c.name)
+request_of h c a = if has_call c.count a then Some (request_by h c a) else None
 
 -- the same of the topmost routine
 abbrev pub request_in : ℕ → RemoteCall → Option PlainActivation → Option Request

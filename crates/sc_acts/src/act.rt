@@ -1,5 +1,5 @@
 //! What visible operations are, with what they name.
-use sc_code::ClassNumber;
+use sc_code::{ClassNumber, NameNumber};
 use sc_region::Reference;
 
 /// How a routine of the same handler is called.
@@ -13,7 +13,7 @@ pub enum Calling {
 #[derive(Clone, Copy)]
 pub struct RemoteCall {
     pub object: Reference,
-    pub name: usize,
+    pub name: NameNumber,
     /// How many actuals there are.
     pub count: usize,
     pub gives: bool,
@@ -25,7 +25,7 @@ pub struct RemoteCall {
 pub struct RemoteCreation {
     pub class: ClassNumber,
     /// The number of the creation procedure's name, if it has one.
-    pub procedure: Option<usize>,
+    pub procedure: Option<NameNumber>,
     /// How many actuals there are.
     pub count: usize,
     pub passes: bool,
@@ -47,7 +47,7 @@ pub enum Act {
     Enter {
         calling: Calling,
         object: Reference,
-        name: usize,
+        name: NameNumber,
         count: usize,
         gives: bool,
     },
@@ -56,7 +56,7 @@ pub enum Act {
     /// An object of this handler is created, by the procedure of the name or without one.
     Create {
         class: ClassNumber,
-        procedure: Option<usize>,
+        procedure: Option<NameNumber>,
         count: usize,
     },
     /// A handler is created, with an object of the class.

@@ -13,7 +13,7 @@ use crate::beginning::ask_beginning;
 use crate::caller::{Caller, look, no_caller, resume, suspend};
 use crate::steps::{pass, unless_failed};
 use crate::versions::routine_of;
-use sc_code::ClassNumber;
+use sc_code::{ClassNumber, NameNumber};
 use sc_lockpass::HandlerNumber;
 use sc_model::Cause;
 use sc_region::{Activation, ObjectNumber, Reference, Store, Value, Want};
@@ -134,7 +134,7 @@ fn create_from(
 fn make(
     store: &mut Store<'_>,
     reference: Reference,
-    name: usize,
+    name: NameNumber,
     count: usize,
 ) -> Result<(), AllocError>
     ensures ok { OnOk result (store.new ≡ created_by reference name count store.old) }
@@ -164,7 +164,7 @@ fn make(
 fn create_by(
     store: &mut Store<'_>,
     reference: Reference,
-    name: usize,
+    name: NameNumber,
     count: usize,
     asked: &mut Want,
 ) -> Result<(), AllocError>
@@ -199,7 +199,7 @@ fn next_reference(store: &Store<'_>, handler: HandlerNumber, class: ClassNumber)
 fn create_by_name(
     store: &mut Store<'_>,
     object: Reference,
-    name: usize,
+    name: NameNumber,
     count: usize,
     asked: &mut Want,
 ) -> Result<(), AllocError>
@@ -224,7 +224,7 @@ pub fn create_object(
     store: &mut Store<'_>,
     handler: HandlerNumber,
     class: ClassNumber,
-    procedure: Option<usize>,
+    procedure: Option<NameNumber>,
     count: usize,
     asked: &mut Want,
 ) -> Result<(), AllocError>

@@ -6,7 +6,6 @@ ghost use Rattle.sc_region.specs.Calls.{on_top};
 ghost use Rattle.sc_acts.specs.CreatingHandlers.{asks_creating, creating, creation_in, creation_of, handler_created, may_create};
 
 use crate::act::RemoteCreation;
-use crate::numbers::procedure_number;
 use crate::operands::{has_actuals, last_values};
 use crate::stages::{await_if, misfit};
 use crate::steps::go_past;
@@ -20,17 +19,16 @@ fn may_create(activation: &Activation, count: usize) -> bool
     has_actuals(activation, count) && activation.operands.has_room_under(count)
 }
 
-/// What the creation asks, where its procedure has a number and its operands are there.
+/// What the creation asks, where its operands are there.
 fn creation_of(activation: &Activation, creation: RemoteCreation) -> Option<Want>
     ensures { result ≡ creation_of creation (activation_of activation.now) }
 {
-    let procedure = procedure_number(creation.procedure)?;
     if !may_create(activation, creation.count) {
         return None;
     }
     Some(Want::Create {
         class: creation.class,
-        procedure,
+        procedure: creation.procedure,
         actuals: last_values(activation, creation.count),
         passes: creation.passes,
     })
@@ -68,9 +66,9 @@ fn begin(store: &mut Store<'_>, first: Reference, creation: RemoteCreation)
 }
 
 /// A handler is created by this one, with an object of the class, by the procedure of the name or without one: F16 where
-/// there are fewer operands than the creation takes, or more than a request has room for, or where the name has no number
-/// there. The creator goes on with a reference to the object, which has the creator's number until that of the new handler
-/// is told; with lock passing it waits for the answer.
+/// there are fewer operands than the creation takes, or more than a request has room for. The creator goes on with a
+/// reference to the object, which has the creator's number until that of the new handler is told; with lock passing it
+/// waits for the answer.
 ///
 /// It stays a call, as `request` does.
 #[inline(never)]

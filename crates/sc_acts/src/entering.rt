@@ -10,6 +10,7 @@ use crate::beginning::ask_beginning;
 use crate::caller::has_operands;
 use crate::steps::unless_failed;
 use crate::versions::routine_of;
+use sc_code::NameNumber;
 use sc_model::Cause;
 use sc_region::{Origin, OwnCall, Reference, Store, Want};
 use std::alloc::AllocError;
@@ -49,7 +50,7 @@ fn call(
     store: &mut Store<'_>,
     calling: Calling,
     object: Reference,
-    name: usize,
+    name: NameNumber,
     count: usize,
     gives: bool,
 ) -> Result<(), AllocError>
@@ -81,7 +82,7 @@ pub fn enter(
     store: &mut Store<'_>,
     calling: Calling,
     object: Reference,
-    name: usize,
+    name: NameNumber,
     count: usize,
     gives: bool,
     asked: &mut Want,

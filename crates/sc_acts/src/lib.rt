@@ -12,7 +12,6 @@ mod creating;
 mod creating_handlers;
 mod entering;
 mod exiting;
-mod numbers;
 mod operands;
 mod printing;
 mod refusing;

@@ -6,12 +6,10 @@ ghost use Rattle.sc_region.specs.Calls.{on_top};
 ghost use Rattle.sc_acts.specs.Requesting.{asks_requesting, asks_sending, asks_sent, is_waited, request_by, request_in, request_of, requested, sending};
 
 use crate::act::RemoteCall;
-use crate::numbers::name_number;
 use crate::operands::{add_last_values, has_call};
 use crate::stages::{await_if, misfit};
 use crate::steps::go_past;
 use arrayvec::ArrayVec;
-use sc_code::NameNumber;
 use sc_lockpass::HandlerNumber;
 use sc_region::{Activation, Errand, Request, Store, Want};
 
@@ -23,22 +21,16 @@ fn is_waited(call: RemoteCall) -> bool
 }
 
 /// The call of the routine is asked, and waited for.
-fn ask_waited(
-    activation: &Activation,
-    poster: HandlerNumber,
-    call: RemoteCall,
-    name: NameNumber,
-    asked: &mut Want,
-)
+fn ask_waited(activation: &Activation, poster: HandlerNumber, call: RemoteCall, asked: &mut Want)
     requires few { call.count < 17 }
     requires enough { call.count ≤ length (activation_of activation.now).operands.values }
-    ensures { asked.new ≡ want.Ask (record (request_by poster call name (activation_of activation.now)) { is_waited = true }) call.passes }
+    ensures { asked.new ≡ want.Ask (record (request_by poster call (activation_of activation.now)) { is_waited = true }) call.passes }
 {
     *asked = Want::Ask {
         request: Request {
             poster: Some(poster),
             target: call.object,
-            errand: Errand::Calls(name),
+            errand: Errand::Calls(call.name),
             actuals: ArrayVec::new(),
             is_waited: true,
         },
@@ -50,21 +42,15 @@ fn ask_waited(
 }
 
 /// The call of the routine is asked, and not waited for.
-fn ask_posted(
-    activation: &Activation,
-    poster: HandlerNumber,
-    call: RemoteCall,
-    name: NameNumber,
-    asked: &mut Want,
-)
+fn ask_posted(activation: &Activation, poster: HandlerNumber, call: RemoteCall, asked: &mut Want)
     requires few { call.count < 17 }
     requires enough { call.count ≤ length (activation_of activation.now).operands.values }
-    ensures { asked.new ≡ want.Post (record (request_by poster call name (activation_of activation.now)) { is_waited = false }) }
+    ensures { asked.new ≡ want.Post (record (request_by poster call (activation_of activation.now)) { is_waited = false }) }
 {
     *asked = Want::Post(Request {
         poster: Some(poster),
         target: call.object,
-        errand: Errand::Calls(name),
+        errand: Errand::Calls(call.name),
         actuals: ArrayVec::new(),
         is_waited: false,
     });
@@ -73,27 +59,21 @@ fn ask_posted(
     }
 }
 
-/// The call of the routine is asked, by its name's number.
+/// The call of the routine is asked.
 #[tactic(auto, using(crate::proofs::Asked::asks_waited, crate::proofs::Asked::asks_posted))]
-fn ask_by(
-    activation: &Activation,
-    poster: HandlerNumber,
-    call: RemoteCall,
-    name: NameNumber,
-    asked: &mut Want,
-)
+fn ask_by(activation: &Activation, poster: HandlerNumber, call: RemoteCall, asked: &mut Want)
     requires few { call.count < 17 }
     requires enough { call.count ≤ length (activation_of activation.now).operands.values }
-    ensures { asked.new ≡ asks_sent (request_by poster call name (activation_of activation.now)) call.passes }
+    ensures { asked.new ≡ asks_sent (request_by poster call (activation_of activation.now)) call.passes }
 {
     if is_waited(call) {
-        ask_waited(activation, poster, call, name, asked);
+        ask_waited(activation, poster, call, asked);
     } else {
-        ask_posted(activation, poster, call, name, asked);
+        ask_posted(activation, poster, call, asked);
     }
 }
 
-/// The call of the routine is asked, where its name has a number and its operands are there: whether it is.
+/// The call of the routine is asked, where its operands are there: whether it is.
 fn ask_of(
     activation: &Activation,
     poster: HandlerNumber,
@@ -104,13 +84,10 @@ fn ask_of(
     ensures few { IsTrue result → call.count < 17 }
     ensures want { IsTrue result → asked.new ≡ asks_sending (request_of poster call (activation_of activation.now)) call.passes }
 {
-    let Some(name) = name_number(call.name) else {
-        return false;
-    };
     if !has_call(activation, call.count) {
         return false;
     }
-    ask_by(activation, poster, call, name, asked);
+    ask_by(activation, poster, call, asked);
     true
 }
 
@@ -153,8 +130,7 @@ fn send(store: &mut Store<'_>, call: RemoteCall)
 }
 
 /// A feature of an object of another handler is called by this one, by its name: F16 where there are fewer operands than the
-/// call takes, or more actuals than a request has room for, or the name has no number there. A query is waited for, and a
-/// call that passes locks.
+/// call takes, or more actuals than a request has room for. A query is waited for, and a call that passes locks.
 ///
 /// It stays a call: each turn would clear the request, if it were made where turns are done.
 #[inline(never)]

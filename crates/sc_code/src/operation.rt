@@ -4,6 +4,7 @@ ghost use Rattle.std.specs.Prelude.{◌≡◌};
 ghost use Rattle.sc_model.specs.Values.{default_of};
 ghost use Rattle.sc_code.specs.View.{default_value};
 
+use crate::numbers::NameNumber;
 use sc_class::ClassId;
 use sc_model::Cause;
 use sc_tree::{BinaryOperator, UnaryOperator};
@@ -54,7 +55,7 @@ pub enum Operation {
     /// An attribute of Current is read; F7 as for Result.
     PushAttribute {
         is_attached: bool,
-        name: usize,
+        name: NameNumber,
     },
     /// The kept value of the `old` of this number of the routine.
     PushOld(usize),
@@ -75,7 +76,7 @@ pub enum Operation {
     CallFeature(usize),
     StoreSlot(usize),
     /// An attribute of Current, by the number of its name.
-    StoreAttribute(usize),
+    StoreAttribute(NameNumber),
     StoreResult,
     /// A local gets its default.
     Initialize {

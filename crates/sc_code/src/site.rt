@@ -1,13 +1,13 @@
 //! What operations name that has no room in them.
 
-use crate::numbers::ClassNumber;
+use crate::numbers::{ClassNumber, NameNumber};
 use sc_class::ClassId;
 
 /// A call.
 #[derive(Clone, Copy)]
 pub struct CallSite {
     /// The number of the feature's name.
-    pub name: usize,
+    pub name: NameNumber,
     /// How many actuals it has.
     pub count: usize,
     /// Whether the value that it gives is of an attached type; None where it gives none.
@@ -24,7 +24,7 @@ pub struct CreationSite {
     /// The number of the class.
     pub class: ClassNumber,
     /// The number of the creation procedure's name, if it has one.
-    pub procedure: Option<usize>,
+    pub procedure: Option<NameNumber>,
     /// How many actuals it has.
     pub count: usize,
     /// Whether the creation request passes locks.

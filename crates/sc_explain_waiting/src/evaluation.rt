@@ -1,7 +1,7 @@
 //! The code of a routine, gone through once more from where it stands: without any effect, on the objects as they are.
 
 use crate::frame::{Frame, Values};
-use sc_code::{CallSite, FeatureCode, Operation, Program};
+use sc_code::{CallSite, FeatureCode, NameNumber, Operation, Program};
 use sc_lockpass::HandlerNumber;
 use sc_region::{Reference, Value};
 use sc_world::World;
@@ -234,7 +234,7 @@ impl<'r> Evaluation<'r> {
     }
 
     /// An attribute of Current gets the last operand: whether it can be gone on.
-    fn store_attribute(&mut self, name: usize) -> bool {
+    fn store_attribute(&mut self, name: NameNumber) -> bool {
         let object = self.frame.current;
         let version = self.version(object, name);
         match (self.values.pop(&self.frame), version) {
@@ -316,12 +316,12 @@ impl<'r> Evaluation<'r> {
     }
 
     /// What a feature of this name is in the class of an object.
-    fn version(&self, object: Reference, name: usize) -> Option<FeatureCode> {
+    fn version(&self, object: Reference, name: NameNumber) -> Option<FeatureCode> {
         let class = self.program.classes().get(object.class as usize)?;
-        *class.features.get(name)?
+        *class.features.get(name as usize)?
     }
 
-    fn own_attribute(&self, name: usize) -> Option<Value> {
+    fn own_attribute(&self, name: NameNumber) -> Option<Value> {
         match self.version(self.frame.current, name)? {
             FeatureCode::Attribute(number) => self.attribute(self.frame.current, number),
             FeatureCode::Routine(_) => None,

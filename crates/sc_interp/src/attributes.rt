@@ -12,12 +12,12 @@ use crate::calling::has_name;
 use crate::evaluation::read;
 use crate::passing::{pass_last, push_found};
 use sc_acts::version_in;
-use sc_code::FeatureCode;
+use sc_code::{FeatureCode, NameNumber};
 use sc_model::Cause;
 use sc_region::{ObjectNumber, Reference, Store, Value};
 
 /// The number of the attribute of this name of the object.
-fn attribute_number(store: &Store<'_>, object: ObjectNumber, name: usize) -> Option<usize>
+fn attribute_number(store: &Store<'_>, object: ObjectNumber, name: NameNumber) -> Option<usize>
     ensures { result ≡ named_attribute store.now object name }
 {
     let class = store.class_of(object)?;
@@ -28,7 +28,7 @@ fn attribute_number(store: &Store<'_>, object: ObjectNumber, name: usize) -> Opt
 }
 
 /// The attribute of this name of the object.
-pub fn attribute_value(store: &Store<'_>, object: ObjectNumber, name: usize) -> Option<Value>
+pub fn attribute_value(store: &Store<'_>, object: ObjectNumber, name: NameNumber) -> Option<Value>
     ensures { IsAttribute store.now object name result }
 {
     match attribute_number(store, object, name) {
@@ -38,7 +38,7 @@ pub fn attribute_value(store: &Store<'_>, object: ObjectNumber, name: usize) -> 
 }
 
 /// Whether the program of the store has a name of the number.
-pub fn is_name(store: &Store<'_>, name: usize) -> bool
+pub fn is_name(store: &Store<'_>, name: NameNumber) -> bool
     ensures { slice_get (pool_of store.now.program.pool).names name ≡ (if result then Some (listed (pool_of store.now.program.pool).names name) else None) }
 {
     has_name(store.program().pool(), name)
@@ -49,7 +49,7 @@ pub fn push_attribute(
     store: &mut Store<'_>,
     me: Reference,
     count: usize,
-    name: usize,
+    name: NameNumber,
     is_attached: bool,
 ) -> Result<(), Cause>
     ensures plays { Plays me count (coded.PushAttribute is_attached name) (stepped result) store.old store.new }
@@ -87,7 +87,7 @@ fn assign(
     store: &mut Store<'_>,
     me: Reference,
     count: usize,
-    name: usize,
+    name: NameNumber,
     value: Value,
 ) -> Result<(), Cause>
     requires last { IsLast store.old value }
@@ -111,7 +111,7 @@ pub fn store_attribute(
     store: &mut Store<'_>,
     me: Reference,
     count: usize,
-    name: usize,
+    name: NameNumber,
 ) -> Result<(), Cause>
     ensures plays { Plays me count (coded.StoreAttribute name) (stepped result) store.old store.new }
     ensures remains { Remains store.old store.new }

@@ -11,19 +11,19 @@ ghost use Rattle.sc_interp.specs.Told.{IsCallIn, IsCreationIn, OnComes, Tells};
 
 use crate::hops::Hop;
 use sc_acts::{Act, Calling, RemoteCreation};
-use sc_code::{CallSite, ConstantPool, CreationSite, Program};
+use sc_code::{CallSite, ConstantPool, CreationSite, NameNumber, Program};
 use sc_model::Cause;
 use sc_region::{Activation, Reference};
 
 /// Whether there is a name of the number.
-pub fn has_name(pool: &ConstantPool, name: usize) -> bool
+pub fn has_name(pool: &ConstantPool, name: NameNumber) -> bool
     ensures { slice_get (pool_of pool.now).names name ≡ (if result then Some (listed (pool_of pool.now).names name) else None) }
 {
-    name < pool.names.len()
+    (name as usize) < pool.names.len()
 }
 
 /// Whether there is a name of the number, where a number is given.
-fn has_procedure(pool: &ConstantPool, procedure: Option<usize>) -> bool
+fn has_procedure(pool: &ConstantPool, procedure: Option<NameNumber>) -> bool
     ensures { named (pool_of pool.now).names procedure ≡ (if result then Some (option_map (listed (pool_of pool.now).names) procedure) else None) }
 {
     match procedure {

@@ -17,7 +17,7 @@ use crate::evaluation::read;
 use crate::hops::{Hop, stepped};
 use crate::passing::replace;
 use sc_acts::{Act, Calling, RemoteCall, version_in};
-use sc_code::{CallSite, FeatureCode};
+use sc_code::{CallSite, FeatureCode, NameNumber};
 use sc_model::Cause;
 use sc_region::{Activation, Reference, Store, Value};
 
@@ -30,7 +30,7 @@ pub enum FoundFeature {
 }
 
 /// What the feature of this name of an object of this handler is, if there are both.
-pub fn feature_of(store: &Store<'_>, object: Reference, name: usize) -> Option<FoundFeature>
+pub fn feature_of(store: &Store<'_>, object: Reference, name: NameNumber) -> Option<FoundFeature>
     ensures { IsFeature store.now object name result }
 {
     match store.class_of(object.number) {
@@ -210,7 +210,7 @@ fn call_on(
 }
 
 /// What the feature of this name of the target is, where that is an object.
-fn feature_at(store: &Store<'_>, target: Value, name: usize) -> Option<FoundFeature>
+fn feature_at(store: &Store<'_>, target: Value, name: NameNumber) -> Option<FoundFeature>
     ensures { IsFeatureAt store.now target name result }
 {
     match target {

@@ -11,18 +11,19 @@ ghost use Rattle.sc_routines.specs.Unlinked.{operation_in, unlinked, unlinked_ca
 
 use crate::link_pools::add;
 use crate::link_tables::Linker;
-use sc_code::{CallSite, ClassNumber, CreationSite, Heads, ObjectTest, Operation, TestedType};
+use sc_code::{
+    CallSite, ClassNumber, CreationSite, Heads, NameNumber, ObjectTest, Operation, TestedType,
+};
 use sc_routines::{SitedOperation, UnlinkedCall, UnlinkedCreation, UnlinkedOperation};
 use std::alloc::AllocError;
 
 /// The number of a name.
 #[tactic(auto, using(crate::proofs::Growth::growing))]
-fn name<'s>(linker: &mut Linker<'s>, text: &'s str) -> Result<usize, AllocError>
+fn name<'s>(linker: &mut Linker<'s>, text: &'s str) -> Result<NameNumber, AllocError>
     ensures found { IfOk result (λ number. slice_get (pool_in linker.new).names number ≡ Some text.now) }
     ensures grows { OnOk result (Grows (pool_in linker.old) (pool_in linker.new)) }
 {
-    let number = linker.names.number(text)?;
-    Ok(number as usize)
+    linker.names.number(text)
 }
 
 /// The number of a new text.
@@ -58,7 +59,7 @@ fn call<'s>(linker: &mut Linker<'s>, call: &UnlinkedCall<'s>) -> Result<usize, A
 fn procedure<'s>(
     linker: &mut Linker<'s>,
     procedure: Option<&'s str>,
-) -> Result<Option<usize>, AllocError>
+) -> Result<Option<NameNumber>, AllocError>
     ensures found { IfOk result (λ number. named (pool_in linker.new).names number ≡ Some (option_copied procedure.entry)) }
     ensures grows { OnOk result (Grows (pool_in linker.old) (pool_in linker.new)) }
 {

@@ -84,7 +84,7 @@ use Rattle.sc_refines_turn.proofs.Quiet.{exits_here}
 use Rattle.sc_refines_turn.proofs.Refusals.{refusal}
 use Rattle.sc_refines_turn.proofs.ValueRoom.{answers_have_room}
 use Rattle.sc_refines_turn.proofs.ShownSteps.{creates_is, exits_is, fails_is}
-use Rattle.sc_refines_turn.proofs.ToldOperations.{call_there, creation_there, enter_there, few_actuals, heads_there, name_fits, name_there, numbered, operands_there, procedure_fits, procedure_numbered, procedure_there, ready_in, small_creation}
+use Rattle.sc_refines_turn.proofs.ToldOperations.{call_there, creation_there, enter_there, few_actuals, heads_there, name_there, numbered, operands_there, procedure_numbered, procedure_there, ready_in, small_creation}
 
 -- ---- objects
 
@@ -430,7 +430,7 @@ module _ (serve : ProgramsServe) (h : ℕ) (y : PlainStore) (sound : IsSound y) 
       let requests = program_there (hop.Comes a) b comes in
       let name = name_there b.program k n call.gives q.2.named in (
         numbered b k requests name,
-        subst (λ o. MayRequest k n o) (sym q.1) (name_fits b.program k requests name, call_there n q.0 (few_actuals b.program k n call.gives requests q.2.named) q.2.operands),
+        subst (λ o. MayRequest n o) (sym q.1) (call_there n q.0 (few_actuals b.program k n call.gives requests q.2.named) q.2.operands),
       )
   may_act (act.Create class None n) b comes told_so = may_create_alone class n b comes told_so
   may_act (act.Create class (Some k) n) b comes told_so = may_create_by class k n b comes told_so
@@ -444,7 +444,7 @@ module _ (serve : ProgramsServe) (h : ℕ) (y : PlainStore) (sound : IsSound y) 
       let small = small_creation b.program class k n requests q.2.named in
       let name = procedure_there b.program class k n q.2.named in (
         procedure_numbered b k requests name,
-        subst (λ o. MayCreate k n o) (sym q.1) (procedure_fits b.program k requests name, creation_there n q.0 small.0 q.2.operands (q.2.room refl)),
+        subst (λ o. MayCreate n o) (sym q.1) (creation_there n q.0 small.0 q.2.operands (q.2.room refl)),
       )
   may_act (act.Open first n) b comes told_so =
       let a = act.Open first n in

@@ -1,10 +1,7 @@
 -- What a turn makes of a store, and what it asks, where the operation that it came to was told.
 use Rattle.std.proofs.Common.{◌≡◌, ◌≤◌, ◌<◌, ℕ, zero, suc, ◌+◌, Bool, true, false, not, List, [], ◌∷◌, Option, Some, None, length, drop, refl, sym, ap, ◌∙◌, subst, arith}
-use Rattle.std.proofs.lemmas.Option.{slice_get_within}
 use Rattle.std.specs.Prelude.{◌||◌, ◌&&◌, nat_lt, slice_get, slice_set, if◌then◌else◌}
-use Rattle.std.specs.Option.{option_map, option_and_then}
 use Rattle.sc_code.specs.declared.program.Image.{Image}
-use Rattle.sc_code.specs.Programs.{pool_of}
 use Rattle.sc_code.specs.RequestRoom.{FitsRequests}
 use Rattle.sc_region.specs.declared.frame.Stage.TheVariants as stage
 use Rattle.sc_region.specs.declared.value.Reference.{Reference}
@@ -33,7 +30,7 @@ use Rattle.sc_acts.specs.Blocks.{heads_in, may_open, opened_with}
 use Rattle.sc_acts.specs.CreatingHandlers as creating
 use Rattle.sc_acts.specs.CreatingHandlers.{created_as, creation_by, creation_in, creation_of, creation_with, may_create}
 use Rattle.sc_acts.specs.CreatingObjects.{created_with}
-use Rattle.sc_acts.specs.Operands.{has_actuals, has_call, name_number, procedure_number}
+use Rattle.sc_acts.specs.Operands.{has_actuals, has_call}
 use Rattle.sc_acts.specs.Requesting as requesting
 use Rattle.sc_acts.specs.Requesting.{call_of, request_by, request_in, request_of, sent}
 use Rattle.sc_refines_turn.specs.Acting as acting
@@ -129,16 +126,6 @@ small_creation p class x n fits c =
     let l = fits.creations c.is_creation.number c.site c.is_creation.there in
     (subst (λ n. n < 17) c.count l.0, subst (λ k. k < 256) c.class l.1)
 
-pub name_fits : (p : Image) (x : ℕ) → FitsRequests p → HasName p x → name_number x ≡ Some x
-name_fits p x fits e =
-    let l = slice_get_within (pool_of p.pool).names x (name_at p x) e in
-    let few = fits.names in
-    ap (λ b. if b then Some x else None) (less_is x 4294967296 (omega (arith, l, few)))
-
-pub procedure_fits : (p : Image) (x : Option ℕ) → FitsRequests p → HasProcedure p x → procedure_number x ≡ Some x
-procedure_fits p None fits e = refl
-procedure_fits p (Some x) fits e = ap (λ o. option_map (λ (k : ℕ). Some k) o) (name_fits p x fits e)
-
 pub numbered : (z : PlainStore) (x : ℕ) → FitsRequests z.program → HasName z.program x → IsNumbered z x
 numbered z x fits e = distinct_names_have_numbers (names_of z) x (name_at z.program x) fits.distinct e
 
@@ -162,19 +149,16 @@ module _ (serve : ProgramsServe) where
       let a = b.0 in
       let c = call_of r k n gives passes in
       let name = name_there z.program k n gives b.2.named in
-      let fits = name_fits z.program k t.fits name in
       let there = call_there n a (few_actuals z.program k n gives t.fits b.2.named) b.2.operands in
-      let asked : request_in h c (top_activation z.frames) ≡ Some (request_by h c k a) =
-      ap (request_in h c) b.1
-      ∙ ap (λ q. option_and_then (λ name. if has_call n a then Some (request_by h c name a) else None) q) fits
-      ∙ ap (λ b. if b then Some (request_by h c k a) else None) there in
+      let asked : request_in h c (top_activation z.frames) ≡ Some (request_by h c a) =
+      ap (request_in h c) b.1 ∙ ap (λ b. if b then Some (request_by h c a) else None) there in
       let made : on_top (acting.sending r n gives passes) z ≡ acted h (act.Request (call_of r k n gives passes)) z =
       top_same (acting.sending r n gives passes) (requesting.sending c) (λ a. await_same (passes || gives) r.handler gives false (without_last (past n a))) z ∙ sym (ap (λ q. sent q c z) asked) in
       let turns : Turns h (act.Request (call_of r k n gives passes)) y z = λ s x is region. subst (λ w. IsRegionOf s (turn s h x) w) made (requests_are_made serve r k n gives passes y z t.comes s h x is region) in (
         turns,
         λ s x is region.
             requests_ask serve h r k n gives passes y z (acted h (act.Request (call_of r k n gives passes)) z) t.comes (numbered z k t.fits name)
-            (subst (λ o. MayRequest k n o) (sym b.1) (fits, there)) s x is region (turns s x is region),
+            (subst (λ o. MayRequest n o) (sym b.1) there) s x is region (turns s x is region),
       )
 
   pub told_handlers_are_created : ToldHandlersAreCreated
@@ -185,12 +169,9 @@ module _ (serve : ProgramsServe) where
       let c = creation_with class k n passes in
       let small = small_creation z.program class k n t.fits b.2.named in
       let name = procedure_there z.program class k n b.2.named in
-      let fits = procedure_fits z.program k t.fits name in
       let there = creation_there n a small.0 b.2.operands (b.2.room refl) in
-      let asked : creation_in c (top_activation z.frames) ≡ Some (creation_by c k a) =
-      ap (creation_in c) b.1
-      ∙ ap (λ q. option_and_then (λ procedure. if may_create n a then Some (creation_by c procedure a) else None) q) fits
-      ∙ ap (λ b. if b then Some (creation_by c k a) else None) there in
+      let asked : creation_in c (top_activation z.frames) ≡ Some (creation_by c a) =
+      ap (creation_in c) b.1 ∙ ap (λ b. if b then Some (creation_by c a) else None) there in
       let made : on_top (acting.creating h class n passes) z ≡ acted h o z =
       top_same (acting.creating h class n passes) (creating.creating (creating.first_object h class) c) (λ a. await_same passes h false true (with_reference (acting.first_object h class) (past n a))) z
       ∙ sym (ap (λ q. created_as q (creating.first_object h class) c z) asked) in
@@ -198,7 +179,7 @@ module _ (serve : ProgramsServe) where
         turns,
         λ s x is region.
             creations_ask serve h class k n passes y z (acted h o z) t.comes (procedure_numbered z k t.fits name)
-            (subst (λ o. MayCreate k n o) (sym b.1) (fits, there)) s x is region (turns s x is region),
+            (subst (λ o. MayCreate n o) (sym b.1) there) s x is region (turns s x is region),
       )
 
   pub told_blocks_begin : ToldBlocksBegin

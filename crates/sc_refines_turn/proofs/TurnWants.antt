@@ -3,7 +3,7 @@ use Rattle.std.proofs.Common.{◌≡◌, ℕ, zero, suc, ◌+◌, ◌-◌, Bool,
 use Rattle.std.proofs.lemmas.List.{reverse-append}
 use Rattle.std.proofs.lemmas.Slice.Eq.{bytes_eq-Decides}
 use Rattle.std.specs.Prelude.{◌||◌, ◌&&◌, bytes_eq, slice_get, if◌then◌else◌}
-use Rattle.std.specs.Option.{option_map, option_and_then}
+use Rattle.std.specs.Option.{option_map}
 use Rattle.sc_tree.specs.Plain.{System}
 use Rattle.sc_model.specs.declared.cause.Cause.{Cause}
 use Rattle.sc_model.specs.declared.cause.Cause.TheVariants as cause
@@ -55,7 +55,7 @@ use Rattle.sc_acts.proofs.Options.{some_same}
 use Rattle.sc_acts.specs.Blocks.{asks_leaving, asks_left, innermost}
 use Rattle.sc_acts.specs.CreatingHandlers.{asks_creating, creation_by, creation_in, creation_with, may_create}
 use Rattle.sc_acts.specs.CreatingHandlers as creating
-use Rattle.sc_acts.specs.Operands.{has_call, name_number, procedure_number}
+use Rattle.sc_acts.specs.Operands.{has_call}
 use Rattle.sc_acts.specs.Requesting.{asks_requesting, asks_sending, call_of, request_by, request_of}
 use Rattle.sc_refines_turn.specs.Acting.{AreWhole, Comes, Meets}
 use Rattle.sc_refines_turn.specs.Wanting.{BlockEndsAsk, CreationsAsk, DistinctNamesHaveNumbers, IsNumbered, IsProcedure, MayCreate, MayRequest, RefusalsAsk, RequestsAsk, RoutineEndsAsk}
@@ -272,13 +272,12 @@ module _ (serve : ProgramsServe) where
       let number : number_among seen.name (names_of y) ≡ k = ap (λ t. number_among t (names_of y)) seen.name_is ∙ numbered_in k y z comes.remains.program numbered in
       let vs : map asked.value_of (values.values_of seen.actuals) ≡ last_values n a.operands.values =
       ap (map asked.value_of) (seen.actuals_are ∙ sym (values_taken n [] a.operands.values)) ∙ values_back (last_values n a.operands.values) in
-      let may_here = subst (λ fs. MayRequest k n (top_activation fs)) m.frames may in
+      let may_here = subst (λ fs. MayRequest n (top_activation fs)) m.frames may in
       let c = call_of r k n gives passes in
       let asks : asked.asks_requesting names h (reference_of r) seen.name seen.actuals (passes || gives) passes ≡ asks_requesting h c (Some a) =
       sends (passes || gives) (asked.request_by names h (reference_of r) seen.name seen.actuals) (posted h r k (last_values n a.operands.values))
       (λ b. ap (λ j. posted h r j (map asked.value_of (values.values_of seen.actuals)) b) number ∙ ap (λ us. posted h r k us b) vs) passes
-      ∙ sym (ap (λ q. asks_sending (option_and_then (λ name. if has_call n a then Some (request_by h c name a) else None) q) passes) may_here.0
-      ∙ ap (λ b. asks_sending (if b then Some (request_by h c k a) else None) passes) may_here.1) in
+      ∙ sym (ap (λ b. asks_sending (if b then Some (request_by h c a) else None) passes) may_here) in
       told_by names s h x w (asked.asks_requesting names h (reference_of r) seen.name seen.actuals (passes || is_some seen.type) passes) left_so
       (asked_is s x o y z m names h (model.Requests (reference_of r) seen.name seen.actuals seen.type passes) seen.act)
       ∙ ap (unless_failed w.failure)
@@ -300,13 +299,12 @@ module _ (serve : ProgramsServe) where
       ap (option_map (λ t. number_among t (names_of y))) seen.procedure_is ∙ procedure_in k y z comes.remains.program numbered in
       let vs : map asked.value_of (values.values_of seen.actuals) ≡ last_values n a.operands.values =
       ap (map asked.value_of) (seen.actuals_are ∙ sym (values_taken n [] a.operands.values)) ∙ values_back (last_values n a.operands.values) in
-      let may_here = subst (λ fs. MayCreate k n (top_activation fs)) m.frames may in
+      let may_here = subst (λ fs. MayCreate n (top_activation fs)) m.frames may in
       let c = creation_with class k n passes in
       let v = want.Create class (option_map (λ t. number_among t (names_of y)) seen.procedure) (record { items = map asked.value_of (values.values_of seen.actuals) }) passes in
       let asks : v ≡ asks_creating c (Some a) =
       ap (λ j. want.Create class j (record { items = map asked.value_of (values.values_of seen.actuals) }) passes) number
       ∙ ap (λ us. want.Create class k (record { items = us }) passes) vs
-      ∙ sym (ap (λ q. creating.asks_created (option_and_then (λ procedure. if may_create n a then Some (creation_by c procedure a) else None) q)) may_here.0
-      ∙ ap (λ b. creating.asks_created (if b then Some (creation_by c k a) else None)) may_here.1) in
+      ∙ sym (ap (λ b. creating.asks_created (if b then Some (creation_by c a) else None)) may_here) in
       told_by names s h x w v left_so (asked_is s x o y z m names h (model.CreatesHandler class seen.procedure seen.actuals seen.type passes) seen.act)
       ∙ ap (unless_failed w.failure) (asks ∙ sym (ap (λ fs. asks_creating c (top_activation fs)) m.frames))

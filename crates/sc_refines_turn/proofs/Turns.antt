@@ -83,7 +83,7 @@ taken_many (suc n) us (v ∷ vs) l = let rest = taken_many n (v ∷ us) vs (omeg
 last_many : (n : ℕ) (vs : List Value) → n ≤ length vs → length (last_values n vs) ≡ n
 last_many n vs l = let many = taken_many n [] vs l in omega (arith, many)
 
-requested_is : (h : ℕ) (r : Reference) (k n : ℕ) (gives passes : Bool) (z : PlainStore) → MayRequest k n (top_activation z.frames) →
+requested_is : (h : ℕ) (r : Reference) (k n : ℕ) (gives passes : Bool) (z : PlainStore) → MayRequest n (top_activation z.frames) →
     on_top (sending r n gives passes) z ≡ requested h (call_of r k n gives passes) z
 requested_is h r k n gives passes z may = by_waits (passes || gives) ∙ by (top_activation z.frames) may
   where
@@ -92,15 +92,14 @@ requested_is h r k n gives passes z may = by_waits (passes || gives) ∙ by (top
     by_waits true = refl
     by_waits false = refl
 
-    by : (o : Option PlainActivation) → MayRequest k n o →
+    by : (o : Option PlainActivation) → MayRequest n o →
         on_top (requesting.sending (call_of r k n gives passes)) z ≡ sent (requesting.request_in h (call_of r k n gives passes) o) (call_of r k n gives passes) z
     by None may = absurd may
     by (Some a) may =
         let c = call_of r k n gives passes in
-        sym (ap (λ q. sent (option_and_then (λ name. if has_call n a then Some (request_by h c name a) else None) q) c z) may.0
-        ∙ ap (λ b. sent (if b then Some (request_by h c k a) else None) c z) may.1)
+        sym (ap (λ b. sent (if b then Some (request_by h c a) else None) c z) may)
 
-handler_created_is : (h class : ℕ) (k : Option ℕ) (n : ℕ) (passes : Bool) (z : PlainStore) → MayCreate k n (top_activation z.frames) →
+handler_created_is : (h class : ℕ) (k : Option ℕ) (n : ℕ) (passes : Bool) (z : PlainStore) → MayCreate n (top_activation z.frames) →
     on_top (creating h class n passes) z ≡ handler_created h (creation_with class k n passes) z
 handler_created_is h class k n passes z may = by_waits passes ∙ by (top_activation z.frames) may
   where
@@ -109,14 +108,13 @@ handler_created_is h class k n passes z may = by_waits passes ∙ by (top_activa
     by_waits true = refl
     by_waits false = refl
 
-    by : (o : Option PlainActivation) → MayCreate k n o →
+    by : (o : Option PlainActivation) → MayCreate n o →
         on_top (creating_handlers.creating (acting.first_object h class) (creation_with class k n passes)) z
         ≡ creating_handlers.created_as (creating_handlers.creation_in (creation_with class k n passes) o) (acting.first_object h class) (creation_with class k n passes) z
     by None may = absurd may
     by (Some a) may =
         let c = creation_with class k n passes in
-        sym (ap (λ q. creating_handlers.created_as (option_and_then (λ procedure. if may_create n a then Some (creation_by c procedure a) else None) q) (acting.first_object h class) c z) may.0
-        ∙ ap (λ b. creating_handlers.created_as (if b then Some (creation_by c k a) else None) (acting.first_object h class) c z) may.1)
+        sym (ap (λ b. creating_handlers.created_as (if b then Some (creation_by c a) else None) (acting.first_object h class) c z) may)
 
 written_is : (k : ℕ) (us vs : List Value) → acting.written k us vs ≡ blocks.written k us vs
 written_is k [] vs = refl

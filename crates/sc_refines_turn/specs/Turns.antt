@@ -45,10 +45,10 @@ MayCreateHere h class (Some k) n z =
 -- they are whole, and a routine that ends has a Result for its caller.
 abbrev pub MayAct : ℕ → Act → PlainStore → Type 0
 MayAct h (act.Enter c r k n gives) z = IsNameOf (names_of z) k × HasCall c n (top_activation z.frames)
-MayAct h (act.Request q) z = IsNumbered z q.name × MayRequest q.name q.count (top_activation z.frames)
+MayAct h (act.Request q) z = IsNumbered z q.name × MayRequest q.count (top_activation z.frames)
 MayAct h (act.Create class k n) z = MayCreateHere h class k n z
 MayAct h (act.CreateHandler q) z =
-    IsProcedure z q.procedure × MayCreate q.procedure q.count (top_activation z.frames)
+    IsProcedure z q.procedure × MayCreate q.count (top_activation z.frames)
 MayAct h (act.Open first n) z = MayOpen first n (top_activation z.frames)
 MayAct h (act.Refuse k) z = AreWhole z
 MayAct h act.Exit z = AreWhole z × TakesResult z.frames

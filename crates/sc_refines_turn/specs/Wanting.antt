@@ -18,7 +18,7 @@ use Rattle.sc_acts.specs.Tables.{formals_at, name_at}
 use Rattle.sc_acts.specs.Turning.{unless_failed}
 use Rattle.sc_acts.specs.Blocks.{asks_leaving}
 use Rattle.sc_acts.specs.CreatingHandlers.{asks_creating, creation_with, may_create}
-use Rattle.sc_acts.specs.Operands.{has_call, name_number, procedure_number}
+use Rattle.sc_acts.specs.Operands.{has_call}
 use Rattle.sc_acts.specs.Requesting.{asks_requesting, call_of}
 use Rattle.sc_refines_turn.specs.Acting.{AreWhole, Comes}
 
@@ -64,28 +64,28 @@ BlockEndsAsk = (h : ℕ) (y z w : PlainStore) → Comes (hop.Comes act.Leave) y 
 
 -- ---- requests and handlers
 
--- The name's number has room in a request, and the operands are there.
-abbrev pub MayRequest : ℕ → ℕ → Option PlainActivation → Type 0
-MayRequest k n None = ⊥
-MayRequest k n (Some a) = (name_number k ≡ Some k) × (has_call n a ≡ true)
+-- The operands are there.
+abbrev pub MayRequest : ℕ → Option PlainActivation → Type 0
+MayRequest n None = ⊥
+MayRequest n (Some a) = has_call n a ≡ true
 
 -- A call on an object of another handler asks for its request.
 abbrev pub RequestsAsk : Type 0
 RequestsAsk =
     (h : ℕ) (r : Reference) (k n : ℕ) (gives passes : Bool) (y z w : PlainStore) →
     Comes (hop.Comes (act.Request (call_of r k n gives passes))) y z → IsNumbered z k →
-    MayRequest k n (top_activation z.frames) →
+    MayRequest n (top_activation z.frames) →
     TurnAsks h y w (asks_requesting h (call_of r k n gives passes) (top_activation z.frames))
 
--- The number of the procedure has room, and the operands are there, with room for the reference.
-abbrev pub MayCreate : Option ℕ → ℕ → Option PlainActivation → Type 0
-MayCreate k n None = ⊥
-MayCreate k n (Some a) = (procedure_number k ≡ Some k) × (may_create n a ≡ true)
+-- The operands are there, with room for the reference.
+abbrev pub MayCreate : ℕ → Option PlainActivation → Type 0
+MayCreate n None = ⊥
+MayCreate n (Some a) = may_create n a ≡ true
 
 -- The creation of a handler asks for it.
 abbrev pub CreationsAsk : Type 0
 CreationsAsk =
     (h class : ℕ) (k : Option ℕ) (n : ℕ) (passes : Bool) (y z w : PlainStore) →
     Comes (hop.Comes (act.CreateHandler (creation_with class k n passes))) y z → IsProcedure z k →
-    MayCreate k n (top_activation z.frames) →
+    MayCreate n (top_activation z.frames) →
     TurnAsks h y w (asks_creating (creation_with class k n passes) (top_activation z.frames))

@@ -1,7 +1,6 @@
 -- What turns of a handler ask for names what the program has names for.
 use Rattle.std.proofs.Common.{◌≡◌, ℕ, Bool, true, false, ◌||◌, List, [], ◌∷◌, Option, Some, None, refl, sym, subst}
-use Rattle.std.specs.Prelude.{nat_lt, ◌==◌, if◌then◌else◌}
-use Rattle.std.specs.Option.{option_and_then, option_map}
+use Rattle.std.specs.Prelude.{◌==◌, if◌then◌else◌}
 use Rattle.sc_model.specs.declared.cause.Cause.{Cause}
 use Rattle.sc_code.specs.declared.program.Image.{Image}
 use Rattle.sc_code.specs.declared.program.RoutineCode.{RoutineCode}
@@ -42,7 +41,7 @@ use Rattle.sc_acts.specs.Blocks.{asks_left, asks_opened, heads_in, innermost_in}
 use Rattle.sc_acts.specs.CreatingHandlers.{asks_creating, creation_by, creation_of, creation_with, may_create}
 use Rattle.sc_acts.specs.CreatingHandlers as handlers
 use Rattle.sc_acts.specs.CreatingObjects as objects
-use Rattle.sc_acts.specs.Operands.{has_call, procedure_number}
+use Rattle.sc_acts.specs.Operands.{has_call}
 use Rattle.sc_acts.specs.Requesting.{asks_requesting, asks_sending, call_of, request_by}
 use Rattle.sc_play.specs.Taking as taking
 use Rattle.sc_play.specs.Taking.{taken}
@@ -110,33 +109,25 @@ module _ (names : List (List ℕ)) where
   -- ---- requests
 
   module _ (h : ℕ) (r : Reference) (k n : ℕ) (gives passes : Bool) (a : PlainActivation) (is : IsNameOf names k) where
-    sent_named : (b : Bool) → AsksNamed names (if b then want.Ask (request_by h (call_of r k n gives passes) k a) passes else want.Post (request_by h (call_of r k n gives passes) k a))
+    sent_named : (b : Bool) → AsksNamed names (if b then want.Ask (request_by h (call_of r k n gives passes) a) passes else want.Post (request_by h (call_of r k n gives passes) a))
     sent_named true = is
     sent_named false = is
 
     sending_named : AsksNamed names (asks_requesting h (call_of r k n gives passes) (Some a))
-    sending_named = by (nat_lt k 4294967296) (has_call n a)
+    sending_named = by (has_call n a)
       where
-        by : (b d : Bool) →
-            AsksNamed names (asks_sending (option_and_then (λ name. if d then Some (request_by h (call_of r k n gives passes) name a) else None) (if b then Some k else None)) passes)
-        by false d = tt
-        by true false = tt
-        by true true = sent_named (passes || gives)
+        by : (b : Bool) → AsksNamed names (asks_sending (if b then Some (request_by h (call_of r k n gives passes) a) else None) passes)
+        by false = tt
+        by true = sent_named (passes || gives)
 
   -- the number of the creation procedure is that of a name, if there is one
   module _ (class n : ℕ) (passes : Bool) (a : PlainActivation) where
-    numbered_named : (procedure : Option ℕ) (k : ℕ) (b d : Bool) → IsNameOf names k →
-        AsksNamed names (handlers.asks_created (option_and_then (λ o. if d then Some (creation_by (creation_with class procedure n passes) o a) else None)
-        (option_map (λ k. Some k) (if b then Some k else None))))
-    numbered_named procedure k false d is = tt
-    numbered_named procedure k true false is = tt
-    numbered_named procedure k true true is = is
-
-    creation_named : (procedure : Option ℕ) → IsNamed names (errand.Makes procedure) → (d : Bool) →
-        AsksNamed names (handlers.asks_created (option_and_then (λ o. if d then Some (creation_by (creation_with class procedure n passes) o a) else None) (procedure_number procedure)))
+    creation_named : (procedure : Option ℕ) → IsNamed names (errand.Makes procedure) → (b : Bool) →
+        AsksNamed names (handlers.asks_created (if b then Some (creation_by (creation_with class procedure n passes) a) else None))
     creation_named None is true = tt
     creation_named None is false = tt
-    creation_named (Some k) is d = numbered_named (Some k) k (nat_lt k 4294967296) d is
+    creation_named (Some k) is true = is
+    creation_named (Some k) is false = tt
 
     creating_named : (procedure : Option ℕ) → IsNamed names (errand.Makes procedure) → AsksNamed names (asks_creating (creation_with class procedure n passes) (Some a))
     creating_named procedure is = creation_named procedure is (may_create n a)

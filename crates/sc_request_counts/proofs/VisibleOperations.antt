@@ -2,7 +2,6 @@
 use Rattle.std.proofs.Common.{◌≡◌, ◌<◌, ◌-◌, ℕ, Bool, true, false, List, [], ◌∷◌, Option, Some, None, length, refl, sym, arith}
 use Rattle.std.specs.Prelude.{◌&&◌, ◌||◌, nat_lt, if◌then◌else◌}
 use Rattle.std.specs.Fmt.{signed_decimal}
-use Rattle.std.specs.Option.{option_and_then}
 use Rattle.sc_model.specs.declared.cause.Cause.TheVariants as cause
 use Rattle.sc_model.specs.Instructions.{boolean_text}
 use Rattle.sc_code.specs.declared.program.Image.{Image}
@@ -37,7 +36,6 @@ use Rattle.sc_acts.specs.Blocks.{asks_left, asks_opened, closing, heads_in, inne
 use Rattle.sc_acts.specs.CreatingHandlers as remote
 use Rattle.sc_acts.specs.CreatingHandlers.{created_as, creating, creation_by, creation_in, creation_with, first_object, may_create}
 use Rattle.sc_acts.specs.CreatingObjects.{asks_created, created_with}
-use Rattle.sc_acts.specs.Operands.{procedure_number}
 use Rattle.sc_acts.specs.Requesting.{asks_sending, asks_sent, awaiting_if, call_of, request_in, sending, sent}
 use Rattle.sc_request_counts.specs.Serving.{served}
 use Rattle.sc_request_counts.specs.Turns.{left_after}
@@ -154,19 +152,13 @@ created_left (Some name) y n = beginning_left y.program (top_activation y.frames
 -- ---- handlers
 
 module _ (class : ℕ) (procedure : Option ℕ) (k : ℕ) (passes : Bool) (n : ℕ) where
-  may_left : (b : Bool) (p : Option ℕ) (a : PlainActivation) →
-      left_after (remote.asks_created (if b then Some (creation_by (creation_with class procedure k passes) p a) else None)) n ≡ n
-  may_left true p a = refl
-  may_left false p a = refl
-
-  procedure_left : (o : Option (Option ℕ)) (a : PlainActivation) →
-      left_after (remote.asks_created (option_and_then (λ p. if may_create k a then Some (creation_by (creation_with class procedure k passes) p a) else None) o)) n ≡ n
-  procedure_left None a = refl
-  procedure_left (Some p) a = may_left (may_create k a) p a
+  may_left : (b : Bool) (a : PlainActivation) → left_after (remote.asks_created (if b then Some (creation_by (creation_with class procedure k passes) a) else None)) n ≡ n
+  may_left true a = refl
+  may_left false a = refl
 
   creation_left : (o : Option PlainActivation) → left_after (remote.asks_created (creation_in (creation_with class procedure k passes) o)) n ≡ n
   creation_left None = refl
-  creation_left (Some a) = procedure_left (procedure_number procedure) a
+  creation_left (Some a) = may_left (may_create k a) a
 
   created_as_serves : (o : Option Want) (r : Reference) (x : PlainStore) → Serving n x → Serving n (created_as o r (creation_with class procedure k passes) x)
   created_as_serves None r x s = failed_serves n cause.BadCode x

@@ -101,7 +101,7 @@ fn call(
     store: &mut Store<'_>,
     handler: HandlerNumber,
     request: &Request,
-    name: usize,
+    name: NameNumber,
     asked: &mut Want,
 ) -> Result<(), AllocError>
     requires { asked.old ≡ want.Continue }
@@ -162,7 +162,7 @@ fn make(
             Ok(())
         }
         Some(name) => {
-            let routine = routine_of(store.program(), request.target.class, name as usize);
+            let routine = routine_of(store.program(), request.target.class, name);
             bear(store, request, routine)?;
             ask_beginning(store, asked);
             Ok(())
@@ -186,7 +186,7 @@ fn take_errand(
     ensures kept { OnErr result (asked.new ≡ asked.old) }
 {
     match request.errand {
-        Errand::Calls(name) => call(store, handler, request, name as usize, asked),
+        Errand::Calls(name) => call(store, handler, request, name, asked),
         Errand::Makes(procedure) => make(store, request, procedure, asked),
     }
 }
