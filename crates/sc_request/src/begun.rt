@@ -24,10 +24,10 @@ impl State {
         ensures version { self.new.rights.version ≡ self.old.rights.version }
     {
         match kind {
-            JobKind::Take => self.take_at(handler as usize),
-            JobKind::Reply => self.take_answer_at(handler as usize),
+            JobKind::Take => self.take_at(handler),
+            JobKind::Reply => self.take_answer_at(handler),
             JobKind::Granted(handlers) => {
-                self.stand(handler as usize, HandlerStage::Runs);
+                self.stand(handler, HandlerStage::Runs);
                 reserve_each(&mut self.rights, handler, handlers.as_slice());
             }
             JobKind::Made => self.go_on_with_made(handler),
@@ -43,21 +43,21 @@ impl State {
         ensures outs { outs_of self.new ≡ outs_of self.old }
         ensures version { self.new.rights.version ≡ self.old.rights.version }
     {
-        match self.awaited(handler as usize) {
+        match self.awaited(handler) {
             Some(supplier) => {
-                self.take_answer_at(handler as usize);
+                self.take_answer_at(handler);
                 self.end_sessions(&[supplier]);
             }
-            None => self.stand(handler as usize, HandlerStage::Runs),
+            None => self.stand(handler, HandlerStage::Runs),
         }
     }
 
     /// The handler for whose answer this one waits, if it waits.
-    fn awaited(&self, handler: usize) -> Option<HandlerNumber>
+    fn awaited(&self, handler: HandlerNumber) -> Option<HandlerNumber>
         requires { handler < 512 }
         ensures { result ≡ awaited ((plain self.now).handlers handler).stage }
     {
-        match self.handlers[handler].stage {
+        match self.handlers[handler as usize].stage {
             HandlerStage::Awaits {
                 supplier,
                 is_creation: _,

@@ -36,7 +36,7 @@ impl State {
         ensures version { self.new.rights.version ≡ self.old.rights.version }
         ensures places { length spare.old ≤ length spare.new }
     {
-        let mut service = self.pop_service(handler as usize, refused);
+        let mut service = self.pop_service(handler, refused);
         let Some(first) = service.front_mut() else {
             self.fail(handler, Cause::BadCode);
             return;
@@ -49,7 +49,7 @@ impl State {
 
     /// Takes the request that a handler serves, which stands then as it did when it took that. A refusal is counted
     /// where nobody waits.
-    fn pop_service(&mut self, handler: usize, refused: bool) -> LinkedList<Posting>
+    fn pop_service(&mut self, handler: HandlerNumber, refused: bool) -> LinkedList<Posting>
         requires there { handler < 512 }
         requires sound { IsSound (2 ^ 64 - 2) (2 ^ 63) (plain self.old) }
         ensures service { first_of (map service_of result) ≡ first_of ((plain self.old).handlers handler).services }
@@ -58,7 +58,7 @@ impl State {
         ensures rights { self.new.rights ≡ self.old.rights }
         ensures sessions { self.new.sessions ≡ self.old.sessions }
     {
-        self.handlers[handler].pop_service(refused)
+        self.handlers[handler as usize].pop_service(refused)
     }
 
     /// What was passed with a request returns, and its poster hears the answer, if it waits.

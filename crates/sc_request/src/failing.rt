@@ -29,7 +29,7 @@ impl State {
             queue,
             callback,
             services,
-        } = self.fall_at(handler as usize, why);
+        } = self.fall_at(handler, why);
         self.tell_posters(queue);
         self.tell_posters(callback);
         self.tell_posters(services);
@@ -68,7 +68,7 @@ impl State {
     {
         if request.is_waited {
             match request.poster {
-                Some(poster) => self.hear_at(poster as usize, answer),
+                Some(poster) => self.hear_at(poster, answer),
                 None => {}
             }
         }

@@ -86,7 +86,7 @@ impl State {
         ensures rights { self.new.rights ≡ self.old.rights }
         ensures sessions { self.new.sessions ≡ self.old.sessions }
     {
-        if self.is_reserving(handler as usize) {
+        if self.is_reserving(handler) {
             self.set_reserving(handler);
         } else {
             self.handlers[handler as usize].set_own();

@@ -83,7 +83,7 @@ impl State {
             supplier: made,
             is_creation: true,
         };
-        self.stand(handler as usize, stage);
+        self.stand(handler, stage);
         let mut passed = self.pass_if(true, handler, made);
         self.send(false, made, &request, request.is_waited, &mut passed, spare);
     }
@@ -106,7 +106,7 @@ impl State {
         ensures outs { outs_of self.new ≡ outs_of self.old }
         ensures version { self.new.rights.version ≡ self.old.rights.version }
     {
-        self.stand(handler as usize, HandlerStage::HasMade(made));
+        self.stand(handler, HandlerStage::HasMade(made));
         self.send(false, made, &request, request.is_waited, &mut None, spare);
         self.end_sessions(&[made]);
     }

@@ -18,7 +18,7 @@ use std::collections::LinkedList;
 
 impl State {
     /// The handler takes the next of its queue or its callback, as it stands.
-    pub(crate) fn take_at(&mut self, handler: usize)
+    pub(crate) fn take_at(&mut self, handler: HandlerNumber)
         requires there { handler < 512 }
         requires room { length ((plain self.old).handlers handler).services + 1 < 2 ^ 63 }
         ensures plain { let x = (plain self.old).handlers handler in plain self.new ≡ put handler (takes x.stage x) (plain self.old) }
@@ -26,22 +26,22 @@ impl State {
         ensures rights { self.new.rights ≡ self.old.rights }
         ensures sessions { self.new.sessions ≡ self.old.sessions }
     {
-        self.handlers[handler].take();
+        self.handlers[handler as usize].take();
     }
 
     /// The handler takes an answer.
-    pub(crate) fn take_answer_at(&mut self, handler: usize)
+    pub(crate) fn take_answer_at(&mut self, handler: HandlerNumber)
         requires { handler < 512 }
         ensures plain { plain self.new ≡ put handler (takes_answer ((plain self.old).handlers handler)) (plain self.old) }
         ensures outs { outs_of self.new ≡ outs_of self.old }
         ensures rights { self.new.rights ≡ self.old.rights }
         ensures sessions { self.new.sessions ≡ self.old.sessions }
     {
-        self.handlers[handler].take_answer();
+        self.handlers[handler as usize].take_answer();
     }
 
     /// The handler stands so from now on.
-    pub(crate) fn stand(&mut self, handler: usize, stage: HandlerStage)
+    pub(crate) fn stand(&mut self, handler: HandlerNumber, stage: HandlerStage)
         requires there { handler < 512 }
         requires kind { reserves_at stage ≡ false }
         ensures plain { plain self.new ≡ with_stage handler (stage_of [] [] stage) (plain self.old) }
@@ -49,7 +49,7 @@ impl State {
         ensures rights { self.new.rights ≡ self.old.rights }
         ensures sessions { self.new.sessions ≡ self.old.sessions }
     {
-        self.handlers[handler].stage = stage;
+        self.handlers[handler as usize].stage = stage;
     }
 
     /// The next step of the handler is the reserve step for these.
@@ -71,33 +71,33 @@ impl State {
     }
 
     /// The reserve step of the handler comes again, after a wait with this mark.
-    pub(crate) fn reserve_again(&mut self, handler: usize, mark: Mark)
+    pub(crate) fn reserve_again(&mut self, handler: HandlerNumber, mark: Mark)
         requires { handler < 512 }
         ensures plain { plain self.new ≡ with_stage handler (Reserves ((plain self.old).handlers handler).entry mark) (plain self.old) }
         ensures outs { outs_of self.new ≡ outs_of self.old }
         ensures rights { self.new.rights ≡ self.old.rights }
         ensures sessions { self.new.sessions ≡ self.old.sessions }
     {
-        let place = &mut self.handlers[handler];
+        let place = &mut self.handlers[handler as usize];
         place.stage = HandlerStage::Reserves;
         place.mark = mark;
     }
 
     /// The handler hears an answer.
-    pub(crate) fn hear_at(&mut self, handler: usize, answer: Answer)
+    pub(crate) fn hear_at(&mut self, handler: HandlerNumber, answer: Answer)
         requires { handler < 512 }
         ensures plain { plain self.new ≡ put handler (answered (answer_of answer) ((plain self.old).handlers handler)) (plain self.old) }
         ensures outs { outs_of self.new ≡ outs_of self.old }
         ensures rights { self.new.rights ≡ self.old.rights }
         ensures sessions { self.new.sessions ≡ self.old.sessions }
     {
-        self.handlers[handler].hear(answer);
+        self.handlers[handler as usize].hear(answer);
     }
 
     /// A request stands as the handler's callback, or at its queue's end, in this node.
     pub(crate) fn place_at(
         &mut self,
-        handler: usize,
+        handler: HandlerNumber,
         is_callback: bool,
         node: LinkedList<Posting>,
         request: &Request,
@@ -112,11 +112,11 @@ impl State {
         ensures rights { self.new.rights ≡ self.old.rights }
         ensures sessions { self.new.sessions ≡ self.old.sessions }
     {
-        self.handlers[handler].place(is_callback, node, request, is_waited, passed);
+        self.handlers[handler as usize].place(is_callback, node, request, is_waited, passed);
     }
 
     /// The handler has no frames and nothing that it is asked for, as it fails.
-    pub(crate) fn fall_at(&mut self, handler: usize, why: Cause) -> Dropped
+    pub(crate) fn fall_at(&mut self, handler: HandlerNumber, why: Cause) -> Dropped
         requires { handler < 512 }
         ensures queue { map posting_of result.queue ≡ ((plain self.old).handlers handler).queue }
         ensures callback { map posting_of result.callback ≡ to_list ((plain self.old).handlers handler).callback }
@@ -126,6 +126,6 @@ impl State {
         ensures rights { self.new.rights ≡ self.old.rights }
         ensures sessions { self.new.sessions ≡ self.old.sessions }
     {
-        self.handlers[handler].fall(why)
+        self.handlers[handler as usize].fall(why)
     }
 }

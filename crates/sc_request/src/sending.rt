@@ -40,8 +40,8 @@ impl State {
         ensures outs { outs_of self.new ≡ outs_of self.old }
         ensures version { self.new.rights.version ≡ self.old.rights.version }
     {
-        let target = request.target.handler as usize;
-        let is_callback = self.is_callback(handler, request.target.handler);
+        let target = request.target.handler;
+        let is_callback = self.is_callback(handler, target);
         if self.has_failed(target) {
             self.fail(handler, Cause::SupplierFailed);
             return;
@@ -87,19 +87,19 @@ impl State {
     }
 
     /// Whether the handler has failed.
-    pub(crate) fn has_failed(&self, handler: usize) -> bool
+    pub(crate) fn has_failed(&self, handler: HandlerNumber) -> bool
         requires { handler < 512 }
         ensures { result ≡ is_some ((plain self.now).handlers handler).failure }
     {
-        self.handlers[handler].failure.is_some()
+        self.handlers[handler as usize].failure.is_some()
     }
 
     /// Whether the handler's queue has room.
-    fn has_room(&self, handler: usize) -> bool
+    fn has_room(&self, handler: HandlerNumber) -> bool
         requires { handler < 512 }
         ensures { result ≡ nat_lt (length ((plain self.now).handlers handler).queue) max_queue }
     {
-        self.handlers[handler].queue.len() < MAX_QUEUE
+        self.handlers[handler as usize].queue.len() < MAX_QUEUE
     }
 
     /// A handler waits for the answer of its supplier, where the request is waited for.
@@ -115,7 +115,7 @@ impl State {
                 supplier,
                 is_creation: false,
             };
-            self.stand(handler as usize, stage);
+            self.stand(handler, stage);
         }
     }
 
@@ -161,13 +161,6 @@ impl State {
         ensures sessions { self.new.sessions ≡ self.old.sessions }
     {
         let node = take_first(spare);
-        self.place_at(
-            target as usize,
-            is_callback,
-            node,
-            request,
-            is_waited,
-            passed,
-        );
+        self.place_at(target, is_callback, node, request, is_waited, passed);
     }
 }

@@ -86,7 +86,7 @@ impl State {
         ensures version { self.new.rights.version ≡ self.old.rights.version }
     {
         let mark = Mark::of(handlers, self.sessions.as_slice());
-        self.reserve_again(handler as usize, mark);
+        self.reserve_again(handler, mark);
         release_each(&mut self.rights, handlers);
     }
 }

@@ -35,7 +35,7 @@ impl State {
                 reply: _,
                 released: _,
                 refused: _,
-            } => self.touch_posters(handler as usize, candidates),
+            } => self.touch_posters(handler, candidates),
             Want::Continue | Want::Reserve(_) | Want::Release(_) | Want::Wait(_) | Want::Fail(_) =>
                 {}
         }
@@ -43,11 +43,11 @@ impl State {
     }
 
     /// Adds those that posted what a handler serves, or takes next.
-    fn touch_posters(&self, handler: usize, candidates: &mut HandlerSet)
+    fn touch_posters(&self, handler: HandlerNumber, candidates: &mut HandlerSet)
         requires { handler < 512 }
         ensures { Adds (may_hear_from ((plain self.now).handlers handler)) candidates.old.words candidates.new.words }
     {
-        let place = &self.handlers[handler];
+        let place = &self.handlers[handler as usize];
         touch_first(&place.callback, candidates);
         touch_first(&place.queue, candidates);
         touch_first(&place.services, candidates);
@@ -66,8 +66,8 @@ impl State {
         ensures reserving { Puts handler (is_reserving ((plain self.now).handlers handler).stage) reserving.old.words reserving.new.words }
         ensures candidates { Wakes ((plain self.now).handlers handler) is_freeing reserving.new.words candidates.old.words candidates.new.words }
     {
-        reserving.set(handler as usize, self.is_reserving(handler as usize));
-        if self.has_failed(handler as usize) {
+        reserving.set(handler as usize, self.is_reserving(handler));
+        if self.has_failed(handler) {
             candidates.fill();
         } else if is_freeing {
             candidates.add(reserving);
@@ -75,11 +75,11 @@ impl State {
     }
 
     /// Whether the next step of a handler is a reserve step.
-    pub(crate) fn is_reserving(&self, handler: usize) -> bool
+    pub(crate) fn is_reserving(&self, handler: HandlerNumber) -> bool
         requires { handler < 512 }
         ensures { result ≡ is_reserving ((plain self.now).handlers handler).stage }
     {
-        match self.handlers[handler].stage {
+        match self.handlers[handler as usize].stage {
             HandlerStage::Reserves => true,
             HandlerStage::Idle
             | HandlerStage::Runs
