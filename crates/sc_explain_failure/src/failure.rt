@@ -123,7 +123,7 @@ fn push_failures(
 ) {
     for (handler, status) in statuses.iter().enumerate() {
         if let Status::Failed(cause) = status {
-            let number = handler.min(u16::MAX as usize) as HandlerNumber;
+            let number = handler.min(HandlerNumber::MAX as usize) as HandlerNumber;
             push_cause(lines, handler, *cause);
             push_failing(
                 origin,

@@ -51,7 +51,7 @@ pub fn moments_of(
     played: &Played<'_>,
 ) -> Result<Vec<Moment>, AllocError> {
     let mut moments = Vec::new(origin.alloc);
-    for handler in 0..ended.handler_count().min(u16::MAX as usize) {
+    for handler in 0..ended.handler_count().min(HandlerNumber::MAX as usize) {
         add_failure(origin.alloc, &mut moments, ended, handler as HandlerNumber)?;
         add_refusals(origin.alloc, &mut moments, ended, handler as HandlerNumber)?;
     }

@@ -1,5 +1,6 @@
 //! Routines whose code is gone through, and the values that they have.
 
+use sc_lockpass::HandlerNumber;
 use sc_region::{Activation, Reference, Value};
 use std::alloc::Global;
 
@@ -45,7 +46,7 @@ impl Values {
                 values.push(value);
             }
         }
-        for number in 0..u16::MAX {
+        for number in 0..HandlerNumber::MAX {
             match top.olds.get(number as usize) {
                 Some(value) => values.keep(value),
                 None => break,

@@ -72,7 +72,7 @@ pub fn keeper_of(core: &Core, handler: HandlerNumber) -> Option<HandlerNumber> {
 /// What each handler waits for, in order of number.
 pub fn waits_in(alloc: Global, world: &World<'_>) -> Result<Vec<Wait>, AllocError> {
     let mut waits = Vec::new(alloc);
-    for handler in 0..world.handler_count().min(u16::MAX as usize) {
+    for handler in 0..world.handler_count().min(HandlerNumber::MAX as usize) {
         waits.push(wait_of(world, handler as HandlerNumber))?;
     }
     Ok(waits)

@@ -2,7 +2,7 @@
 
 use crate::handler::{Answer, Handler, HandlerStage, Posting};
 use sc_lockpass::HandlerNumber;
-use sc_region::{Errand, Reference, Request, Value};
+use sc_region::{Errand, NameNumber, Reference, Request, Value};
 use std::hash::{FoldHasher, Hasher};
 
 /// Adds what is kept of a handler to a number. Nothing is promised of that. It takes time for each request that stands at
@@ -34,7 +34,7 @@ fn write_posting(hasher: &mut FoldHasher, posting: &Posting) {
 fn write_request(hasher: &mut FoldHasher, request: &Request) {
     let errand = match request.errand {
         Errand::Calls(feature) => feature as u64,
-        Errand::Makes(procedure) => 1 << 63 | procedure.unwrap_or(u32::MAX) as u64,
+        Errand::Makes(procedure) => 1 << 63 | procedure.unwrap_or(NameNumber::MAX) as u64,
     };
     hasher.write_u64(errand);
     hasher.write_u64(word_of(request.poster) | (request.is_waited as u64) << 32);

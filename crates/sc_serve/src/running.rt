@@ -149,7 +149,7 @@ fn fault_of<'a>(fault: RunFault<'_>) -> Fault<'a>
 
 /// Whether a handler has refused a request for which nobody waited.
 fn has_refused(left: &Left<'_>) -> bool {
-    for handler in 0..left.core.handler_count().min(u16::MAX as usize) {
+    for handler in 0..left.core.handler_count().min(HandlerNumber::MAX as usize) {
         if left.core.refused(handler as HandlerNumber).unwrap_or(0) > 0 {
             return true;
         }
