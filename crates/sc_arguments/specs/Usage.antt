@@ -15,3 +15,4 @@ TellsError e usage.OutOfMemory = kind_of e ≡ kind.OutOfMemory
 TellsError e (usage.Arguments said) = (said ≡ e) × (kind_of e ≢ kind.OutOfMemory)
 TellsError e usage.NoCommand = ⊥
 TellsError e usage.BadRoot = ⊥
+TellsError e usage.TracedWorkers = ⊥

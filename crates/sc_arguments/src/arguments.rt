@@ -7,6 +7,7 @@ mod help;
 mod options;
 mod root_option;
 mod searching;
+mod tracing;
 
 ghost use Rattle.std.specs.Prelude.{◌≡◌, IfOk, codes, map};
 ghost use Rattle.sc_arguments.specs.Asked.{IsAskedFor, IsAskedOf};
@@ -16,6 +17,7 @@ use crate::arguments::explaining::{is_explained, with_explain};
 use crate::arguments::format::{format_argument, read_format};
 use crate::arguments::given::given_in;
 use crate::arguments::options::{flag, number, option};
+use crate::arguments::tracing::{read_trace, read_trace_by, trace_argument};
 use clap::error::ErrorKind;
 use clap::{Arg, ArgAction, ArgMatches};
 pub use format::Format;
@@ -24,6 +26,7 @@ use sc_class::Root;
 pub use searching::{SearchOptions, Sought};
 use std::alloc::{AllocError, Global};
 use std::convert::AsStr;
+pub use tracing::Trace;
 
 /// What the arguments of a command line ask for.
 #[derive(Drop)]
@@ -68,6 +71,8 @@ pub struct RunOptions<'a> {
     pub record: Option<&'a str>,
     /// Whether the record is to be played by one thread, and what that comes to compared with what the run left.
     pub is_audited: bool,
+    /// Which turns are told as they are made; only of one worker.
+    pub trace: Option<Trace>,
     /// Whether a refusal is to be shown in its line of the text too, and what became of handlers told.
     pub is_explained: bool,
     pub format: Format,
@@ -78,6 +83,8 @@ pub struct ReplayOptions<'a> {
     pub root: Root,
     /// The name of the file that the record stands in.
     pub record: &'a str,
+    /// Which turns are told as they are made.
+    pub trace: Option<Trace>,
     /// Whether a refusal is to be shown in its line of the text too, and what became of handlers told.
     pub is_explained: bool,
     pub format: Format,
@@ -92,6 +99,8 @@ pub enum UsageFault {
     NoCommand,
     /// What `--root` gives isn't two names with one dot between.
     BadRoot,
+    /// A run by several workers is to be traced.
+    TracedWorkers,
     OutOfMemory,
 }
 
@@ -333,12 +342,15 @@ fn read_run<'a>(
     options: &ArgMatches<'a>,
     explains: bool,
 ) -> Result<RunOptions<'a>, UsageFault> {
+    let root = read_root(alloc, options)?;
+    let workers = options.get_one("workers").unwrap_or(DEFAULT_WORKERS);
     Ok(RunOptions {
-        root: read_root(alloc, options)?,
-        workers: options.get_one("workers").unwrap_or(DEFAULT_WORKERS),
+        root,
+        workers,
         turns: options.get_one("turns").unwrap_or(DEFAULT_TURNS),
         record: options.get_str("record"),
         is_audited: options.get_flag("audit"),
+        trace: read_trace_by(options, workers)?,
         is_explained: is_explained(options, explains),
         format: read_format(options),
     })
@@ -359,6 +371,7 @@ fn read_replay<'a>(
     let replay = ReplayOptions {
         root: read_root(alloc, options)?,
         record: *record,
+        trace: read_trace(options),
         is_explained: is_explained(options, explains),
         format: read_format(options),
     };
@@ -425,6 +438,7 @@ fn run_command<'a>(alloc: Global) -> Result<clap::Command<'a>, AllocError> {
     let command = with_argument(command, turns_argument(alloc));
     let command = with_argument(command, option(alloc, "record", "PATH", KEPT_HELP));
     let command = with_argument(command, flag(alloc, "audit", AUDIT_HELP));
+    let command = with_argument(command, trace_argument(alloc));
     let command = with_explain(alloc, command, RUN_EXPLAIN_HELP);
     let command = with_argument(command, format_argument(alloc));
     let command = with_argument(command, root_argument(alloc));
@@ -439,7 +453,8 @@ fn replay_command<'a>(alloc: Global) -> Result<clap::Command<'a>, AllocError> {
         REPLAY_LONG_ABOUT,
         REPLAY_AFTER_HELP,
     );
-    let command = with_explain(alloc, Ok(command), RUN_EXPLAIN_HELP);
+    let command = with_argument(Ok(command), trace_argument(alloc));
+    let command = with_explain(alloc, command, RUN_EXPLAIN_HELP);
     let command = with_argument(command, format_argument(alloc));
     let command = with_argument(command, root_argument(alloc));
     let command = with_argument(command, record_argument(alloc));

@@ -11,7 +11,7 @@ use sc_code::Program;
 use sc_lockpass::HandlerNumber;
 use sc_model::Status;
 use sc_plant::laws::runs_are_one_threads;
-use sc_plant::{Gate, Left, RunFault, run};
+use sc_plant::{Gate, Left, RunFault, Watch, run_watched};
 use std::alloc::{AllocError, Global};
 use std::sync::Wait;
 use std::thread::Threads;
@@ -33,16 +33,18 @@ impl Gate for Ungated {
 }
 
 /// Runs a program by so many threads, the calling one among them, for so many turns at most, where there may be 512 handlers.
+/// Somebody looks at it on its way.
 ///
 /// # Errors
 /// U1 where memory is refused, U2 where a thread is, and U3 where the logs of the threads differ, which never comes. With one
 /// worker it is always U1.
-pub fn run_program<'p, R: Threads + Wait + Sync>(
+pub fn run_program<'p, R: Threads + Wait + Sync, W: Watch>(
     rt: &R,
     alloc: Global,
     program: &'p Program,
     workers: u8,
     turns: u32,
+    watch: &mut W,
 ) -> Result<Ended<'p>, RunFault<'p>>
     ensures left { IfOk result (λ ended. IsRun (image_of program.now) turns ended.left) }
     ensures ran { IfOk result (λ ended. let outcome = ended.outcome in
@@ -51,7 +53,7 @@ pub fn run_program<'p, R: Threads + Wait + Sync>(
     ensures alone { workers ≤ 1 → IfErr result IsOutOfMemory }
 {
     runs_are_one_threads();
-    let left = run(rt, alloc, program, workers, turns, &Ungated)?;
+    let left = run_watched(rt, alloc, program, workers, turns, &Ungated, watch)?;
     match outcome_of_left(alloc, &left) {
         Ok(outcome) => Ok(Ended { left, outcome }),
         Err(_) => Err(RunFault::OutOfMemory(Some(left))),

@@ -18,8 +18,9 @@ mod waits;
 
 pub use clause::{push_attributes, push_false_clause, push_operation_values};
 pub use naming::{
-    Asked, asked_by, asked_feature, push_callers, push_feature, push_name, push_place,
-    push_request, push_stand,
+    Asked, Stand, asked_by, asked_feature, push_callers, push_feature, push_name, push_place,
+    push_request, push_stand, stand_of,
 };
 pub use origin::{InvariantClause, RunSource};
 pub use telling::push_waits;
+pub use waits::keeper_of;

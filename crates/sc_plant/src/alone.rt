@@ -21,6 +21,7 @@ use crate::left::{Left, RunFault};
 use crate::opening::{MAX_HANDLERS, open_core};
 use crate::scheduler::{MOST_LINES, MOST_TURNS};
 use crate::wants::clear_want;
+use crate::watch::Watch;
 use sc_audit::RecordLine;
 use sc_code::Program;
 use sc_lockpass::{HandlerNumber, Version};
@@ -34,12 +35,13 @@ use std::sync::Wait;
 ///
 /// # Errors
 /// U1 where memory is refused, with what is left then, unless the run hadn't begun.
-pub fn run_alone<'p, R: Wait, G: Gate>(
+pub fn run_alone<'p, R: Wait, G: Gate, W: Watch>(
     rt: &R,
     alloc: Global,
     program: &'p Program,
     limit: u32,
     gate: &G,
+    watch: &mut W,
 ) -> Result<Left<'p>, RunFault<'p>>
     ensures ok { IfOk result (IsRun program.now.image limit) }
     ensures err { IfErr result (SaysWhy program.now.image) }
@@ -48,15 +50,16 @@ pub fn run_alone<'p, R: Wait, G: Gate>(
     let Ok(left) = open_left(alloc, program) else {
         return Err(RunFault::OutOfMemory(None));
     };
-    play_opened(rt, left, limit, gate)
+    play_opened(rt, left, limit, gate, watch)
 }
 
 /// A run that has opened.
-fn play_opened<'p, R: Wait, G: Gate>(
+fn play_opened<'p, R: Wait, G: Gate, W: Watch>(
     rt: &R,
     mut left: Left<'p>,
     limit: u32,
     gate: &G,
+    watch: &mut W,
 ) -> Result<Left<'p>, RunFault<'p>>
     requires count { length left.regions.items ≡ 512 }
     requires version { left.core.state.rights.version ≡ Two }
@@ -65,7 +68,7 @@ fn play_opened<'p, R: Wait, G: Gate>(
     ensures left { IfErr result TellsLeft }
     ensures memory { IfErr result IsOutOfMemory }
 {
-    if play_all(rt, &mut left, Until::Over, limit, gate).is_err() {
+    if play_all(rt, &mut left, Until::Over, limit, gate, watch).is_err() {
         return Err(RunFault::OutOfMemory(Some(left)));
     }
     Ok(left)
@@ -106,13 +109,14 @@ pub enum Until {
     CoarseGrained,
 }
 
-/// Plays the handlers so far: whether the run is over. Err where memory is refused.
-pub fn play_all<R: Wait, G: Gate>(
+/// Plays the handlers so far, and lets somebody look behind each task: whether the run is over. Err where memory is refused.
+pub fn play_all<R: Wait, G: Gate, W: Watch>(
     rt: &R,
     left: &mut Left<'_>,
     until: Until,
     limit: u32,
     gate: &G,
+    watch: &mut W,
 ) -> Result<bool, AllocError>
     requires count { length left.old.regions.items ≡ 512 }
     requires version { left.old.core.state.rights.version ≡ Two }
@@ -133,6 +137,7 @@ pub fn play_all<R: Wait, G: Gate>(
             }
             continue;
         }
+        watch.sees(left);
         if matches!(until, Until::CoarseGrained)
             && is_coarse(&mut granularity, left.lines.as_slice())
         {

@@ -1,6 +1,6 @@
 //! Runs of a program on several threads.
 //!
-//! [`run`] plays the handlers of a program by several workers. A worker picks a handler with its job from the core, plays the
+//! [`run`] plays the handlers of a program by several workers, and [`run_watched`] lets somebody look at that on its way. A worker picks a handler with its job from the core, plays the
 //! handler's region, and settles what that came to. The core lies under one lock, each region under one of its own. A worker
 //! holds both only for the one turn with which a handler goes on once its reserve step is granted.
 //!
@@ -27,8 +27,10 @@ mod sharing;
 mod slot;
 mod task;
 mod wants;
+mod watch;
 mod workers;
 
 pub use gate::Gate;
 pub use left::{Left, LoggedLeft, RunFault};
-pub use running::run;
+pub use running::{run, run_watched};
+pub use watch::Watch;

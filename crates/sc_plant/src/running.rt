@@ -15,6 +15,7 @@ use crate::recorded_core::RecordedCore;
 use crate::scheduler::{Scheduler, Stop};
 use crate::sharing::{Shared, share};
 use crate::slot::Slot;
+use crate::watch::{Unwatched, Watch};
 use crate::workers::start_and_join;
 use sc_code::Program;
 use std::alloc::Global;
@@ -44,20 +45,42 @@ pub fn run<'p, R: Threads + Wait + Sync, G: Gate>(
     ensures err { IfErr result (SaysWhy program.now.image) }
     ensures alone { workers ≤ 1 → IfErr result IsOutOfMemory }
 {
-    if workers <= 1 {
-        return run_alone(rt, alloc, program, limit, gate);
-    }
-    run_open::<Brand, R, G>(rt, alloc, program, workers, limit, gate)
+    run_watched(rt, alloc, program, workers, limit, gate, &mut Unwatched)
 }
 
-/// A run of the program that the types under its locks have.
-fn run_open<'p, P: OfProgram + Send + Sync, R: Threads + Wait + Sync, G: Gate>(
+/// The same, where somebody looks at the run between its tasks: behind each that one thread plays, and where several workers
+/// have ended. By one worker the tasks are those of a run that nobody looks at.
+///
+/// # Errors
+/// As of a run that nobody looks at.
+pub fn run_watched<'p, R: Threads + Wait + Sync, G: Gate, W: Watch>(
     rt: &R,
     alloc: Global,
     program: &'p Program,
     workers: u8,
     limit: u32,
     gate: &G,
+    watch: &mut W,
+) -> Result<Left<'p>, RunFault<'p>>
+    ensures ok { IfOk result (IsRun program.now.image limit) }
+    ensures err { IfErr result (SaysWhy program.now.image) }
+    ensures alone { workers ≤ 1 → IfErr result IsOutOfMemory }
+{
+    if workers <= 1 {
+        return run_alone(rt, alloc, program, limit, gate, watch);
+    }
+    run_open::<Brand, R, G, W>(rt, alloc, program, workers, limit, gate, watch)
+}
+
+/// A run of the program that the types under its locks have.
+fn run_open<'p, P: OfProgram + Send + Sync, R: Threads + Wait + Sync, G: Gate, W: Watch>(
+    rt: &R,
+    alloc: Global,
+    program: &'p Program,
+    workers: u8,
+    limit: u32,
+    gate: &G,
+    watch: &mut W,
 ) -> Result<Left<'p>, RunFault<'p>>
     requires { P.image ≡ Some program.now.image }
     ensures ok { IfOk result (IsRun program.now.image limit) }
@@ -66,17 +89,18 @@ fn run_open<'p, P: OfProgram + Send + Sync, R: Threads + Wait + Sync, G: Gate>(
     let Ok(left) = open_left(alloc, program) else {
         return Err(RunFault::OutOfMemory(None));
     };
-    play_in_turns::<P, R, G>(rt, alloc, left, workers, limit, gate)
+    play_in_turns::<P, R, G, W>(rt, alloc, left, workers, limit, gate, watch)
 }
 
 /// Plays a run that has opened, by several workers as long as that is faster, and in turns with that by one.
-fn play_in_turns<'p, P: OfProgram + Send + Sync, R: Threads + Wait + Sync, G: Gate>(
+fn play_in_turns<'p, P: OfProgram + Send + Sync, R: Threads + Wait + Sync, G: Gate, W: Watch>(
     rt: &R,
     alloc: Global,
     mut left: Left<'p>,
     workers: u8,
     limit: u32,
     gate: &G,
+    watch: &mut W,
 ) -> Result<Left<'p>, RunFault<'p>>
     requires { IsOnWayIn P.image left }
     ensures ok { (p : Image) → P.image ≡ Some p → IfOk result (IsRun p limit) }
@@ -86,10 +110,11 @@ fn play_in_turns<'p, P: OfProgram + Send + Sync, R: Threads + Wait + Sync, G: Ga
     for _ in rt.forever() {
         let (next, is_over) = play_shared::<P, R, G>(rt, alloc, left, workers, limit, gate)?;
         left = next;
+        watch.sees(&left);
         if is_over {
             return Ok(left);
         }
-        let Ok(is_over) = play_all(rt, &mut left, Until::CoarseGrained, limit, gate) else {
+        let Ok(is_over) = play_all(rt, &mut left, Until::CoarseGrained, limit, gate, watch) else {
             return Err(RunFault::OutOfMemory(Some(left)));
         };
         if is_over {

@@ -13,4 +13,5 @@ mod refusal;
 mod running;
 mod searching;
 pub mod serve;
+mod tracing;
 mod verdict;

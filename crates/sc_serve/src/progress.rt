@@ -1,4 +1,4 @@
-//! How far a search is, on a terminal.
+//! What people are told on the way to an answer.
 
 use sc_search::Watch;
 use std::io::Write;
@@ -6,7 +6,14 @@ use std::io::Write;
 /// By how many states the number differs from the one that was said last, where it is said again.
 const STEP: u32 = 256;
 
-/// Says on a line of a terminal, which is written over each time, how many states a search has kept; elsewhere it says nothing.
+/// Tells people something on the way to an answer.
+pub trait Tell {
+    /// Tells these lines, which stay.
+    fn tell(&mut self, lines: &[u8]);
+}
+
+/// Says on a line of a terminal, which is written over each time, how many states a search has kept; elsewhere it says nothing of
+/// that. Lines that stay are told anywhere.
 #[derive(Drop)]
 pub struct Progress<'e, E> {
     err: &'e mut E,
@@ -34,6 +41,16 @@ impl<'e, E: Write> Progress<'e, E> {
     fn show(&mut self, text: &str) {
         // The search goes on in any case: nobody is left to be told that `err` failed.
         let _ = self.err.write_all(text.as_bytes());
+        let _ = self.err.flush();
+    }
+}
+
+impl<'e, E: Write> Tell for Progress<'e, E> {
+    fn tell(&mut self, lines: &[u8]) {
+        self.clear();
+        self.said = None;
+        // What they tell of goes on in any case.
+        let _ = self.err.write_all(lines);
         let _ = self.err.flush();
     }
 }

@@ -5,7 +5,9 @@ ghost use Rattle.sc_lower.specs.Lowerings.{image_of};
 ghost use Rattle.std.specs.Option.{option_map};
 ghost use Rattle.sc_serve.specs.Answer.{IsJudged, IsRanOf, IsRunOn, IsUnrun, IsUnrunOn, asked_of, kept_of};
 
+use crate::progress::Tell;
 use crate::serve::{Answer, Exit, Fault, Recording, answer_explained, answer_unread, exit_of};
+use crate::tracing::{Tracing, tracer_of};
 use sc_arguments::RunOptions;
 use sc_audit::RecordLine;
 use sc_auditing::{AuditFault, audit};
@@ -23,12 +25,13 @@ use std::sync::Wait;
 use std::thread::Threads;
 
 /// Runs the system of the named files.
-pub fn answer_run<'a, R: Threads + Wait + Sync, F: Files>(
+pub fn answer_run<'a, R: Threads + Wait + Sync, F: Files, T: Tell>(
     rt: &R,
     alloc: Global,
     options: &RunOptions<'a>,
     files: &F,
     names: &[&'a str],
+    teller: &mut T,
 ) -> Result<Answer<'a>, Fault<'a>>
     ensures answer { let named = map (λ name. name.now) names.now in
         let held = map (λ name. F.bytes_of files.now name.now) names.now in
@@ -42,7 +45,7 @@ pub fn answer_run<'a, R: Threads + Wait + Sync, F: Files>(
         Err(fault) => return answer_unread(alloc, names, fault),
     };
     match load_text(alloc, source.text(), &options.root) {
-        Ok(program) => run_loaded(rt, alloc, &program, options, &source),
+        Ok(program) => run_loaded(rt, alloc, &program, options, &source, teller),
         Err(rejection) => { answer_explained(alloc, &source, &rejection, explained_root(options)) }
     }
 }
@@ -57,28 +60,35 @@ fn explained_root<'r>(options: &'r RunOptions<'_>) -> Option<&'r Root> {
 }
 
 /// Runs the program of a source text.
-fn run_loaded<'a, R: Threads + Wait + Sync>(
+fn run_loaded<'a, R: Threads + Wait + Sync, T: Tell>(
     rt: &R,
     alloc: Global,
     program: &Program,
     options: &RunOptions<'a>,
     source: &Source,
+    teller: &mut T,
 ) -> Result<Answer<'a>, Fault<'a>>
     ensures answer { IfOk result (λ answer.
         IsRanOf (image_of program.now) options.now answer.text.items answer.exit answer.record) }
     ensures object { IfOk result (λ answer. answer.object ≡ None) }
     ensures unrun { IfErr result IsUnrun }
 {
+    let tracer = tracer_of(alloc, source, program, Version::Two, options.trace)?;
+    let mut tracing = Tracing::new(teller, tracer);
     let Ended { left, outcome } = match run_program(
         rt,
         alloc,
         program,
         options.workers,
         options.turns,
+        &mut tracing,
     ) {
         Ok(ended) => ended,
         Err(fault) => return Err(fault_of(fault)),
     };
+    if tracing.is_lacking() {
+        return Err(Fault::OutOfMemory);
+    }
     let RunReport { report, statuses } = outcome;
     let (text, exit) = judge(alloc, program, options, &left, report, statuses.as_slice())?;
     let may_refuse = has_refused(&left);

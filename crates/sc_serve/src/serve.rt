@@ -12,10 +12,11 @@ ghost use Rattle.sc_serve.specs.Served.{Answers, IsExplained, IsFormatted, IsGiv
 
 use crate::delivery::deliver;
 use crate::json::answer_object;
-use crate::progress::Progress;
+use crate::progress::{Progress, Tell};
 use crate::refusal::Refusal;
 use crate::running::answer_run;
 use crate::searching::answer_search;
+use crate::tracing::{Tracing, tracer_of};
 use sc_arguments::{
     Command, Format, Invocation, ReplayOptions, UsageFault, ask_for_help, read_arguments,
 };
@@ -129,7 +130,7 @@ impl<'a> From<AllocError> for Fault<'a> {
 /// Does what `arguments` ask for, of which the first is the program's name, and answers the status that
 /// the program ends with. What was asked for is written to `out`, and why it can't be had to `err`. The record of a run
 /// goes to the file that is named for it, behind that. Where `err` is a terminal, a search says there how far it is, and
-/// answers are explained there unless an argument says otherwise.
+/// answers are explained there unless an argument says otherwise. Turns that are to be told as they are made are told there.
 ///
 /// With any status but 2 and 5 all of the answer is written. Where one is given up, as with these, a beginning of it is, and
 /// nothing where there is none.
@@ -172,6 +173,10 @@ fn say<E: Write>(fault: &Fault<'_>, err: &mut E) -> io::Result<()> {
         Fault::Usage(UsageFault::Arguments(error)) => write!(err, "{error}"),
         Fault::Usage(UsageFault::NoCommand) => writeln!(err, "no command"),
         Fault::Usage(UsageFault::BadRoot) => writeln!(err, "bad root"),
+        Fault::Usage(UsageFault::TracedWorkers) => writeln!(
+            err,
+            "a run by several workers can't be traced: leave out --workers or --trace"
+        ),
         Fault::NoCode(word) => writeln!(err, "no code {word}\n`scoop explain` lists the codes"),
         Fault::CannotRead(name, fault) => {
             writeln!(err, "cannot read {name}")?;
@@ -238,7 +243,7 @@ fn say_remains<E: Write>(remains: &Option<Remains>, err: &mut E) -> io::Result<(
 
 /// What is answered to the arguments: what they ask for, or help where they ask for that.
 #[tactic(auto, using(crate::proofs::ServedLemmas::response, crate::proofs::ServedLemmas::help))]
-fn respond<'a, R: Threads + Wait + Sync + AllocGlobal, S: AsStr, F: Files, W: Watch>(
+fn respond<'a, R: Threads + Wait + Sync + AllocGlobal, S: AsStr, F: Files, W: Watch + Tell>(
     rt: &R,
     arguments: &'a [S],
     files: &F,
@@ -259,7 +264,7 @@ fn respond<'a, R: Threads + Wait + Sync + AllocGlobal, S: AsStr, F: Files, W: Wa
 }
 
 /// Does what is asked for.
-fn answer_to<'a, R: Threads + Wait + Sync, F: Files, W: Watch>(
+fn answer_to<'a, R: Threads + Wait + Sync, F: Files, W: Watch + Tell>(
     rt: &R,
     alloc: Global,
     invocation: &Invocation<'a>,
@@ -274,11 +279,11 @@ fn answer_to<'a, R: Threads + Wait + Sync, F: Files, W: Watch>(
             formatted(alloc, format_of(command), answer)
         }
         Invocation::Run(options, names) => {
-            let answer = answer_run(rt, alloc, options, files, names.as_slice())?;
+            let answer = answer_run(rt, alloc, options, files, names.as_slice(), watch)?;
             formatted(alloc, options.format, answer)
         }
         Invocation::Replay(options, names) => {
-            let answer = answer_replay(alloc, options, files, names.as_slice())?;
+            let answer = answer_replay(alloc, options, files, names.as_slice(), watch)?;
             formatted(alloc, options.format, answer)
         }
         Invocation::Search(options, names) => {
@@ -497,11 +502,12 @@ fn examine<'a>(alloc: Global, command: &Command, text: &str) -> Result<Answer<'a
 }
 
 /// Plays a record with the system of the named files.
-fn answer_replay<'a, F: Files>(
+fn answer_replay<'a, F: Files, T: Tell>(
     alloc: Global,
     options: &ReplayOptions<'a>,
     files: &F,
     names: &[&'a str],
+    teller: &mut T,
 ) -> Result<Answer<'a>, Fault<'a>>
     ensures answer { let named = map (λ name. name.now) names.now in
         let held = map (λ name. F.bytes_of files.now name.now) names.now in
@@ -516,7 +522,7 @@ fn answer_replay<'a, F: Files>(
         Err(fault) => return answer_unread(alloc, names, fault),
     };
     match load_text(alloc, source.text(), &options.root) {
-        Ok(program) => play_record(alloc, &program, files, options, &source),
+        Ok(program) => play_record(alloc, &program, files, options, &source, teller),
         Err(rejection) => answer_explained(alloc, &source, &rejection, replayed_root(options)),
     }
 }
@@ -532,12 +538,13 @@ fn replayed_root<'r>(options: &'r ReplayOptions<'_>) -> Option<&'r Root> {
 
 /// Plays with the program of a source text the record that the named file holds.
 #[tactic(auto, using(crate::proofs::AnswerLemmas::unplayed))]
-fn play_record<'a, F: Files>(
+fn play_record<'a, F: Files, T: Tell>(
     alloc: Global,
     program: &Program,
     files: &F,
     options: &ReplayOptions<'a>,
     source: &Source,
+    teller: &mut T,
 ) -> Result<Answer<'a>, Fault<'a>>
     ensures answer { let held = F.bytes_of files.now options.now.record.now in
         IfOk result (λ answer. IsReplayTo (image_of program.now) held answer.text.items answer.exit) }
@@ -549,6 +556,7 @@ fn play_record<'a, F: Files>(
         Ok(record) => record,
         Err(fault) => return answer_no_record(alloc, name, fault, options.is_explained),
     };
+    tell_turns(alloc, program, options, source, &record, teller)?;
     let outcome = replay(alloc, program, &record)?;
     let exit = exit_of(outcome.statuses.as_slice());
     let note = note_of_replay(
@@ -566,6 +574,24 @@ fn play_record<'a, F: Files>(
         note,
         record: None,
     })
+}
+
+/// Tells of the turns of a record, where that is asked for.
+fn tell_turns<T: Tell>(
+    alloc: Global,
+    program: &Program,
+    options: &ReplayOptions<'_>,
+    source: &Source,
+    record: &Record,
+    teller: &mut T,
+) -> Result<(), AllocError> {
+    let tracer = tracer_of(alloc, source, program, record.version, options.trace)?;
+    let mut tracing = Tracing::new(teller, tracer);
+    tracing.follow(record.lines.as_slice());
+    if tracing.is_lacking() {
+        return Err(AllocError);
+    }
+    Ok(())
 }
 
 /// What is said of a replay beside its report, where it is asked for.

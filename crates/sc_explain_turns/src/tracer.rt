@@ -1,0 +1,94 @@
+//! A run that is told as it goes on.
+
+use crate::moment::{Before, Moment};
+use crate::naming::class_names;
+use crate::waiting::Waiting;
+use sc_audit::RecordLine;
+use sc_code::Program;
+use sc_explain_text::Lines;
+use sc_explain_waiting::RunSource;
+use sc_lockpass::Version;
+use sc_source::source::Source;
+use sc_text::Span;
+use sc_world::{Turned, World};
+use std::alloc::{AllocError, Global};
+
+/// Which turns are told.
+#[derive(Clone, Copy)]
+pub enum Told {
+    /// Those that print or concern other handlers.
+    All,
+    /// Those that print.
+    Printed,
+}
+
+/// Makes the turns of a run once more, as its record goes on, and tells of each what a person follows. It has a world of its
+/// own, so the run is what it would be without it.
+#[derive(Drop)]
+pub struct Tracer<'r> {
+    origin: RunSource<'r>,
+    /// Where the names of the classes stand, by number.
+    classes: Vec<Span>,
+    world: World<'r>,
+    told: Told,
+    waiting: Waiting,
+    /// How many turns were made.
+    turns: u64,
+}
+
+impl<'r> Tracer<'r> {
+    /// At the opening of the program of a source text, where there may be as many handlers as the version has.
+    ///
+    /// # Errors
+    /// Where there is no memory.
+    pub fn open(
+        alloc: Global,
+        source: &'r Source,
+        program: &'r Program,
+        version: Version,
+        told: Told,
+    ) -> Result<Tracer<'r>, AllocError> {
+        let origin = RunSource {
+            alloc,
+            source,
+            classes: &[],
+            program,
+        };
+        Ok(Tracer {
+            origin,
+            classes: class_names(alloc, source.text())?,
+            world: World::open(alloc, program, version)?,
+            told,
+            waiting: Waiting::none(alloc)?,
+            turns: 0,
+        })
+    }
+
+    /// Makes the turns of a line of the record: what is told of them. A turn of a handler that has nothing to do is none.
+    ///
+    /// # Errors
+    /// Where there is no memory.
+    pub fn play(&mut self, line: RecordLine) -> Result<Vec<u8>, AllocError> {
+        let mut lines = Lines::new(self.origin.alloc);
+        for _turn in 0..line.turns {
+            let before = Before::of(&self.origin, &self.world, line.handler);
+            if self.world.turn(line.handler)? == Turned::Nothing {
+                break;
+            }
+            self.turns = self.turns.saturating_add(1);
+            let moment = Moment {
+                origin: &self.origin,
+                classes: self.classes.as_slice(),
+                world: &self.world,
+                handler: line.handler,
+                turn: self.turns,
+                before,
+            };
+            moment.tell_printed(&mut lines);
+            if let Told::All = self.told {
+                moment.tell_settled(&mut lines, &mut self.waiting);
+            }
+        }
+        lines.finish()
+    }
+}

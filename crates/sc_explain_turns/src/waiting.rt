@@ -1,0 +1,33 @@
+//! Who was told to wait.
+
+use std::alloc::{AllocError, Global};
+
+/// How many handlers there may be.
+const MOST_HANDLERS: usize = 512;
+
+/// The handlers of which was told that they wait to reserve others, since their last reservation.
+#[derive(Drop)]
+pub struct Waiting {
+    told: Vec<bool>,
+}
+
+impl Waiting {
+    /// None of them.
+    pub fn none(alloc: Global) -> Result<Waiting, AllocError> {
+        Ok(Waiting {
+            told: vec![in alloc; false; MOST_HANDLERS]?,
+        })
+    }
+
+    /// Whether it was told of a handler.
+    pub fn is_told(&self, handler: u16) -> bool {
+        self.told.get(handler as usize).copied().unwrap_or(true)
+    }
+
+    /// It is told of a handler, or it has reserved what it was to.
+    pub fn set(&mut self, handler: u16, is_told: bool) {
+        if let Some(place) = self.told.get_mut(handler as usize) {
+            *place = is_told;
+        }
+    }
+}

@@ -1,0 +1,16 @@
+//! Who looks at a run between its tasks.
+
+use crate::left::Left;
+
+/// Looks at what a run has come to so far, on the thread that called for it.
+pub trait Watch {
+    /// A task was played and settled by one thread, or several workers have ended. No handler is out.
+    fn sees(&mut self, left: &Left<'_>);
+}
+
+/// Nobody looks.
+pub struct Unwatched;
+
+impl Watch for Unwatched {
+    fn sees(&mut self, _left: &Left<'_>) {}
+}
