@@ -18,6 +18,7 @@ use crate::arguments::format::{format_argument, read_format};
 use crate::arguments::given::given_in;
 use crate::arguments::options::{flag, number, option};
 use crate::arguments::tracing::{read_trace, read_trace_by, trace_argument};
+use clap::builder::ValueParser;
 use clap::error::ErrorKind;
 use clap::{Arg, ArgAction, ArgMatches};
 pub use format::Format;
@@ -67,6 +68,8 @@ pub struct RunOptions<'a> {
     pub workers: u8,
     /// The most turns that are played, from 1 to 10,000,000.
     pub turns: u32,
+    /// The most bytes that the handlers print together before the run is ended, if there is such a number.
+    pub output_limit: Option<u64>,
     /// The name of the file that the record of the run is written to.
     pub record: Option<&'a str>,
     /// Whether the record is to be played by one thread, and what that comes to compared with what the run left.
@@ -214,7 +217,7 @@ Runs a system, and reports what became of each handler.
 
 The system is checked first, as by `scoop check`. The run begins with the root
 procedure and goes on turn by turn, until no handler has anything to do or the
-turns are used up. By several workers handlers are played at once: then the order
+turns are used up, or until more is printed than may be. By several workers handlers are played at once: then the order
 of their turns is another one each time, and the record says which it was. The
 report has for each handler
 
@@ -223,7 +226,7 @@ report has for each handler
 and then, on lines of its own, what the handler printed. The status is `free`,
 `waiting`, `busy` or `failed` with the code of the failure, and COUNT is the
 number of requests that were refused. The report ends with `stopped idle`, or
-with `stopped limit` where the turns were used up.";
+with `stopped limit` where a handler has something to do still.";
 
 const REPLAY_ABOUT: &str = "Plays the turns of a record, and reports what became of each handler";
 
@@ -272,6 +275,11 @@ const FILE_HELP: &str = "The files of the system's classes, in order; `-` is sta
 const ROOT_HELP: &str = "The root class and its creation procedure";
 
 const TURNS_HELP: &str = "The most turns that are played, 1 to 10000000";
+
+const OUTPUT_LIMIT_HELP: &str =
+    "Ends the run once all that is printed has more bytes than this, 0 to 1000000000000";
+
+const MOST_OUTPUT: u64 = 1_000_000_000_000;
 
 const WORKERS_HELP: &str = "How many threads play the handlers, 1 to 8";
 
@@ -348,6 +356,7 @@ fn read_run<'a>(
         root,
         workers,
         turns: options.get_one("turns").unwrap_or(DEFAULT_TURNS),
+        output_limit: options.get_one("output-limit"),
         record: options.get_str("record"),
         is_audited: options.get_flag("audit"),
         trace: read_trace_by(options, workers)?,
@@ -436,6 +445,7 @@ fn run_command<'a>(alloc: Global) -> Result<clap::Command<'a>, AllocError> {
     let command = described(alloc, "run", RUN_ABOUT, RUN_LONG_ABOUT, RUN_AFTER_HELP);
     let command = with_argument(Ok(command), workers_argument(alloc));
     let command = with_argument(command, turns_argument(alloc));
+    let command = with_argument(command, output_limit_argument(alloc));
     let command = with_argument(command, option(alloc, "record", "PATH", KEPT_HELP));
     let command = with_argument(command, flag(alloc, "audit", AUDIT_HELP));
     let command = with_argument(command, trace_argument(alloc));
@@ -529,6 +539,13 @@ fn turns_argument<'a>(alloc: Global) -> Arg<'a> {
         10_000_000,
         "1000000",
     )
+}
+
+fn output_limit_argument<'a>(alloc: Global) -> Arg<'a> {
+    option(alloc, "output-limit", "BYTES", OUTPUT_LIMIT_HELP).value_parser(ValueParser::unsigned(
+        0,
+        MOST_OUTPUT,
+    ))
 }
 
 fn workers_argument<'a>(alloc: Global) -> Arg<'a> {

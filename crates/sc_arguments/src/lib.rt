@@ -7,6 +7,6 @@
 mod arguments;
 
 pub use arguments::{
-    CheckOptions, Command, Format, Invocation, ReplayOptions, RunOptions, SearchOptions, Sought, Trace,
-    UsageFault, ask_for_help, read_arguments,
+    CheckOptions, Command, Format, Invocation, ReplayOptions, RunOptions, SearchOptions, Sought,
+    Trace, UsageFault, ask_for_help, read_arguments,
 };

@@ -3,7 +3,8 @@
 ghost use Rattle.std.specs.Prelude.{◌≡◌, ◌≤◌, IfErr, IfOk};
 ghost use Rattle.sc_lower.specs.Lowerings.{image_of};
 ghost use Rattle.sc_world.specs.Reports as told;
-ghost use Rattle.sc_plant.specs.Left.{IsOutOfMemory, IsRun, SaysWhy, world_of};
+ghost use Rattle.sc_plant.specs.Bounded.{IsBoundedRun};
+ghost use Rattle.sc_plant.specs.Left.{IsOutOfMemory, SaysWhy, world_of};
 ghost use Rattle.sc_driver.specs.Execution.{IsThreadRun};
 
 use crate::execution::RunReport;
@@ -11,7 +12,7 @@ use sc_code::Program;
 use sc_lockpass::HandlerNumber;
 use sc_model::Status;
 use sc_plant::laws::runs_are_one_threads;
-use sc_plant::{Gate, Left, RunFault, Watch, run_watched};
+use sc_plant::{Bounds, Gate, Left, RunFault, Watch, run_watched};
 use std::alloc::{AllocError, Global};
 use std::sync::Wait;
 use std::thread::Threads;
@@ -20,6 +21,9 @@ use std::thread::Threads;
 #[derive(Drop)]
 pub struct Ended<'p> {
     pub left: Left<'p>,
+    /// Behind how many turns at most it has ended: those that it might make, or fewer where its handlers have printed more
+    /// than they may.
+    pub turns: u32,
     pub outcome: RunReport,
 }
 
@@ -32,8 +36,8 @@ impl Gate for Ungated {
     fn ended(&self, _handler: HandlerNumber) {}
 }
 
-/// Runs a program by so many threads, the calling one among them, for so many turns at most, where there may be 512 handlers.
-/// Somebody looks at it on its way.
+/// Runs a program by so many threads, the calling one among them, within bounds, where there may be 512 handlers. Somebody looks
+/// at it on its way.
 ///
 /// # Errors
 /// U1 where memory is refused, U2 where a thread is, and U3 where the logs of the threads differ, which never comes. With one
@@ -43,19 +47,23 @@ pub fn run_program<'p, R: Threads + Wait + Sync, W: Watch>(
     alloc: Global,
     program: &'p Program,
     workers: u8,
-    turns: u32,
+    bounds: Bounds,
     watch: &mut W,
 ) -> Result<Ended<'p>, RunFault<'p>>
-    ensures left { IfOk result (λ ended. IsRun (image_of program.now) turns ended.left) }
+    ensures left { IfOk result (λ ended. IsBoundedRun (image_of program.now) bounds ended.turns ended.left) }
     ensures ran { IfOk result (λ ended. let outcome = ended.outcome in
-        ∥ IsThreadRun (image_of program.now) turns ended.left.lines.items outcome.report.items outcome.statuses.items ∥₁) }
+        ∥ IsThreadRun (image_of program.now) ended.turns ended.left.lines.items outcome.report.items outcome.statuses.items ∥₁) }
     ensures err { IfErr result (SaysWhy (image_of program.now)) }
     ensures alone { workers ≤ 1 → IfErr result IsOutOfMemory }
 {
     runs_are_one_threads();
-    let left = run_watched(rt, alloc, program, workers, turns, &Ungated, watch)?;
+    let (left, turns) = run_watched(rt, alloc, program, workers, bounds, &Ungated, watch)?;
     match outcome_of_left(alloc, &left) {
-        Ok(outcome) => Ok(Ended { left, outcome }),
+        Ok(outcome) => Ok(Ended {
+            left,
+            turns,
+            outcome,
+        }),
         Err(_) => Err(RunFault::OutOfMemory(Some(left))),
     }
 }

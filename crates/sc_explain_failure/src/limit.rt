@@ -13,6 +13,8 @@ const MOST_TURNS: u32 = 10_000_000;
 pub enum Limit {
     /// Behind so many turns.
     Turns(u32),
+    /// Where too much was printed, which is told elsewhere.
+    Output,
     /// With the record that it plays.
     Record,
 }
@@ -20,32 +22,39 @@ pub enum Limit {
 /// Adds how many turns were made, where a handler still has something to do, and what helps.
 pub fn push_limit(lines: &mut Lines, played: &Played<'_>, statuses: &[Status]) {
     if statuses.iter().any(|status| matches!(status, Status::Busy)) {
-        push_ended(lines, played.limit, turns_in(played.lines))
+        match played.limit {
+            Limit::Turns(limit) => push_used_up(lines, limit, turns_in(played.lines)),
+            Limit::Output => {}
+            Limit::Record => push_record_end(lines, turns_in(played.lines)),
+        }
     }
 }
 
+/// Adds that a record ended behind so many turns.
+fn push_record_end(lines: &mut Lines, made: u64) {
+    lines.push("stopped limit: the record ends behind ");
+    push_turns(lines, made);
+    lines.push("\n")
+}
+
 /// Adds that a run ended behind so many turns, and what helps.
-fn push_ended(lines: &mut Lines, limit: Limit, made: u64) {
+fn push_used_up(lines: &mut Lines, limit: u32, made: u64) {
     lines.push("stopped limit: ");
-    if let Limit::Record = limit {
-        lines.push("the record ends behind ");
+    push_turns(lines, made);
+    if made < u64::from(limit) {
+        lines.push(" were made, and the record of the run has as many lines as it may have\n")
+    } else if limit >= MOST_TURNS {
+        lines.push(" were made, which is the most that `--turns` takes\n")
+    } else {
+        lines.push(" were made; `--turns` takes up to ");
+        lines.push_number(u64::from(MOST_TURNS));
+        lines.push("\n")
     }
+}
+
+fn push_turns(lines: &mut Lines, made: u64) {
     lines.push_number(made);
-    lines.push(if made == 1 { " turn" } else { " turns" });
-    match limit {
-        Limit::Record => lines.push("\n"),
-        Limit::Turns(limit) if made < u64::from(limit) => lines.push(
-            " were made, and the record of the run has as many lines as it may have\n",
-        ),
-        Limit::Turns(limit) if limit >= MOST_TURNS => {
-            lines.push(" were made, which is the most that `--turns` takes\n")
-        }
-        Limit::Turns(_) => {
-            lines.push(" were made; `--turns` takes up to ");
-            lines.push_number(u64::from(MOST_TURNS));
-            lines.push("\n")
-        }
-    }
+    lines.push(if made == 1 { " turn" } else { " turns" })
 }
 
 /// How many turns these lines have.

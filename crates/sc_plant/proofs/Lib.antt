@@ -2,6 +2,7 @@ mod Bare
 mod OnWay
 mod Comparisons
 mod Crossings
+pub mod CutRuns
 mod Dues
 mod OneThread
 mod Openings

@@ -1,7 +1,7 @@
 //! Runs on one thread, where nothing lies under a lock.
 //!
 //! That a handler's settlements lead to its region is kept on the way, so the regions need no logs.
-ghost use Rattle.std.specs.Prelude.{◌≡◌, ◌≤◌, ◌↔◌, ◌<◌, IfErr, IfOk, IsTrue, OnErr, OnOk, Some, is_some, length, true, vec_len};
+ghost use Rattle.std.specs.Prelude.{◌≡◌, ◌≤◌, ◌↔◌, ◌<◌, IfErr, IfOk, IfSome, IsTrue, OnErr, OnOk, Some, is_some, length, true, vec_len};
 ghost use Rattle.std.specs.Bool.{OnTrue};
 ghost use Rattle.sc_lockpass.specs.declared.version.Version.TheVariants.{Two};
 ghost use Rattle.sc_code.specs.declared.program.Image.{Image};
@@ -11,14 +11,17 @@ ghost use Rattle.sc_request.specs.Cores.{center_of};
 ghost use Rattle.sc_request.specs.Rooms.{HasRoomFor};
 ghost use Rattle.sc_plant.specs.declared.alone.Until.TheVariants.{Over};
 ghost use Rattle.sc_plant.specs.Alone.{AreNew, IsBack, IsOnWay, IsPlayed};
-ghost use Rattle.sc_plant.specs.Left.{IsOutOfMemory, IsOver, IsRun, IsStopped, SaysWhy, TellsLeft};
+ghost use Rattle.sc_plant.specs.Bounded.{EndsBehind, IsBoundedRun};
+ghost use Rattle.sc_plant.specs.Left.{IsOutOfMemory, IsOver, IsStopped, SaysWhy, TellsLeft};
 
+use crate::bounds::Bounds;
 use crate::due::settle_out;
-use crate::ending::{is_idle_or_full, turns_left};
+use crate::ending::{is_idle_or_full, turns_in, turns_left};
 use crate::gate::Gate;
 use crate::granularity::Granularity;
 use crate::left::{Left, RunFault};
 use crate::opening::{MAX_HANDLERS, open_core};
+use crate::outputs::{Tally, are_past};
 use crate::scheduler::{MOST_LINES, MOST_TURNS};
 use crate::wants::clear_want;
 use crate::watch::Watch;
@@ -31,7 +34,8 @@ use sc_request::Core;
 use std::alloc::{AllocError, Global};
 use std::sync::Wait;
 
-/// Plays the handlers of a program on the calling thread, until the run is over.
+/// Plays the handlers of a program on the calling thread, until the run is over: what it leaves, and behind how many turns at
+/// most it has ended.
 ///
 /// # Errors
 /// U1 where memory is refused, with what is left then, unless the run hadn't begun.
@@ -39,39 +43,39 @@ pub fn run_alone<'p, R: Wait, G: Gate, W: Watch>(
     rt: &R,
     alloc: Global,
     program: &'p Program,
-    limit: u32,
+    bounds: Bounds,
     gate: &G,
     watch: &mut W,
-) -> Result<Left<'p>, RunFault<'p>>
-    ensures ok { IfOk result (IsRun program.now.image limit) }
+) -> Result<(Left<'p>, u32), RunFault<'p>>
+    ensures ok { IfOk result (λ ended. IsBoundedRun program.now.image bounds ended.1 ended.0) }
     ensures err { IfErr result (SaysWhy program.now.image) }
     ensures memory { IfErr result IsOutOfMemory }
 {
     let Ok(left) = open_left(alloc, program) else {
         return Err(RunFault::OutOfMemory(None));
     };
-    play_opened(rt, left, limit, gate, watch)
+    play_opened(rt, left, bounds, gate, watch)
 }
 
 /// A run that has opened.
 fn play_opened<'p, R: Wait, G: Gate, W: Watch>(
     rt: &R,
     mut left: Left<'p>,
-    limit: u32,
+    bounds: Bounds,
     gate: &G,
     watch: &mut W,
-) -> Result<Left<'p>, RunFault<'p>>
+) -> Result<(Left<'p>, u32), RunFault<'p>>
     requires count { length left.regions.items ≡ 512 }
     requires version { left.core.state.rights.version ≡ Two }
-    ensures ok { (p : Image) → IsOnWay p left.entry → IfOk result (IsRun p limit) }
+    ensures ok { (p : Image) → IsOnWay p left.entry → IfOk result (λ ended. IsBoundedRun p bounds ended.1 ended.0) }
     ensures err { (p : Image) → IsOnWay p left.entry → IfErr result (SaysWhy p) }
     ensures left { IfErr result TellsLeft }
     ensures memory { IfErr result IsOutOfMemory }
 {
-    if play_all(rt, &mut left, Until::Over, limit, gate, watch).is_err() {
+    let Ok(over) = play_all(rt, &mut left, Until::Over, bounds, gate, watch) else {
         return Err(RunFault::OutOfMemory(Some(left)));
-    }
-    Ok(left)
+    };
+    Ok((left, over.0))
 }
 
 /// What is there before the first turn.
@@ -109,39 +113,45 @@ pub enum Until {
     CoarseGrained,
 }
 
-/// Plays the handlers so far, and lets somebody look behind each task: whether the run is over. Err where memory is refused.
+/// Plays the handlers so far, and lets somebody look behind each task: whether the run is over, and behind how many turns at most
+/// it is then. Err where memory is refused.
 pub fn play_all<R: Wait, G: Gate, W: Watch>(
     rt: &R,
     left: &mut Left<'_>,
     until: Until,
-    limit: u32,
+    bounds: Bounds,
     gate: &G,
     watch: &mut W,
-) -> Result<bool, AllocError>
+) -> Result<(u32, bool), AllocError>
     requires count { length left.old.regions.items ≡ 512 }
     requires version { left.old.core.state.rights.version ≡ Two }
     ensures on { OnOk result ((p : Image) → IsOnWay p left.old → IsOnWay p left.new) }
-    ensures over { IfOk result (λ is_over. is_over ≡ true → IsOver limit (center_of left.new.core) left.new.lines.items) }
-    ensures whole { until ≡ Over → IfOk result (λ is_over. is_over ≡ true) }
+    ensures over { IfOk result (λ over. over.1 ≡ true → IsOver over.0 (center_of left.new.core) left.new.lines.items) }
+    ensures ends { IfOk result (λ over. over.1 ≡ true → EndsBehind bounds over.0 left.new.regions.items) }
+    ensures whole { until ≡ Over → IfOk result (λ over. over.1 ≡ true) }
     ensures err { OnErr result ((p : Image) → IsOnWay p left.old → IsStopped p left.new) }
 {
     let mut asked = Want::Continue;
-    let mut turns = turns_left(left.lines.as_slice(), limit);
+    let mut turns = turns_left(left.lines.as_slice(), bounds.turns);
+    let mut tally = Tally::of(left);
     let mut granularity = Granularity::new();
     for _ in rt.forever() {
         let made = play_next(left, turns.min(MOST_TURNS), &mut asked, gate)?;
         turns = turns.saturating_sub(made);
         if made == 0 {
-            if is_over(left, limit) {
-                return Ok(true);
+            if is_over(left, bounds.turns) {
+                return Ok((bounds.turns, true));
             }
             continue;
         }
         watch.sees(left);
+        if let Some(made) = cut_behind(left, bounds, &mut tally) {
+            return Ok((made, true));
+        }
         if matches!(until, Until::CoarseGrained)
             && is_coarse(&mut granularity, left.lines.as_slice())
         {
-            return Ok(false);
+            return Ok((bounds.turns, false));
         }
     }
     unreachable!()
@@ -160,10 +170,73 @@ fn is_over(left: &mut Left<'_>, limit: u32) -> bool
     ensures over { OnTrue result (IsOver limit (center_of left.new.core) left.new.lines.items) }
     ensures count { length left.new.regions.items ≡ length left.old.regions.items }
     ensures version { left.new.core.state.rights.version ≡ left.old.core.state.rights.version }
+    ensures regions { left.new.regions ≡ left.old.regions }
     ensures on { (p : Image) → IsOnWay p left.old → IsOnWay p left.new }
 {
     let Left { core, lines, .. } = left;
     is_idle_or_full(core, lines.as_slice(), limit)
+}
+
+/// Behind how many turns the run ends here, if it does: all that it may make, or those that were made, where the handlers have
+/// printed more than they may.
+pub fn ended(left: &mut Left<'_>, bounds: Bounds) -> Option<u32>
+    ensures over { IfSome result (λ turns. IsOver turns (center_of left.new.core) left.new.lines.items) }
+    ensures ends { IfSome result (λ turns. EndsBehind bounds turns left.new.regions.items) }
+    ensures count { length left.new.regions.items ≡ length left.old.regions.items }
+    ensures version { left.new.core.state.rights.version ≡ left.old.core.state.rights.version }
+    ensures on { (p : Image) → IsOnWay p left.old → IsOnWay p left.new }
+{
+    if is_over(left, bounds.turns) {
+        return Some(bounds.turns);
+    }
+    cut_short(left, bounds)
+}
+
+/// So many turns, where the run is over that ends behind them.
+fn over_at(left: &mut Left<'_>, turns: u32) -> Option<u32>
+    ensures over { IfSome result (λ made. IsOver made (center_of left.new.core) left.new.lines.items) }
+    ensures same { IfSome result (λ made. made ≡ turns) }
+    ensures count { length left.new.regions.items ≡ length left.old.regions.items }
+    ensures version { left.new.core.state.rights.version ≡ left.old.core.state.rights.version }
+    ensures regions { left.new.regions ≡ left.old.regions }
+    ensures on { (p : Image) → IsOnWay p left.old → IsOnWay p left.new }
+{
+    if is_over(left, turns) {
+        return Some(turns);
+    }
+    None
+}
+
+/// Behind how many turns the run ends behind a task, if the handlers have printed more than they may.
+fn cut_behind(left: &mut Left<'_>, bounds: Bounds, tally: &mut Tally) -> Option<u32>
+    ensures over { IfSome result (λ turns. IsOver turns (center_of left.new.core) left.new.lines.items) }
+    ensures ends { IfSome result (λ turns. EndsBehind bounds turns left.new.regions.items) }
+    ensures count { length left.new.regions.items ≡ length left.old.regions.items }
+    ensures version { left.new.core.state.rights.version ≡ left.old.core.state.rights.version }
+    ensures on { (p : Image) → IsOnWay p left.old → IsOnWay p left.new }
+{
+    if !tally.is_past(left, bounds.output) {
+        return None;
+    }
+    cut_short(left, bounds)
+}
+
+/// The turns that were made, where the handlers have printed more than they may.
+fn cut_short(left: &mut Left<'_>, bounds: Bounds) -> Option<u32>
+    ensures over { IfSome result (λ turns. IsOver turns (center_of left.new.core) left.new.lines.items) }
+    ensures ends { IfSome result (λ turns. EndsBehind bounds turns left.new.regions.items) }
+    ensures count { length left.new.regions.items ≡ length left.old.regions.items }
+    ensures version { left.new.core.state.rights.version ≡ left.old.core.state.rights.version }
+    ensures on { (p : Image) → IsOnWay p left.old → IsOnWay p left.new }
+{
+    let made = turns_in(left.lines.as_slice())?;
+    if made > bounds.turns {
+        return None;
+    }
+    if are_past(left.regions.as_slice(), bounds.output) {
+        return over_at(left, made);
+    }
+    None
 }
 
 /// The next handler that has something to do plays so many turns of its job at most, and they are settled and recorded: how

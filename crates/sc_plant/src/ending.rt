@@ -58,7 +58,7 @@ pub fn turns_left(lines: &[RecordLine], limit: u32) -> u32 {
 }
 
 /// How many turns there are in the lines of a record, where that is below 2^32.
-fn turns_in(lines: &[RecordLine]) -> Option<u32>
+pub fn turns_in(lines: &[RecordLine]) -> Option<u32>
     ensures { IfSome result (λ n. n ≡ turns_in lines.now) }
 {
     let mut turns = 0u32;

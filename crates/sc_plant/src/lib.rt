@@ -10,6 +10,7 @@
 #![tactic(auto)]
 
 mod alone;
+mod bounds;
 mod compare;
 mod due;
 mod ending;
@@ -20,6 +21,7 @@ mod leaving;
 mod left;
 mod of_program;
 mod opening;
+mod outputs;
 mod recorded_core;
 mod running;
 mod scheduler;
@@ -30,6 +32,7 @@ mod wants;
 mod watch;
 mod workers;
 
+pub use bounds::Bounds;
 pub use gate::Gate;
 pub use left::{Left, LoggedLeft, RunFault};
 pub use running::{run, run_watched};

@@ -1,12 +1,14 @@
 //! Runs of a program on several threads.
 ghost use Rattle.std.specs.Prelude.{◌≡◌, ◌≤◌, ℕ, IfErr, IfOk, IsTrue, None, Some, true};
+ghost use Rattle.sc_plant.specs.Bounded.{IsBoundedRun};
 ghost use Rattle.sc_code.specs.declared.program.Image.{Image};
 ghost use Rattle.sc_request.specs.Cores.{center_of};
 ghost use Rattle.sc_plant.specs.Left.{IsOutOfMemory, IsOver, IsRun, SaysWhy, TellsLeft};
 ghost use Rattle.sc_plant.specs.Sharing.{IsOnWayIn};
 
-use crate::alone::{Until, open_left, play_all, run_alone};
-use crate::ending::{is_over, turns_left};
+use crate::alone::{Until, ended, open_left, play_all, run_alone};
+use crate::bounds::Bounds;
+use crate::ending::{is_over, turns_in, turns_left};
 use crate::gate::Gate;
 use crate::leaving::{difference, left_of, without_logs};
 use crate::left::{Left, RunFault};
@@ -17,11 +19,15 @@ use crate::sharing::{Shared, share};
 use crate::slot::Slot;
 use crate::watch::{Unwatched, Watch};
 use crate::workers::start_and_join;
+use sc_audit::RecordLine;
 use sc_code::Program;
 use std::alloc::Global;
 use std::marker::Brand;
 use std::sync::{Mutex, Wait};
 use std::thread::Threads;
+
+/// How many turns several workers make before it is seen how much was printed.
+const TURNS_BETWEEN: u32 = 262_144;
 
 /// Plays the handlers of a program on so many threads, the calling one among them, until none has anything to do, so many
 /// turns are made, or the record has 1,000,000 lines. There may be 512 handlers.
@@ -45,11 +51,19 @@ pub fn run<'p, R: Threads + Wait + Sync, G: Gate>(
     ensures err { IfErr result (SaysWhy program.now.image) }
     ensures alone { workers ≤ 1 → IfErr result IsOutOfMemory }
 {
-    run_watched(rt, alloc, program, workers, limit, gate, &mut Unwatched)
+    let bounds = Bounds {
+        turns: limit,
+        output: None,
+    };
+    match run_watched(rt, alloc, program, workers, bounds, gate, &mut Unwatched) {
+        Ok(ended) => Ok(ended.0),
+        Err(fault) => Err(fault),
+    }
 }
 
-/// The same, where somebody looks at the run between its tasks: behind each that one thread plays, and where several workers
-/// have ended. By one worker the tasks are those of a run that nobody looks at.
+/// The same within bounds, and somebody looks at the run between its tasks: behind each that one thread plays, and where several
+/// workers have ended. By one worker the tasks are those of a run that nobody looks at. It is told behind how many turns
+/// at most the run has ended, which are fewer than the bound where the handlers have printed more than they may.
 ///
 /// # Errors
 /// As of a run that nobody looks at.
@@ -58,18 +72,18 @@ pub fn run_watched<'p, R: Threads + Wait + Sync, G: Gate, W: Watch>(
     alloc: Global,
     program: &'p Program,
     workers: u8,
-    limit: u32,
+    bounds: Bounds,
     gate: &G,
     watch: &mut W,
-) -> Result<Left<'p>, RunFault<'p>>
-    ensures ok { IfOk result (IsRun program.now.image limit) }
+) -> Result<(Left<'p>, u32), RunFault<'p>>
+    ensures ok { IfOk result (λ ended. IsBoundedRun program.now.image bounds ended.1 ended.0) }
     ensures err { IfErr result (SaysWhy program.now.image) }
     ensures alone { workers ≤ 1 → IfErr result IsOutOfMemory }
 {
     if workers <= 1 {
-        return run_alone(rt, alloc, program, limit, gate, watch);
+        return run_alone(rt, alloc, program, bounds, gate, watch);
     }
-    run_open::<Brand, R, G, W>(rt, alloc, program, workers, limit, gate, watch)
+    run_open::<Brand, R, G, W>(rt, alloc, program, workers, bounds, gate, watch)
 }
 
 /// A run of the program that the types under its locks have.
@@ -78,18 +92,18 @@ fn run_open<'p, P: OfProgram + Send + Sync, R: Threads + Wait + Sync, G: Gate, W
     alloc: Global,
     program: &'p Program,
     workers: u8,
-    limit: u32,
+    bounds: Bounds,
     gate: &G,
     watch: &mut W,
-) -> Result<Left<'p>, RunFault<'p>>
+) -> Result<(Left<'p>, u32), RunFault<'p>>
     requires { P.image ≡ Some program.now.image }
-    ensures ok { IfOk result (IsRun program.now.image limit) }
+    ensures ok { IfOk result (λ ended. IsBoundedRun program.now.image bounds ended.1 ended.0) }
     ensures err { IfErr result (SaysWhy program.now.image) }
 {
     let Ok(left) = open_left(alloc, program) else {
         return Err(RunFault::OutOfMemory(None));
     };
-    play_in_turns::<P, R, G, W>(rt, alloc, left, workers, limit, gate, watch)
+    play_in_turns::<P, R, G, W>(rt, alloc, left, workers, bounds, gate, watch)
 }
 
 /// Plays a run that has opened, by several workers as long as that is faster, and in turns with that by one.
@@ -98,30 +112,42 @@ fn play_in_turns<'p, P: OfProgram + Send + Sync, R: Threads + Wait + Sync, G: Ga
     alloc: Global,
     mut left: Left<'p>,
     workers: u8,
-    limit: u32,
+    bounds: Bounds,
     gate: &G,
     watch: &mut W,
-) -> Result<Left<'p>, RunFault<'p>>
+) -> Result<(Left<'p>, u32), RunFault<'p>>
     requires { IsOnWayIn P.image left }
-    ensures ok { (p : Image) → P.image ≡ Some p → IfOk result (IsRun p limit) }
+    ensures ok { (p : Image) → P.image ≡ Some p → IfOk result (λ ended. IsBoundedRun p bounds ended.1 ended.0) }
     ensures err { (p : Image) → P.image ≡ Some p → IfErr result (SaysWhy p) }
     ensures left { IfErr result TellsLeft }
 {
     for _ in rt.forever() {
-        let (next, is_over) = play_shared::<P, R, G>(rt, alloc, left, workers, limit, gate)?;
+        let turns = turns_to_see(left.lines.as_slice(), bounds);
+        let (next, _) = play_shared::<P, R, G>(rt, alloc, left, workers, turns, gate)?;
         left = next;
         watch.sees(&left);
-        if is_over {
-            return Ok(left);
+        if let Some(made) = ended(&mut left, bounds) {
+            return Ok((left, made));
         }
-        let Ok(is_over) = play_all(rt, &mut left, Until::CoarseGrained, limit, gate, watch) else {
+        let Ok(over) = play_all(rt, &mut left, Until::CoarseGrained, bounds, gate, watch) else {
             return Err(RunFault::OutOfMemory(Some(left)));
         };
-        if is_over {
-            return Ok(left);
+        if over.1 {
+            return Ok((left, over.0));
         }
     }
     unreachable!()
+}
+
+/// Behind how many turns of a run several workers are to end, so that it can be seen what was printed.
+fn turns_to_see(lines: &[RecordLine], bounds: Bounds) -> u32 {
+    match bounds.output {
+        None => bounds.turns,
+        Some(_) => {
+            let made = turns_in(lines).unwrap_or(bounds.turns);
+            bounds.turns.min(made.saturating_add(TURNS_BETWEEN))
+        }
+    }
 }
 
 /// Plays by several workers: what they leave, and whether the run is over.

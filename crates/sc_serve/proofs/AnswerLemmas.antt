@@ -177,6 +177,7 @@ ran_on_files options names held source program (Ok answer) of_them loaded ran =
       source,
       of_them,
       inl (record {
+        turns = ran.turns;
         lines = ran.lines;
         hows = ran.hows;
         report = ran.report;

@@ -23,7 +23,8 @@ use Rattle.sc_arguments.specs.declared.arguments.Command.TheVariants as command
 use Rattle.sc_arguments.specs.declared.arguments.RunOptions.{RunOptions}
 use Rattle.sc_driver.specs.Execution.{IsAccepted, IsLoaded, IsNotRunFor, IsPrinted, IsRefusedFor, IsReplay, IsRunOf, IsThreadRun, IsUnreadable}
 use Rattle.sc_plant.specs.declared.left.Left.{Left}
-use Rattle.sc_plant.specs.Left.{IsRun}
+use Rattle.sc_plant.specs.declared.bounds.Bounds.{Bounds}
+use Rattle.sc_plant.specs.Bounded.{IsBoundedRun}
 use Rattle.sc_auditing.specs.declared.auditing.AuditFault.{AuditFault}
 use Rattle.sc_auditing.specs.declared.auditing.AuditFault.TheVariants as auditing
 use Rattle.sc_auditing.specs.Audits.{IsAudited, TellsWhy}
@@ -186,31 +187,38 @@ abbrev pub IsJudged : Image → Bool → Left → List ℕ → List Status → L
 IsJudged program false left report hows output exit = (output ≡ report) × (exit ≡ exit_of hows)
 IsJudged program true left report hows output exit = IsAuditedAs program left report hows output exit
 
--- The same of a run whose record has these lines.
-abbrev pub IsTold : Image → ℕ → Bool → List RecordLine → List ℕ → List Status → List ℕ → Exit → Type 0
-IsTold program limit is_audited lines report hows output exit =
-    (left : Left) × IsRun program limit left × (left.lines.items ≡ lines)
+-- where a run is to end in any case
+abbrev pub bounds_of : RunOptions → Bounds
+bounds_of options = record { turns = options.turns; output = options.output_limit }
+
+-- The same of a run that ends behind so many turns at most, and whose record has these lines. These turns are those that are
+-- asked for; or fewer where an output limit is, and the handlers have printed more than that.
+abbrev pub IsTold : Image → Bounds → ℕ → Bool → List RecordLine → List ℕ → List Status → List ℕ → Exit → Type 0
+IsTold program bounds turns is_audited lines report hows output exit =
+    (left : Left) × IsBoundedRun program bounds turns left × (left.lines.items ≡ lines)
     × IsJudged program is_audited left report hows output exit
 
 -- The answer to a run of the program: the report, the audit of it where one is asked for, the status that goes with
 -- that, and the lines of the record for the file, where one was named.
 pub record IsRanOf (program : Image) (options : RunOptions) (output : List ℕ) (exit : Exit)
     (recording : Option Recording) : Type 0 where
+  pub turns : ℕ
   pub lines : List RecordLine
   pub hows : List Status
   pub report : List ℕ
-  pub is_run : ∥ IsThreadRun program options.turns lines report hows ∥₁
-  pub told : IsTold program options.turns options.is_audited lines report hows output exit
+  pub is_run : ∥ IsThreadRun program turns lines report hows ∥₁
+  pub told : IsTold program (bounds_of options) turns options.is_audited lines report hows output exit
   pub kept : kept_of recording ≡ asked_of (option_map (λ n. n.now) options.record) lines
 
 -- The same, of the text's program.
 pub record IsRanFrom (options : RunOptions) (text output : List ℕ) (exit : Exit) (recording : Option Recording)
     : Type 0 where
+  pub turns : ℕ
   pub lines : List RecordLine
   pub hows : List Status
   pub report : List ℕ
-  pub is_run : IsRunOf text (root_of options.root) options.turns lines report hows
-  pub told : IsTold is_run.program options.turns options.is_audited lines report hows output exit
+  pub is_run : IsRunOf text (root_of options.root) turns lines report hows
+  pub told : IsTold is_run.program (bounds_of options) turns options.is_audited lines report hows output exit
   pub kept : kept_of recording ≡ asked_of (option_map (λ n. n.now) options.record) lines
 
 -- Where the text is refused nothing is to be written.

@@ -8,6 +8,7 @@ ghost use Rattle.sc_serve.specs.Answer.{IsJudged, IsRanOf, IsRunOn, IsUnrun, IsU
 use crate::progress::Tell;
 use crate::serve::{Answer, Exit, Fault, Recording, answer_explained, answer_unread, exit_of};
 use crate::tracing::{Tracing, tracer_of};
+use crate::verdict::turns_of;
 use sc_arguments::RunOptions;
 use sc_audit::RecordLine;
 use sc_auditing::{AuditFault, audit};
@@ -17,7 +18,7 @@ use sc_driver::{Ended, RunReport, load_text, run_program};
 use sc_explain_failure::{Limit, Played, run_note};
 use sc_lockpass::{HandlerNumber, Version};
 use sc_model::Status;
-use sc_plant::{Left, RunFault};
+use sc_plant::{Bounds, Left, RunFault};
 use sc_source::files::{Files, read_source};
 use sc_source::source::Source;
 use std::alloc::{AllocError, Global};
@@ -75,12 +76,16 @@ fn run_loaded<'a, R: Threads + Wait + Sync, T: Tell>(
 {
     let tracer = tracer_of(alloc, source, program, Version::Two, options.trace)?;
     let mut tracing = Tracing::new(teller, tracer);
-    let Ended { left, outcome } = match run_program(
+    let bounds = Bounds {
+        turns: options.turns,
+        output: options.output_limit,
+    };
+    let Ended { left, outcome, .. } = match run_program(
         rt,
         alloc,
         program,
         options.workers,
-        options.turns,
+        bounds,
         &mut tracing,
     ) {
         Ok(ended) => ended,
@@ -91,17 +96,8 @@ fn run_loaded<'a, R: Threads + Wait + Sync, T: Tell>(
     }
     let RunReport { report, statuses } = outcome;
     let (text, exit) = judge(alloc, program, options, &left, report, statuses.as_slice())?;
-    let may_refuse = has_refused(&left);
+    let note = note_of(alloc, program, options, source, &left, statuses.as_slice())?;
     let Left { lines, .. } = left;
-    let note = note_of(
-        alloc,
-        program,
-        options,
-        source,
-        lines.as_slice(),
-        statuses.as_slice(),
-        may_refuse,
-    )?;
     Ok(Answer {
         text,
         object: None,
@@ -167,28 +163,57 @@ fn has_refused(left: &Left<'_>) -> bool {
     false
 }
 
-/// What is said of a run beside its report, where it is asked for.
+/// How many bytes the handlers have printed together, where that is more than they may.
+fn printed_past(left: &Left<'_>, options: &RunOptions<'_>) -> Option<u64> {
+    let most = options.output_limit?;
+    let mut printed = 0u64;
+    for region in &left.regions {
+        printed = printed.saturating_add(region.output().len() as u64);
+    }
+    if printed > most { Some(printed) } else { None }
+}
+
+/// What is said of a run beside its report: that its handlers have printed too much; and what became of them, where that is
+/// asked for.
 fn note_of(
     alloc: Global,
     program: &Program,
     options: &RunOptions<'_>,
     source: &Source,
-    lines: &[RecordLine],
+    left: &Left<'_>,
     statuses: &[Status],
-    may_refuse: bool,
 ) -> Result<Vec<u8>, AllocError> {
+    let mut note = Vec::new(alloc);
+    let mut limit = Limit::Turns(options.turns);
+    if let Some(printed) = printed_past(left, options) {
+        limit = Limit::Output;
+        push_output_note(alloc, &mut note, turns_of(left.lines.as_slice()), printed)?;
+    }
     if !options.is_explained {
-        return Ok(Vec::new(alloc));
+        return Ok(note);
     }
     let played = Played {
         source,
         program,
         version: Version::Two,
-        lines,
-        limit: Limit::Turns(options.turns),
-        may_refuse,
+        lines: left.lines.as_slice(),
+        limit,
+        may_refuse: has_refused(left),
     };
-    run_note(alloc, played, statuses)
+    let explained = run_note(alloc, played, statuses)?;
+    note.extend_from_slice(explained.as_slice())?;
+    Ok(note)
+}
+
+/// Adds that a run was ended since its handlers have printed so many bytes.
+fn push_output_note(
+    alloc: Global,
+    note: &mut Vec<u8>,
+    turns: u64,
+    printed: u64,
+) -> Result<(), AllocError> {
+    let told = format!(in alloc; "stopped by --output-limit behind {turns} turns: they have printed {printed} bytes\n")?;
+    note.extend_from_slice(told.as_bytes())
 }
 
 /// The record that is to be written, where a file is named for it.

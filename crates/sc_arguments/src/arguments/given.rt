@@ -45,6 +45,7 @@ fn has_value(word: &str) -> bool
     word == "--root"
         || word == "--workers"
         || word == "--turns"
+        || word == "--output-limit"
         || word == "--record"
         || word == "--format"
         || word == "--for"

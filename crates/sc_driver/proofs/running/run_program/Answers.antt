@@ -6,8 +6,8 @@ use Rattle.sc_driver.proofs.running.run_program.Goals as goal
 -- what the run left tells what one thread's world tells
 pub returns-in-Ok-clause-ran : goal.returns-in-Ok-clause-ran
 returns-in-Ok-clause-ran g c =
-    told_run c.runs_are_one_threads.ensures (image_of c.args.program.now) c.args.turns c.in_ok-left.left c.in-Ok.outcome.report.items c.in-Ok.outcome.statuses.items
-    c.in_ok-left.ensures.ok c.in-Ok.ensures.report c.in-Ok.ensures.statuses
+    told_run c.runs_are_one_threads.ensures (image_of c.args.program.now) c.in_ok-left.turns c.in_ok-left.left c.in-Ok.outcome.report.items c.in-Ok.outcome.statuses.items
+    c.in_ok-left.ensures.ok.run c.in-Ok.ensures.report c.in-Ok.ensures.statuses
 
 pub returns-in-Err-clause-err : goal.returns-in-Err-clause-err
-returns-in-Err-clause-err g c = run_stopped (image_of c.args.program.now) c.args.turns c.in_ok-left.left c.in_ok-left.ensures.ok
+returns-in-Err-clause-err g c = run_stopped (image_of c.args.program.now) c.in_ok-left.turns c.in_ok-left.left c.in_ok-left.ensures.ok.run

@@ -14,9 +14,9 @@ loop-preserved-then-made-eq0 g c = record {
 
 pub loop-preserved : goal.loop-preserved
 loop-preserved g c = record {
-  count = c.in_ok-made.ensures.count;
-  version = c.in_ok-made.ensures.version;
-  on = λ p way. c.in_ok-made.ensures.on p (c.loop.invariant.on p way);
+  count = c.cut_behind.ensures.count ∙ c.in_ok-made.ensures.count;
+  version = c.cut_behind.ensures.version ∙ c.in_ok-made.ensures.version;
+  on = λ p way. c.cut_behind.ensures.on p (c.in_ok-made.ensures.on p (c.loop.invariant.on p way));
 }
 
 pub returns-in_err-made-clause-err : goal.returns-in_err-made-clause-err
@@ -24,3 +24,6 @@ returns-in_err-made-clause-err g c = on-err c.from_residual.result _ (λ p way. 
 
 pub returns-then-is_over-clause-on : goal.returns-then-is_over-clause-on
 returns-then-is_over-clause-on g c = λ p way. c.is_over.ensures.on p (c.in_ok-made.ensures.on p (c.loop.invariant.on p way))
+
+pub returns-in-Some-clause-on : goal.returns-in-Some-clause-on
+returns-in-Some-clause-on g c = λ p way. c.cut_behind.ensures.on p (c.in_ok-made.ensures.on p (c.loop.invariant.on p way))

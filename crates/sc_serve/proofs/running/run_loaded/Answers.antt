@@ -5,6 +5,7 @@ use Rattle.sc_serve.proofs.running.run_loaded.Goals as goal
 pub returns-clause-answer : goal.returns-clause-answer
 returns-clause-answer g c =
     record {
+      turns = c.in-Ok.ended.turns;
       lines = c.in-Ok.ended.left.lines.items;
       hows = c.in-Ok.ended.outcome.statuses.items;
       report = c.in-Ok.ended.outcome.report.items;
