@@ -72,10 +72,10 @@ fn play_opened<'p, R: Wait, G: Gate, W: Watch>(
     ensures left { IfErr result TellsLeft }
     ensures memory { IfErr result IsOutOfMemory }
 {
-    let Ok(over) = play_all(rt, &mut left, Until::Over, bounds, gate, watch) else {
+    let Ok((turns, _)) = play_all(rt, &mut left, Until::Over, bounds, gate, watch) else {
         return Err(RunFault::OutOfMemory(Some(left)));
     };
-    Ok((left, over.0))
+    Ok((left, turns))
 }
 
 /// What is there before the first turn.
@@ -229,11 +229,14 @@ fn cut_short(left: &mut Left<'_>, bounds: Bounds) -> Option<u32>
     ensures version { left.new.core.state.rights.version ≡ left.old.core.state.rights.version }
     ensures on { (p : Image) → IsOnWay p left.old → IsOnWay p left.new }
 {
-    let made = turns_in(left.lines.as_slice())?;
-    if made > bounds.turns {
+    let Some(made) = turns_in(left.lines.as_slice()) else {
+        return None;
+    };
+    let limit = bounds.turns;
+    if made > limit {
         return None;
     }
-    if are_past(left.regions.as_slice(), bounds.output) {
+    if are_past(left, bounds.output) {
         return over_at(left, made);
     }
     None

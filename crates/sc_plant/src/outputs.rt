@@ -1,5 +1,5 @@
 //! How much the handlers of a run have printed.
-ghost use Rattle.std.specs.Prelude.{◌≡◌, IfSome};
+ghost use Rattle.std.specs.Prelude.{◌≡◌, ◌<◌, IfSome};
 ghost use Rattle.std.specs.Bool.{OnTrue};
 ghost use Rattle.sc_plant.specs.Bounded.{ArePast, printed_by};
 
@@ -7,12 +7,19 @@ use crate::left::Left;
 use sc_play::Region;
 
 /// Whether the handlers have printed more bytes together than they may.
-pub fn are_past(regions: &[Region<'_>], most: Option<u64>) -> bool
-    ensures { OnTrue result (ArePast most regions.now) }
+pub fn are_past(left: &Left<'_>, most: Option<u64>) -> bool
+    ensures { OnTrue result (ArePast most left.now.regions.items) }
 {
-    let Some(most) = most else {
-        return false;
-    };
+    match most {
+        Some(most) => have_printed_more(left.regions.as_slice(), most),
+        None => false,
+    }
+}
+
+/// Whether they have printed more bytes than this, where that can be told.
+fn have_printed_more(regions: &[Region<'_>], most: u64) -> bool
+    ensures { OnTrue result (most < printed_by regions.now) }
+{
     let Some(printed) = printed_by(regions) else {
         return false;
     };
@@ -34,6 +41,7 @@ fn printed_by(regions: &[Region<'_>]) -> Option<u64>
 }
 
 /// How much each handler had printed as its last task was noted, so that not all have to be looked at behind each task.
+#[derive(Drop)]
 pub struct Tally {
     lengths: [usize; 512],
     printed: u64,

@@ -26,7 +26,7 @@ use std::marker::Brand;
 use std::sync::{Mutex, Wait};
 use std::thread::Threads;
 
-/// How many turns several workers make before it is seen how much was printed.
+/// How many turns several workers make before it is seen what they have come to.
 const TURNS_BETWEEN: u32 = 262_144;
 
 /// Plays the handlers of a program on so many threads, the calling one among them, until none has anything to do, so many
@@ -122,32 +122,33 @@ fn play_in_turns<'p, P: OfProgram + Send + Sync, R: Threads + Wait + Sync, G: Ga
     ensures left { IfErr result TellsLeft }
 {
     for _ in rt.forever() {
-        let turns = turns_to_see(left.lines.as_slice(), bounds);
-        let (next, _) = play_shared::<P, R, G>(rt, alloc, left, workers, turns, gate)?;
+        let pause = turns_to_see(left.lines.as_slice(), bounds, watch.interrupts());
+        let (next, _) = play_shared::<P, R, G>(rt, alloc, left, workers, pause, gate)?;
         left = next;
         watch.sees(&left);
         if let Some(made) = ended(&mut left, bounds) {
             return Ok((left, made));
         }
-        let Ok(over) = play_all(rt, &mut left, Until::CoarseGrained, bounds, gate, watch) else {
+        let Ok((turns, is_over)) =
+            play_all(rt, &mut left, Until::CoarseGrained, bounds, gate, watch)
+        else {
             return Err(RunFault::OutOfMemory(Some(left)));
         };
-        if over.1 {
-            return Ok((left, over.0));
+        if is_over {
+            return Ok((left, turns));
         }
     }
     unreachable!()
 }
 
-/// Behind how many turns of a run several workers are to end, so that it can be seen what was printed.
-fn turns_to_see(lines: &[RecordLine], bounds: Bounds) -> u32 {
-    match bounds.output {
-        None => bounds.turns,
-        Some(_) => {
-            let made = turns_in(lines).unwrap_or(bounds.turns);
-            bounds.turns.min(made.saturating_add(TURNS_BETWEEN))
-        }
+/// Behind how many turns of a run several workers are to end, so that it can be seen what was printed, or what they have come to
+/// where they are to be interrupted.
+fn turns_to_see(lines: &[RecordLine], bounds: Bounds, interrupts: bool) -> u32 {
+    if !interrupts && bounds.output.is_none() {
+        return bounds.turns;
     }
+    let made = turns_in(lines).unwrap_or(bounds.turns);
+    bounds.turns.min(made.saturating_add(TURNS_BETWEEN))
 }
 
 /// Plays by several workers: what they leave, and whether the run is over.

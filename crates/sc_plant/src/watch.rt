@@ -6,11 +6,19 @@ use crate::left::Left;
 pub trait Watch {
     /// A task was played and settled by one thread, or several workers have ended. No handler is out.
     fn sees(&mut self, left: &Left<'_>);
+
+    /// Whether several workers are to end now and then, so that it sees what they have come to.
+    fn interrupts(&self) -> bool;
 }
 
 /// Nobody looks.
+#[derive(Drop)]
 pub struct Unwatched;
 
 impl Watch for Unwatched {
     fn sees(&mut self, _left: &Left<'_>) {}
+
+    fn interrupts(&self) -> bool {
+        false
+    }
 }

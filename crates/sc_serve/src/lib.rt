@@ -15,3 +15,4 @@ mod searching;
 pub mod serve;
 mod tracing;
 mod verdict;
+mod watching;

@@ -10,15 +10,21 @@ const STEP: u32 = 256;
 pub trait Tell {
     /// Tells these lines, which stay.
     fn tell(&mut self, lines: &[u8]);
+
+    /// Whether there is a terminal, on which it is shown how far something is.
+    fn is_shown(&self) -> bool;
+
+    /// Shows there how many turns of a run are made, and how many handlers there are.
+    fn show_run(&mut self, turns: u64, handlers: usize);
 }
 
-/// Says on a line of a terminal, which is written over each time, how many states a search has kept; elsewhere it says nothing of
+/// Says on a line of a terminal, which is written over each time, how far a search or a run is; elsewhere it says nothing of
 /// that. Lines that stay are told anywhere.
 #[derive(Drop)]
 pub struct Progress<'e, E> {
     err: &'e mut E,
     is_shown: bool,
-    /// How many states were said last; None before that.
+    /// How many states were said last, if something was said.
     said: Option<u32>,
 }
 
@@ -52,6 +58,18 @@ impl<'e, E: Write> Tell for Progress<'e, E> {
         // What they tell of goes on in any case.
         let _ = self.err.write_all(lines);
         let _ = self.err.flush();
+    }
+
+    fn is_shown(&self) -> bool {
+        self.is_shown
+    }
+
+    fn show_run(&mut self, turns: u64, handlers: usize) {
+        if self.is_shown {
+            self.said = Some(0);
+            let _ = write!(self.err, "\r{turns} turns, {handlers} handlers");
+            self.show("\x1b[K");
+        }
     }
 }
 

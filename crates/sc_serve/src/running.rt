@@ -9,6 +9,7 @@ use crate::progress::Tell;
 use crate::serve::{Answer, Exit, Fault, Recording, answer_explained, answer_unread, exit_of};
 use crate::tracing::{Tracing, tracer_of};
 use crate::verdict::turns_of;
+use crate::watching::RunWatch;
 use sc_arguments::RunOptions;
 use sc_audit::RecordLine;
 use sc_auditing::{AuditFault, audit};
@@ -24,9 +25,10 @@ use sc_source::source::Source;
 use std::alloc::{AllocError, Global};
 use std::sync::Wait;
 use std::thread::Threads;
+use std::time::Clock;
 
 /// Runs the system of the named files.
-pub fn answer_run<'a, R: Threads + Wait + Sync, F: Files, T: Tell>(
+pub fn answer_run<'a, R: Threads + Wait + Clock + Sync, F: Files, T: Tell>(
     rt: &R,
     alloc: Global,
     options: &RunOptions<'a>,
@@ -61,7 +63,7 @@ fn explained_root<'r>(options: &'r RunOptions<'_>) -> Option<&'r Root> {
 }
 
 /// Runs the program of a source text.
-fn run_loaded<'a, R: Threads + Wait + Sync, T: Tell>(
+fn run_loaded<'a, R: Threads + Wait + Clock + Sync, T: Tell>(
     rt: &R,
     alloc: Global,
     program: &Program,
@@ -75,7 +77,8 @@ fn run_loaded<'a, R: Threads + Wait + Sync, T: Tell>(
     ensures unrun { IfErr result IsUnrun }
 {
     let tracer = tracer_of(alloc, source, program, Version::Two, options.trace)?;
-    let mut tracing = Tracing::new(teller, tracer);
+    let tracing = Tracing::new(teller, tracer);
+    let mut watch = RunWatch::new(rt, tracing, options.is_explained);
     let bounds = Bounds {
         turns: options.turns,
         output: options.output_limit,
@@ -86,12 +89,12 @@ fn run_loaded<'a, R: Threads + Wait + Sync, T: Tell>(
         program,
         options.workers,
         bounds,
-        &mut tracing,
+        &mut watch,
     ) {
         Ok(ended) => ended,
         Err(fault) => return Err(fault_of(fault)),
     };
-    if tracing.is_lacking() {
+    if watch.is_lacking() {
         return Err(Fault::OutOfMemory);
     }
     let RunReport { report, statuses } = outcome;
@@ -163,9 +166,12 @@ fn has_refused(left: &Left<'_>) -> bool {
     false
 }
 
-/// How many bytes the handlers have printed together, where that is more than they may.
-fn printed_past(left: &Left<'_>, options: &RunOptions<'_>) -> Option<u64> {
+/// How many bytes the handlers have printed together, where that is more than they may, and some have something to do still.
+fn printed_past(left: &Left<'_>, options: &RunOptions<'_>, statuses: &[Status]) -> Option<u64> {
     let most = options.output_limit?;
+    if !statuses.iter().any(|status| matches!(status, Status::Busy)) {
+        return None;
+    }
     let mut printed = 0u64;
     for region in &left.regions {
         printed = printed.saturating_add(region.output().len() as u64);
@@ -185,7 +191,7 @@ fn note_of(
 ) -> Result<Vec<u8>, AllocError> {
     let mut note = Vec::new(alloc);
     let mut limit = Limit::Turns(options.turns);
-    if let Some(printed) = printed_past(left, options) {
+    if let Some(printed) = printed_past(left, options, statuses) {
         limit = Limit::Output;
         push_output_note(alloc, &mut note, turns_of(left.lines.as_slice()), printed)?;
     }
@@ -212,7 +218,9 @@ fn push_output_note(
     turns: u64,
     printed: u64,
 ) -> Result<(), AllocError> {
-    let told = format!(in alloc; "stopped by --output-limit behind {turns} turns: they have printed {printed} bytes\n")?;
+    let told = format!(in alloc;
+        "stopped by --output-limit behind {turns} turns: they have printed {printed} bytes\n"
+    )?;
     note.extend_from_slice(told.as_bytes())
 }
 

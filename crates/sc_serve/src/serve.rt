@@ -41,6 +41,7 @@ use std::convert::AsStr;
 use std::io::{self, ErrorKind, Write};
 use std::sync::Wait;
 use std::thread::Threads;
+use std::time::Clock;
 
 /// What the program ends with. Where several fit, the first in this list.
 #[derive(Clone, Copy)]
@@ -130,18 +131,17 @@ impl<'a> From<AllocError> for Fault<'a> {
 /// Does what `arguments` ask for, of which the first is the program's name, and answers the status that
 /// the program ends with. What was asked for is written to `out`, and why it can't be had to `err`. The record of a run
 /// goes to the file that is named for it, behind that. Where `err` is a terminal, a search says there how far it is, and
-/// answers are explained there unless an argument says otherwise. Turns that are to be told as they are made are told there.
+/// so does a run of a second or more, and answers are explained there unless an argument says otherwise. Turns that are to be told as they are made are told there.
 ///
 /// With any status but 2 and 5 all of the answer is written. Where one is given up, as with these, a beginning of it is, and
 /// nothing where there is none.
-pub fn serve<R: Threads + Wait + Sync + AllocGlobal, S: AsStr, F: Files, O: Write, E: Write>(
-    rt: &R,
-    arguments: &[S],
-    files: &F,
-    out: &mut O,
-    err: &mut E,
-    is_terminal: bool,
-) -> u8
+pub fn serve<
+    R: Threads + Wait + Clock + Sync + AllocGlobal,
+    S: AsStr,
+    F: Files,
+    O: Write,
+    E: Write,
+>(rt: &R, arguments: &[S], files: &F, out: &mut O, err: &mut E, is_terminal: bool) -> u8
     ensures { let words = map S.text arguments.now in
         IsServed words (F.bytes_of files.now) (O.contents out.old) (O.contents out.new) result }
 {
@@ -243,7 +243,7 @@ fn say_remains<E: Write>(remains: &Option<Remains>, err: &mut E) -> io::Result<(
 
 /// What is answered to the arguments: what they ask for, or help where they ask for that.
 #[tactic(auto, using(crate::proofs::ServedLemmas::response, crate::proofs::ServedLemmas::help))]
-fn respond<'a, R: Threads + Wait + Sync + AllocGlobal, S: AsStr, F: Files, W: Watch + Tell>(
+fn respond<'a, R: Threads + Wait + Clock + Sync + AllocGlobal, S: AsStr, F: Files, W: Watch + Tell>(
     rt: &R,
     arguments: &'a [S],
     files: &F,
@@ -264,7 +264,7 @@ fn respond<'a, R: Threads + Wait + Sync + AllocGlobal, S: AsStr, F: Files, W: Wa
 }
 
 /// Does what is asked for.
-fn answer_to<'a, R: Threads + Wait + Sync, F: Files, W: Watch + Tell>(
+fn answer_to<'a, R: Threads + Wait + Clock + Sync, F: Files, W: Watch + Tell>(
     rt: &R,
     alloc: Global,
     invocation: &Invocation<'a>,

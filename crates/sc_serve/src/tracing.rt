@@ -6,7 +6,6 @@ use sc_audit::RecordLine;
 use sc_code::Program;
 use sc_explain_turns::{Told, Tracer};
 use sc_lockpass::Version;
-use sc_plant::{Left, Watch};
 use sc_source::source::Source;
 use std::alloc::{AllocError, Global};
 
@@ -31,6 +30,21 @@ impl<'w, 'r, T: Tell> Tracing<'w, 'r, T> {
             seen: 0,
             is_lacking: false,
         }
+    }
+
+    /// Whether turns are told.
+    pub fn is_told(&self) -> bool {
+        self.tracer.is_some()
+    }
+
+    /// Whether there is a terminal, on which it is shown how far a run is.
+    pub fn is_shown(&self) -> bool {
+        self.teller.is_shown()
+    }
+
+    /// Shows there how far it is.
+    pub fn show_run(&mut self, turns: u64, handlers: usize) {
+        self.teller.show_run(turns, handlers)
     }
 
     /// Whether memory was refused to what was to be told.
@@ -61,12 +75,6 @@ impl<'w, 'r, T: Tell> Tracing<'w, 'r, T> {
             }
             Err(_) => self.is_lacking = true,
         }
-    }
-}
-
-impl<'w, 'r, T: Tell> Watch for Tracing<'w, 'r, T> {
-    fn sees(&mut self, left: &Left<'_>) {
-        self.follow(left.lines.as_slice())
     }
 }
 

@@ -13,6 +13,7 @@ use std::process::Abort;
 use std::sync::Wait;
 use std::test::Fail;
 use std::thread::Threads;
+use std::time::Clock;
 
 /// A call of the program: its words, its files, and how long standard output and standard error are written to.
 #[derive(Clone, Copy)]
@@ -44,7 +45,7 @@ impl<'a> Call<'a> {
 }
 
 /// What a call answers.
-fn answer_of<R: Threads + Wait + Sync + AllocGlobal>(
+fn answer_of<R: Threads + Wait + Clock + Sync + AllocGlobal>(
     rt: &R,
     call: Call<'_>,
 ) -> Result<Said, AllocError> {
@@ -64,7 +65,7 @@ fn answer_of<R: Threads + Wait + Sync + AllocGlobal>(
 
 /// Compares what a call answers: its status, what it writes on standard output, and what on standard error. One for which memory runs
 /// out has no answer, and writes nothing but that: the test ends there and says so.
-fn expect<R: Abort + Threads + Wait + Sync + AllocGlobal>(
+fn expect<R: Abort + Threads + Wait + Clock + Sync + AllocGlobal>(
     rt: &R,
     call: Call<'_>,
     (status, out, err): (u8, &str, &str),

@@ -8,6 +8,7 @@ use std::process::Abort;
 use std::sync::Wait;
 use std::test::Fail;
 use std::thread::Threads;
+use std::time::Clock;
 
 #[test]
 fn tells_the_file_whose_reader_fails(rt: HostRuntime) -> Result<(), Fail> {
@@ -39,7 +40,7 @@ fn reads_a_file_no_further_than_a_source_may_be_long(rt: HostRuntime) -> Result<
 const SOURCE: &str = "class APPLICATION create make feature make do end end";
 
 /// Replays a record whose reader fails by this kind.
-fn expect_replay<R: Abort + Threads + Wait + Sync + AllocGlobal>(
+fn expect_replay<R: Abort + Threads + Wait + Clock + Sync + AllocGlobal>(
     rt: &R,
     (record, kind): (&str, ErrorKind),
     wanted: (u8, &str, &str),
@@ -80,7 +81,7 @@ fn reads_on_where_a_read_is_interrupted(rt: HostRuntime) -> Result<(), Fail> {
 }
 
 /// A file can't be opened, for this reason.
-fn expect_reason<R: Abort + Threads + Wait + Sync + AllocGlobal>(
+fn expect_reason<R: Abort + Threads + Wait + Clock + Sync + AllocGlobal>(
     rt: &R,
     kind: ErrorKind,
     told: &str,

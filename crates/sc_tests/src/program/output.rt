@@ -8,6 +8,7 @@ use std::process::Abort;
 use std::sync::Wait;
 use std::test::Fail;
 use std::thread::Threads;
+use std::time::Clock;
 
 /// How output fails.
 #[derive(Clone, Copy)]
@@ -33,7 +34,7 @@ const NO_MEMORY: Failure<'static> = Failure {
 const TEXT: &str = "class APPLICATION create make feature make do print (8) end end";
 
 /// A call of this status prints this: where the output fails so, as much of it as was taken.
-fn expect_cut<'a, R: Abort + Threads + Wait + Sync + AllocGlobal>(
+fn expect_cut<'a, R: Abort + Threads + Wait + Clock + Sync + AllocGlobal>(
     rt: &R,
     failure: Failure<'a>,
     words: &str,
@@ -57,7 +58,7 @@ fn expect_cut<'a, R: Abort + Threads + Wait + Sync + AllocGlobal>(
     Ok(())
 }
 
-fn expect_cuts<R: Abort + Threads + Wait + Sync + AllocGlobal>(
+fn expect_cuts<R: Abort + Threads + Wait + Clock + Sync + AllocGlobal>(
     rt: &R,
     failure: Failure<'_>,
 ) -> Result<(), Fail> {

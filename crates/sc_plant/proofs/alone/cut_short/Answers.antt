@@ -1,6 +1,4 @@
 use Rattle.std.proofs.Common.{ap, arith}
-use Rattle.std.specs.Bool.{OnTrue}
-use Rattle.sc_plant.specs.Bounded.{ArePast}
 use Rattle.sc_plant.proofs.CutRuns.{cut_ends}
 use Rattle.sc_plant.proofs.alone.cut_short.Goals as goal
 
@@ -8,5 +6,4 @@ use Rattle.sc_plant.proofs.alone.cut_short.Goals as goal
 pub returns-then-are_past-clause-ends : goal.returns-then-are_past-clause-ends
 returns-then-are_past-clause-ends c =
     cut_ends c.args.bounds c.in-Some.made c.args.left.now.regions.items c.over_at.new.left.regions.items c.are_past.result c.over_at.result
-    (omega (arith, c.if-made-gt.false)) c.if-are_past.true (rw c.as_slice-2.ensures.value at c.are_past.ensures) (ap (λ v. v.items) c.over_at.ensures.regions)
-    c.over_at.ensures.same
+    (omega (arith, c.if-made-limit.false)) c.if-are_past.true c.are_past.ensures (ap (λ v. v.items) c.over_at.ensures.regions) c.over_at.ensures.same

@@ -4,9 +4,8 @@ use Rattle.sc_plant.proofs.alone.play_opened.Goals as goal
 
 pub returns-clause-ok : goal.returns-clause-ok
 returns-clause-ok g c = λ p way.
-    let over = c.in-Ok.over in
     let is = c.in-Ok.ensures.whole refl in
     record {
-      run = way_run p over.0 c.play_all.new.left (c.in-Ok.ensures.on p way) (c.in-Ok.ensures.over is);
+      run = way_run p _ c.play_all.new.left (c.in-Ok.ensures.on p way) (c.in-Ok.ensures.over is);
       ends = c.in-Ok.ensures.ends is;
     }

@@ -17,17 +17,17 @@ returns-in-Some-clause-ok g c = λ p is.
       ends = c.in-Some.ensures.ends;
     }
 
-pub returns-then-over-clause-ok : goal.returns-then-over-clause-ok
-returns-then-over-clause-ok g c = λ p is.
+pub returns-then-is_over-clause-ok : goal.returns-then-is_over-clause-ok
+returns-then-is_over-clause-ok g c = λ p is.
     let way = c.ended.ensures.on p (way_of g.P.OfProgram.image c.in_ok-next.next p c.in_ok-next.ensures.on is) in
     record {
-      run = way_run p c.in-Ok.over.0 c.play_all.new.left (c.in-Ok.ensures.on p way) (c.in-Ok.ensures.over c.if-over.true);
-      ends = c.in-Ok.ensures.ends c.if-over.true;
+      run = way_run p _ c.play_all.new.left (c.in-Ok.ensures.on p way) (c.in-Ok.ensures.over c.if-is_over.true);
+      ends = c.in-Ok.ensures.ends c.if-is_over.true;
     }
 
-pub returns-in_default-clause-err : goal.returns-in_default-clause-err
-returns-in_default-clause-err g c = λ p is.
-    c.in_default.ensures.err p (c.ended.ensures.on p (way_of g.P.OfProgram.image c.in_ok-next.next p c.in_ok-next.ensures.on is))
+pub returns-in_default-play_all-clause-err : goal.returns-in_default-play_all-clause-err
+returns-in_default-play_all-clause-err g c = λ p is.
+    c.in_default-play_all.ensures.err p (c.ended.ensures.on p (way_of g.P.OfProgram.image c.in_ok-next.next p c.in_ok-next.ensures.on is))
 
 pub loop-preserved : goal.loop-preserved
 loop-preserved g c =
