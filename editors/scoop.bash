@@ -7,7 +7,7 @@ _scoop() {
         return
     fi
     case $before in
-    --root | --turns | --workers | --states) return ;;
+    --root | --turns | --output-limit | --workers | --states) return ;;
     --for)
         mapfile -t COMPREPLY < <(compgen -W 'stuck fails any' -- "$word")
         return
@@ -23,8 +23,8 @@ _scoop() {
     esac
     case $command:$word in
     check:-*) mapfile -t COMPREPLY < <(compgen -W '--root --explain --no-explain --format --help' -- "$word") ;;
-    run:-*) mapfile -t COMPREPLY < <(compgen -W '--workers --turns --record --audit --root --explain --no-explain --format --help' -- "$word") ;;
-    replay:-*) mapfile -t COMPREPLY < <(compgen -W '--root --explain --no-explain --format --help' -- "$word") ;;
+    run:-*) mapfile -t COMPREPLY < <(compgen -W '--workers --turns --output-limit --record --audit --trace --trace=print --root --explain --no-explain --format --help' -- "$word") ;;
+    replay:-*) mapfile -t COMPREPLY < <(compgen -W '--trace --trace=print --root --explain --no-explain --format --help' -- "$word") ;;
     search:-*) mapfile -t COMPREPLY < <(compgen -W '--for --states --record --outcomes --explain --no-explain --format --root --help' -- "$word") ;;
     print:-* | explain:-*) mapfile -t COMPREPLY < <(compgen -W '--help' -- "$word") ;;
     explain:*) mapfile -t COMPREPLY < <(compgen -W "$("${COMP_WORDS[0]}" explain 2>/dev/null)" -- "$word") ;;
