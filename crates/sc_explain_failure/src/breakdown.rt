@@ -189,12 +189,9 @@ fn push_served(origin: &RunSource<'_>, lines: &mut Lines, asked: &Asked) {
 
 /// Adds a place of the text, of which something is said then, and whether there is one.
 fn begin_place(origin: &RunSource<'_>, lines: &mut Lines, span: Span) -> bool {
-    let Some(place) = origin.source.place_of(span.start) else {
-        return false;
-    };
-    push_place(lines, place);
-    lines.push(": ");
-    true
+    let is_there = push_place(origin, lines, "", span);
+    lines.push(if is_there { ": " } else { "" });
+    is_there
 }
 
 /// Adds the line of a place of the text of which something was said, with carets.

@@ -104,9 +104,7 @@ fn push_moments(
     push_failures(origin, lines, statuses, ended, moments);
     push_refusals(lines, moments);
     push_limit(lines, played, statuses);
-    if push_waits(origin, lines, ended).is_err() {
-        lines.lack()
-    }
+    push_waits(origin, lines, ended)
 }
 
 fn are_free(statuses: &[Status]) -> bool {

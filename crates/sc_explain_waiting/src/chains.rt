@@ -1,129 +1,174 @@
 //! Who waits for whom: cycles, and the chains that lead to them or to one that waits for something else.
 
-use crate::waits::{Wait, keeper_in};
+use crate::waits::{Wait, count_of, keeper_of, wait_of};
 use sc_lockpass::HandlerNumber;
 use sc_request::Core;
+use sc_world::World;
 use std::alloc::{AllocError, Global};
 
-/// For each handler the one that keeps it waiting, if a waiting one does; one of a cycle, or that leads to a cycle, where
-/// there is such a one.
+/// A handler among those that wait for each other.
+#[derive(Clone, Copy)]
+pub struct Member {
+    pub wait: Wait,
+    /// The waiting handler that keeps it waiting, if one does; one of a cycle, or that leads to a cycle, where there is such a one.
+    pub next: Option<HandlerNumber>,
+    /// Whether it waits, and may be one of a cycle or lead to one.
+    is_stuck: bool,
+    /// Whether it was told of.
+    pub is_told: bool,
+}
+
+/// What stands for a handler that isn't there.
+const NOBODY: Member = Member {
+    wait: Wait::Nothing,
+    next: None,
+    is_stuck: false,
+    is_told: true,
+};
+
+/// The handlers of a world, in order of number.
 #[derive(Drop)]
 pub struct Chains {
-    next: Vec<Option<HandlerNumber>>,
+    members: Vec<Member>,
 }
 
 impl Chains {
-    pub fn of(alloc: Global, core: &Core, waits: &[Wait]) -> Result<Chains, AllocError> {
-        let mut next = vec![in alloc; None; waits.len()]?;
-        let mut stuck = waiting_set(alloc, waits)?;
-        set_keepers(core, waits, &stuck, &mut next);
-        free_all(core, waits, &mut stuck);
-        set_keepers(core, waits, &stuck, &mut next);
-        Ok(Chains { next })
+    /// Of which none was told.
+    pub fn of(alloc: Global, world: &World<'_>) -> Result<Chains, AllocError> {
+        let mut members = Vec::new(alloc);
+        for handler in 0..count_of(world) {
+            let wait = wait_of(world, handler);
+            members.push(Member {
+                wait,
+                next: None,
+                is_stuck: wait.is_waiting(),
+                is_told: false,
+            })?;
+        }
+        let mut chains = Chains { members };
+        chains.link(world.core());
+        Ok(chains)
     }
 
-    /// The waiting handler that keeps this one waiting.
-    pub fn next(&self, handler: HandlerNumber) -> Option<HandlerNumber> {
-        *self.next.get(handler as usize)?
+    /// Sets for each handler the one that keeps it waiting.
+    fn link(&mut self, core: &Core) {
+        self.set_keepers(core);
+        // Those are left that lead to a cycle.
+        for _round in 0..self.members.len() {
+            if !self.free_some(core) {
+                break;
+            }
+        }
+        self.set_keepers(core)
+    }
+
+    /// Sets for each handler the first that may be stuck of those that keep it waiting, where there is one.
+    fn set_keepers(&mut self, core: &Core) {
+        for index in 0..self.members.len().min(HandlerNumber::MAX as usize) {
+            let keeper = self.keeper_in(core, index as HandlerNumber);
+            if let Some(member) = self.members.get_mut(index)
+                && keeper.is_some()
+            {
+                member.next = keeper;
+            }
+        }
+    }
+
+    /// Finds that those aren't stuck that nobody keeps waiting who may be: whether there was one.
+    fn free_some(&mut self, core: &Core) -> bool {
+        let mut is_changed = false;
+        for index in 0..self.members.len().min(HandlerNumber::MAX as usize) {
+            let is_kept = self.keeper_in(core, index as HandlerNumber).is_some();
+            if let Some(member) = self.members.get_mut(index)
+                && member.is_stuck
+                && !is_kept
+            {
+                member.is_stuck = false;
+                is_changed = true;
+            }
+        }
+        is_changed
+    }
+
+    /// The first that may be stuck of those that keep a handler waiting.
+    fn keeper_in(&self, core: &Core, handler: HandlerNumber) -> Option<HandlerNumber> {
+        match self.at(handler).wait {
+            Wait::Reservation => self.holder_in(core, handler),
+            Wait::Answer(supplier) if self.at(supplier).is_stuck => Some(supplier),
+            _ => None,
+        }
+    }
+
+    /// The first that may be stuck of those that keep a handler from what it is to reserve.
+    fn holder_in(&self, core: &Core, handler: HandlerNumber) -> Option<HandlerNumber> {
+        let needed = core.needed_by(handler);
+        for one in needed.as_slice() {
+            if let Some(keeper) = keeper_of(core, *one)
+                && self.at(keeper).is_stuck
+            {
+                return Some(keeper);
+            }
+        }
+        None
+    }
+
+    /// The handler of a number.
+    pub fn at(&self, handler: HandlerNumber) -> Member {
+        self.members
+            .get(handler as usize)
+            .copied()
+            .unwrap_or(NOBODY)
+    }
+
+    /// A handler was told of.
+    pub fn mark(&mut self, handler: HandlerNumber) {
+        if let Some(member) = self.members.get_mut(handler as usize) {
+            member.is_told = true;
+        }
+    }
+
+    /// Whether a handler is busy.
+    pub fn is_any_busy(&self) -> bool {
+        self.members
+            .iter()
+            .any(|member| matches!(member.wait, Wait::Busy))
     }
 
     /// Whether a waiting handler waits for this one.
     pub fn is_waited_for(&self, handler: HandlerNumber) -> bool {
-        self.next.iter().any(|next| *next == Some(handler))
+        self.members
+            .iter()
+            .any(|member| member.next == Some(handler))
     }
 
-    /// The handlers from this one on, each of which waits for the next: until one waits for none of the waiting, or for one
-    /// that is among them.
-    fn chain(&self, alloc: Global, from: HandlerNumber) -> Result<Vec<HandlerNumber>, AllocError> {
-        let mut chain = Vec::new(alloc);
-        let mut at = from;
-        for _step in 0..self.next.len() {
-            chain.push(at)?;
-            match self.next(at) {
-                Some(next) if !contains(&chain, next) => at = next,
-                _ => break,
+    /// How many handlers are in the cycle in which this one waits for itself; 0 where there is none.
+    pub fn cycle_length(&self, handler: HandlerNumber) -> usize {
+        let mut at = handler;
+        for count in 0..self.members.len() {
+            match self.at(at).next {
+                Some(next) if next == handler => return count.saturating_add(1),
+                Some(next) => at = next,
+                None => return 0,
             }
         }
-        Ok(chain)
+        0
     }
 
-    /// The cycle in which this handler waits for itself, beginning with it, if there is one.
-    pub fn cycle(
-        &self,
-        alloc: Global,
-        from: HandlerNumber,
-    ) -> Result<Option<Vec<HandlerNumber>>, AllocError> {
-        let chain = self.chain(alloc, from)?;
-        let last = chain.last().copied().unwrap_or(from);
-        Ok(if self.next(last) == Some(from) {
-            Some(chain)
-        } else {
-            None
-        })
-    }
-}
-
-fn contains(handlers: &[HandlerNumber], handler: HandlerNumber) -> bool {
-    handlers.iter().any(|other| *other == handler)
-}
-
-/// The handlers that wait.
-fn waiting_set(alloc: Global, waits: &[Wait]) -> Result<Vec<bool>, AllocError> {
-    let mut set = Vec::new(alloc);
-    for wait in waits {
-        set.push(wait.is_waiting())?;
-    }
-    Ok(set)
-}
-
-/// Sets for each handler the first in the set that keeps it waiting, where there is one.
-fn set_keepers(core: &Core, waits: &[Wait], set: &[bool], next: &mut [Option<HandlerNumber>]) {
-    for handler in 0..number_of(waits) {
-        let keeper = first_of(core, waits, handler, set);
-        if let Some(place) = next.get_mut(handler as usize)
-            && keeper.is_some()
-        {
-            *place = keeper;
+    /// How many handlers there are from this one on, each of which waits for the next: up to one that was told of, or that waits
+    /// for nobody who waits.
+    pub fn chain_length(&self, handler: HandlerNumber) -> usize {
+        let mut at = handler;
+        let mut length = 1_usize;
+        for _step in 0..self.members.len() {
+            let Some(next) = self.at(at).next else {
+                break;
+            };
+            length = length.saturating_add(1);
+            if self.at(next).is_told {
+                break;
+            }
+            at = next;
         }
+        length
     }
-}
-
-/// How many handlers there are.
-pub fn number_of(waits: &[Wait]) -> u16 {
-    waits.len().min(u16::MAX as usize) as u16
-}
-
-/// The first of those that keep a handler waiting that is in the set.
-fn first_of(
-    core: &Core,
-    waits: &[Wait],
-    handler: HandlerNumber,
-    set: &[bool],
-) -> Option<HandlerNumber> {
-    keeper_in(core, handler, *waits.get(handler as usize)?, set)
-}
-
-/// Takes those out of the set that no one in it keeps waiting, one after the other: what is left leads to a cycle.
-fn free_all(core: &Core, waits: &[Wait], stuck: &mut [bool]) {
-    for _round in 0..waits.len() {
-        if !free_some(core, waits, stuck) {
-            return;
-        }
-    }
-}
-
-/// Takes those out of the set that no one in it keeps waiting: whether there was one.
-fn free_some(core: &Core, waits: &[Wait], stuck: &mut [bool]) -> bool {
-    let mut is_changed = false;
-    for handler in 0..number_of(waits) {
-        let is_kept = first_of(core, waits, handler, stuck).is_some();
-        if let Some(place) = stuck.get_mut(handler as usize)
-            && *place
-            && !is_kept
-        {
-            *place = false;
-            is_changed = true;
-        }
-    }
-    is_changed
 }

@@ -1,6 +1,6 @@
 //! What is said of a clause that is false, and which values the parts of a text had.
 
-use crate::evaluation::{Evaluation, Seen, Start, Until};
+use crate::evaluation::{Evaluation, Seen, Start, Until, stored, version_in};
 use crate::naming::push_place;
 use crate::origin::RunSource;
 use crate::waits::standing_of;
@@ -22,13 +22,16 @@ pub fn push_false_clause(
     world: &World<'_>,
     handler: HandlerNumber,
 ) {
-    if let Some(mut evaluation) = Evaluation::standing(origin.alloc, world, handler) {
-        if evaluation.reaches(Start::Place(0), Until::FalseClause) {
-            origin.push_false(lines, &evaluation)
-        }
-        if evaluation.is_lacking() {
-            lines.lack()
-        }
+    let start = Start::Place(0);
+    if let Some(reached) = Evaluation::of(
+        origin,
+        lines,
+        world,
+        handler,
+        start,
+        Until::FalseClause,
+    ) {
+        origin.push_false(lines, &reached)
     }
 }
 
@@ -56,14 +59,10 @@ pub fn push_operation_values(
     } else {
         Start::Here(answer)
     };
-    if let Some(mut evaluation) = Evaluation::standing(origin.alloc, world, handler) {
-        if evaluation.reaches(start, Until::Place(place)) {
-            let is_told = origin.push_values(lines, "where ", whole, &evaluation);
-            lines.push(if is_told { "\n" } else { "" })
-        }
-        if evaluation.is_lacking() {
-            lines.lack()
-        }
+    let until = Until::Place(place);
+    if let Some(reached) = Evaluation::of(origin, lines, world, handler, start, until) {
+        let is_told = origin.push_values(lines, "where ", whole, &reached);
+        lines.push(if is_told { "\n" } else { "" })
     }
 }
 
@@ -78,20 +77,21 @@ pub fn push_attributes(
     let mut told = Vec::new(origin.alloc);
     let text = origin.written(part);
     let mut start = 0;
-    for (at, byte) in text.bytes().enumerate() {
-        if !is_in_name(byte) {
+    for at in 0..text.len().saturating_add(1) {
+        if !is_in_name(text.as_bytes().get(at)) {
             let word = text.get(start..at).unwrap_or("");
             origin.push_attribute(lines, world, object, word, &mut told);
             start = at.saturating_add(1);
         }
     }
-    let word = text.get(start..).unwrap_or("");
-    origin.push_attribute(lines, world, object, word, &mut told);
     lines.push(if told.is_empty() { "" } else { "\n" })
 }
 
-fn is_in_name(byte: u8) -> bool {
-    byte.is_ascii_alphanumeric() || byte == b'_'
+fn is_in_name(byte: Option<&u8>) -> bool {
+    match byte {
+        Some(byte) => byte.is_ascii_alphanumeric() || *byte == b'_',
+        None => false,
+    }
 }
 
 impl<'r> RunSource<'r> {
@@ -104,8 +104,9 @@ impl<'r> RunSource<'r> {
         name: &'r str,
         told: &mut Vec<&'r str>,
     ) {
-        if !is_listed(told.as_slice(), name)
-            && let Some(value) = self.attribute_of(world, object, name)
+        if let Some(value) = self.attribute_of(world, object, name)
+            && !matches!(value, Value::Attached(_))
+            && !is_listed(told.as_slice(), name)
         {
             lines.push_all(&[if told.is_empty() { "where " } else { ", " }, name]);
             push_value(lines, value);
@@ -115,17 +116,12 @@ impl<'r> RunSource<'r> {
         }
     }
 
-    /// The attribute of this name of an object, where it holds no object.
+    /// The attribute of this name of an object.
     fn attribute_of(&self, world: &World<'_>, object: Reference, name: &str) -> Option<Value> {
-        let store = world.region(object.handler)?.store();
         let number = self.number_of(name)?;
-        let class = store.program().classes().get(object.class as usize)?;
-        match *class.features.get(number)? {
-            Some(FeatureCode::Attribute(attribute)) => match store.read(object.number, attribute)? {
-                Value::Attached(_) => None,
-                value => Some(value),
-            },
-            _ => None,
+        match version_in(self.program, object, number)? {
+            FeatureCode::Attribute(attribute) => stored(world, object, attribute),
+            FeatureCode::Routine(_) => None,
         }
     }
 
@@ -142,9 +138,8 @@ impl<'r> RunSource<'r> {
     /// Adds the clause that a routine has come to, and that it is false.
     fn push_false(&self, lines: &mut Lines, reached: &Evaluation<'_>) {
         if let Some(span) = self.span_at(reached.frame.routine, reached.frame.place)
-            && let Some(place) = self.source.place_of(span.start)
+            && push_place(self, lines, "", span)
         {
-            push_place(lines, place);
             lines.push(": `");
             lines.push_flat(self.written(span));
             lines.push("` is false");
@@ -201,10 +196,9 @@ impl<'r> RunSource<'r> {
     /// What the text has there, where that lies in the whole and its value is no object.
     fn part_at(&self, routine: usize, whole: Span, seen: Seen) -> Option<&'r str> {
         let span = self.span_at(routine, seen.place)?;
-        let is_within = whole.start <= span.start && span.end <= whole.end;
         match seen.value {
             Value::Attached(_) => None,
-            _ if !is_within => None,
+            _ if span.start < whole.start || whole.end < span.end => None,
             _ => Some(self.written(span)),
         }
     }

@@ -1,7 +1,9 @@
 //! The code of a routine, gone through once more from where it stands: without any effect, on the objects as they are.
 
 use crate::frame::{Frame, Values};
+use crate::origin::RunSource;
 use sc_code::{CallSite, FeatureCode, NameNumber, Operation, Program};
+use sc_explain_text::Lines;
 use sc_lockpass::HandlerNumber;
 use sc_region::{Reference, Value};
 use sc_world::World;
@@ -64,8 +66,27 @@ pub struct Evaluation<'r> {
 }
 
 impl<'r> Evaluation<'r> {
+    /// The topmost routine of a handler, gone through so far: None where it doesn't come from a place of it to another one
+    /// without asking anything of others. Where memory is refused on the way, the lines lack something.
+    pub fn of(
+        origin: &RunSource<'_>,
+        lines: &mut Lines,
+        world: &'r World<'r>,
+        handler: HandlerNumber,
+        start: Start,
+        until: Until,
+    ) -> Option<Evaluation<'r>> {
+        let mut evaluation = Evaluation::standing(origin.alloc, world, handler)?;
+        evaluation.begin(start);
+        let is_reached = evaluation.reaches(until);
+        if evaluation.is_lacking || evaluation.values.is_lacking {
+            lines.lack()
+        }
+        if is_reached { Some(evaluation) } else { None }
+    }
+
     /// The topmost routine of a handler, as it stands.
-    pub fn standing(
+    fn standing(
         alloc: Global,
         world: &'r World<'r>,
         handler: HandlerNumber,
@@ -95,17 +116,6 @@ impl<'r> Evaluation<'r> {
         })
     }
 
-    /// Whether the routine comes from a place of it to another one without asking anything of others.
-    pub fn reaches(&mut self, start: Start, until: Until) -> bool {
-        self.begin(start);
-        self.run(until)
-    }
-
-    /// Whether memory was refused on the way.
-    pub fn is_lacking(&self) -> bool {
-        self.is_lacking || self.values.is_lacking
-    }
-
     /// The outermost routine stands where it starts. Where it stands behind a call, the last operand is what that has given.
     fn begin(&mut self, start: Start) {
         match start {
@@ -130,7 +140,7 @@ impl<'r> Evaluation<'r> {
     }
 
     /// Goes through the outermost routine so far: whether it comes to there.
-    fn run(&mut self, until: Until) -> bool {
+    fn reaches(&mut self, until: Until) -> bool {
         for _operation in 0..MOST_OPERATIONS {
             if self.is_reached(until) {
                 return true;
@@ -236,24 +246,22 @@ impl<'r> Evaluation<'r> {
     /// An attribute of Current gets the last operand: whether it can be gone on.
     fn store_attribute(&mut self, name: NameNumber) -> bool {
         let object = self.frame.current;
-        let version = self.version(object, name);
-        match (self.values.pop(&self.frame), version) {
-            (Some(value), Some(FeatureCode::Attribute(attribute))) => {
-                self.note_write(Write {
-                    object,
-                    attribute,
-                    value,
-                });
-                self.pass(0)
-            }
-            _ => false,
-        }
-    }
-
-    fn note_write(&mut self, write: Write) {
+        let version = version_in(self.program, object, name);
+        let Some(FeatureCode::Attribute(attribute)) = version else {
+            return false;
+        };
+        let Some(value) = self.values.pop(&self.frame) else {
+            return false;
+        };
+        let write = Write {
+            object,
+            attribute,
+            value,
+        };
         if self.writes.push(write).is_err() {
             self.is_lacking = true
         }
+        self.pass(0)
     }
 
     /// A feature is called, of a target or of Current: whether it can be gone on.
@@ -261,28 +269,25 @@ impl<'r> Evaluation<'r> {
         let Some(site) = self.program.pool().calls.get(number).copied() else {
             return false;
         };
-        let Some(slots) = self.values.first_of(&self.frame, site.count) else {
+        let taken = site.count.saturating_add(has_target as usize);
+        let Some(floor) = self.values.first_of(&self.frame, taken) else {
             return false;
         };
         if !has_target {
             let current = self.frame.current;
-            return self.call_of(current, site, slots, slots);
+            return self.call_of(current, site, floor, floor);
         }
-        let Some(floor) = self
-            .values
-            .first_of(&self.frame, site.count.saturating_add(1))
-        else {
-            return false;
-        };
         match self.values.at(floor) {
-            Some(Value::Attached(object)) => self.call_of(object, site, slots, floor),
+            Some(Value::Attached(object)) => {
+                self.call_of(object, site, floor.saturating_add(1), floor)
+            }
             _ => false,
         }
     }
 
     /// A feature of an object is called with the values from a place on. Behind the call those are left in front of the floor.
     fn call_of(&mut self, object: Reference, site: CallSite, slots: usize, floor: usize) -> bool {
-        match self.version(object, site.name) {
+        match version_in(self.program, object, site.name) {
             Some(FeatureCode::Attribute(number)) => {
                 self.values.cut(floor);
                 let value = self.attribute(object, number);
@@ -315,15 +320,10 @@ impl<'r> Evaluation<'r> {
         self.callers.len() < MOST_FRAMES
     }
 
-    /// What a feature of this name is in the class of an object.
-    fn version(&self, object: Reference, name: NameNumber) -> Option<FeatureCode> {
-        let class = self.program.classes().get(object.class as usize)?;
-        *class.features.get(name as usize)?
-    }
-
     fn own_attribute(&self, name: NameNumber) -> Option<Value> {
-        match self.version(self.frame.current, name)? {
-            FeatureCode::Attribute(number) => self.attribute(self.frame.current, number),
+        let current = self.frame.current;
+        match version_in(self.program, current, name)? {
+            FeatureCode::Attribute(number) => self.attribute(current, number),
             FeatureCode::Routine(_) => None,
         }
     }
@@ -335,7 +335,18 @@ impl<'r> Evaluation<'r> {
                 return Some(write.value);
             }
         }
-        let region = self.world.region(object.handler)?;
-        region.store().read(object.number, number)
+        stored(self.world, object, number)
     }
+}
+
+/// What a feature of this name is in the class of an object.
+pub fn version_in(program: &Program, object: Reference, name: NameNumber) -> Option<FeatureCode> {
+    let class = program.classes().get(object.class as usize)?;
+    *class.features.get(name)?
+}
+
+/// The attribute of this number that an object has in a world.
+pub fn stored(world: &World<'_>, object: Reference, number: usize) -> Option<Value> {
+    let region = world.region(object.handler)?;
+    region.store().read(object.number, number)
 }

@@ -118,11 +118,9 @@ pub fn push_stand(
     handler: HandlerNumber,
 ) {
     if let Some(stand) = stand_of(origin, world, handler)
-        && let Some(place) = origin.source.place_of(stand.span.start)
+        && push_place(origin, lines, ", at ", stand.span)
     {
-        lines.push(", at ");
-        push_place(lines, place);
-        lines.push_all(&[" in ", stand.routine]);
+        lines.push_all(&[" in ", stand.routine])
     }
 }
 
@@ -134,14 +132,12 @@ pub fn push_callers(
     world: &World<'_>,
     handler: HandlerNumber,
 ) {
-    for count in 0..MOST_CALLERS {
+    for count in 0..MOST_CALLERS + 1 {
         match caller_in(world, handler, count) {
-            Some(caller) => push_caller(origin, lines, caller),
             None => return,
+            Some(_) if count == MOST_CALLERS => lines.push("and so on\n"),
+            Some(caller) => push_caller(origin, lines, caller),
         }
-    }
-    if caller_in(world, handler, MOST_CALLERS).is_some() {
-        lines.push("and so on\n")
     }
 }
 
@@ -151,14 +147,10 @@ fn caller_in<'w>(
     handler: HandlerNumber,
     count: usize,
 ) -> Option<&'w Activation> {
-    let caller = world
-        .region(handler)?
-        .store()
-        .under(count.saturating_add(1))?;
-    if matches!(caller.stage, Stage::InCall { .. }) {
-        Some(caller)
-    } else {
-        None
+    let store = world.region(handler)?.store();
+    match store.under(count.saturating_add(1)) {
+        Some(caller) if matches!(caller.stage, Stage::InCall { .. }) => Some(caller),
+        _ => None,
     }
 }
 
@@ -167,18 +159,20 @@ fn push_caller(origin: &RunSource<'_>, lines: &mut Lines, caller: &Activation) {
     let place = caller.place.saturating_sub(1);
     if let Some(text) = origin.text_of(caller.routine)
         && let Some(site) = text.sites.get(place)
-        && let Some(place) = origin.source.place_of(site.span.start)
+        && push_place(origin, lines, "called at ", site.span)
     {
-        lines.push("called at ");
-        push_place(lines, place);
         lines.push_all(&[" in ", origin.written(text.name), "\n"])
     }
 }
 
-/// Adds a file, a line and a column.
-pub fn push_place(lines: &mut Lines, place: Place<'_>) {
-    lines.push_all(&[place.file, ":"]);
-    lines.push_number(place.line as u64);
+/// Adds the file, the line and the column at which a part of the text begins, behind these words: whether there is such a place.
+pub fn push_place(origin: &RunSource<'_>, lines: &mut Lines, before: &str, part: Span) -> bool {
+    let Some(Place { file, line, column }) = origin.source.place_of(part.start) else {
+        return false;
+    };
+    lines.push_all(&[before, file, ":"]);
+    lines.push_number(line as u64);
     lines.push(":");
-    lines.push_number(place.column as u64)
+    lines.push_number(column as u64);
+    true
 }

@@ -58,12 +58,14 @@ impl<'r> RunSource<'r> {
     /// Where the name of the feature stands that the name of this number is in a class.
     pub fn feature_name(&self, class: usize, name: NameNumber) -> Option<Span> {
         let name = self.program.pool().names.get(name as usize)?;
-        for generation in 0..self.classes.len() {
-            for feature in &self.ancestor(class, generation)?.features {
+        let mut class = self.classes.get(class)?;
+        for _generation in 0..self.classes.len() {
+            for feature in &class.features {
                 if feature.name.text.as_str() == name.as_str() {
                     return Some(feature.name.span);
                 }
             }
+            class = self.parent_of(class)?;
         }
         None
     }
@@ -86,13 +88,14 @@ impl<'r> RunSource<'r> {
     fn ancestor(&self, class: usize, generation: usize) -> Option<&'r Class> {
         let mut ancestor = self.classes.get(class)?;
         for _parent in 0..generation {
-            let name = ancestor.parents.first()?.name.text.as_str();
-            ancestor = self.class_named(name)?;
+            ancestor = self.parent_of(ancestor)?;
         }
         Some(ancestor)
     }
 
-    fn class_named(&self, name: &str) -> Option<&'r Class> {
+    /// The class that another one inherits from.
+    fn parent_of(&self, heir: &Class) -> Option<&'r Class> {
+        let name = heir.parents.first()?.name.text.as_str();
         for class in self.classes {
             if class.name.text.as_str() == name {
                 return Some(class);

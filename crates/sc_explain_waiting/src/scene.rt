@@ -1,10 +1,9 @@
-//! What is said of one handler, one cycle, one chain.
+//! What is said of one handler.
 
-use crate::chains::{Chains, number_of};
 use crate::clause::push_false_clause;
 use crate::naming::{asked_by, push_name, push_request, push_stand, stand_of};
 use crate::origin::RunSource;
-use crate::waits::{Wait, keeper_of};
+use crate::waits::{Wait, count_of, keeper_of};
 use sc_explain_text::Lines;
 use sc_lockpass::HandlerNumber;
 use sc_model::Status;
@@ -13,100 +12,30 @@ use sc_world::World;
 /// How many handlers a list names at most.
 const MOST_LISTED: usize = 8;
 
-/// What is spoken of: a world that has stopped, and who waits for whom there.
+/// What is spoken of: a world that has stopped.
 #[derive(Clone, Copy)]
 pub struct Scene<'o, 'r> {
     pub origin: &'o RunSource<'r>,
     pub world: &'r World<'r>,
-    pub waits: &'r [Wait],
-    pub chains: &'r Chains,
 }
 
 impl<'o, 'r> Scene<'o, 'r> {
-    /// How many handlers there are.
-    pub fn count(&self) -> u16 {
-        number_of(self.waits)
-    }
-
-    /// What a handler waits for.
-    pub fn wait(&self, handler: HandlerNumber) -> Wait {
-        self.waits
-            .get(handler as usize)
-            .copied()
-            .unwrap_or(Wait::Nothing)
-    }
-
-    /// Whether a handler waits.
-    pub fn is_waiting(&self, handler: HandlerNumber) -> bool {
-        self.wait(handler).is_waiting()
-    }
-
-    /// Adds a cycle of handlers, and how they wait for each other.
-    pub fn push_cycle(&self, lines: &mut Lines, cycle: &[HandlerNumber]) {
-        lines.push("deadlock: ");
-        for member in cycle {
-            lines.push_number(u64::from(*member));
-            lines.push(" -> ");
-        }
-        lines.push_number(u64::from(cycle.first().copied().unwrap_or(0)));
-        lines.push(self.kind_of(cycle))
-    }
-
-    /// How the members of a cycle wait for each other.
-    fn kind_of(&self, cycle: &[HandlerNumber]) -> &'static str {
-        let mut answers = 0_usize;
-        for member in cycle {
-            if matches!(self.wait(*member), Wait::Answer(_)) {
-                answers = answers.saturating_add(1);
-            }
-        }
-        if answers == 0 {
-            ", each waits to reserve what the next one has\n"
-        } else if answers == cycle.len() {
-            ", each waits for the answer of the next one\n"
-        } else {
-            ", each waits for the next one: for its answer, or to reserve it\n"
-        }
-    }
-
-    /// Adds what stands over those that wait for a condition.
-    pub fn push_conditions(&self, lines: &mut Lines) {
-        let is_any_busy = self.waits.iter().any(|wait| matches!(wait, Wait::Busy));
-        lines.push(if is_any_busy {
-            "a wait condition that isn't true so far:\n"
-        } else {
-            "a wait condition that nobody is left to make true:\n"
-        })
-    }
-
-    /// Adds a chain of handlers, where it has several: each waits for the next.
-    pub fn push_chain(&self, lines: &mut Lines, chain: &[HandlerNumber]) {
-        if chain.len() < 2 {
-            return;
-        }
-        for (place, member) in chain.iter().enumerate() {
-            lines.push(if place == 0 { "chain: " } else { " -> " });
-            lines.push_number(u64::from(*member));
-        }
-        lines.push(", each waits for the next one\n")
-    }
-
     /// Adds a handler: what it holds, what it waits for, and where it stands.
-    pub fn push_handler(&self, lines: &mut Lines, handler: HandlerNumber) {
+    pub fn push_handler(&self, lines: &mut Lines, handler: HandlerNumber, wait: Wait) {
         lines.push("handler ");
         self.push_name(lines, handler);
         self.push_held(lines, handler);
-        self.push_wait(lines, handler);
+        self.push_wait(lines, handler, wait);
         push_stand(self.origin, lines, self.world, handler);
         lines.push("\n");
-        if let Wait::Condition = self.wait(handler) {
+        if let Wait::Condition = wait {
             push_false_clause(self.origin, lines, self.world, handler)
         }
     }
 
     /// Adds what a handler waits for.
-    fn push_wait(&self, lines: &mut Lines, handler: HandlerNumber) {
-        match self.wait(handler) {
+    fn push_wait(&self, lines: &mut Lines, handler: HandlerNumber, wait: Wait) {
+        match wait {
             Wait::Nothing => {}
             Wait::Busy => self.push_busy(lines, handler),
             Wait::Reservation => self.push_wanted(lines, handler),
@@ -128,7 +57,7 @@ impl<'o, 'r> Scene<'o, 'r> {
     /// Adds the handlers that this one holds.
     fn push_held(&self, lines: &mut Lines, holder: HandlerNumber) {
         let mut count = 0_usize;
-        for handler in 0..self.count() {
+        for handler in 0..count_of(self.world) {
             if self.world.core().holder(handler) == Some(holder) {
                 if count < MOST_LISTED {
                     lines.push(if count == 0 { " holds " } else { ", " });
@@ -157,23 +86,18 @@ impl<'o, 'r> Scene<'o, 'r> {
         }
     }
 
-    /// Adds who keeps others from reserving a handler.
+    /// Adds who keeps others from reserving a handler: the one that holds it, or itself.
     fn push_keeper(&self, lines: &mut Lines, handler: HandlerNumber) {
         match keeper_of(self.world.core(), handler) {
             None => {}
-            Some(keeper) if keeper == handler => lines.push(self.unready(keeper)),
-            Some(keeper) => {
+            Some(keeper) if keeper != handler => {
                 lines.push(", held by ");
                 lines.push_number(u64::from(keeper))
             }
-        }
-    }
-
-    /// Why a handler can't be reserved that nobody holds.
-    fn unready(&self, handler: HandlerNumber) -> &'static str {
-        match self.world.status(handler) {
-            Some(Status::Busy) => ", which is busy",
-            _ => ", which waits itself",
+            Some(_) => match self.world.status(handler) {
+                Some(Status::Busy) => lines.push(", which is busy"),
+                _ => lines.push(", which waits itself"),
+            },
         }
     }
 
@@ -194,26 +118,20 @@ impl<'o, 'r> Scene<'o, 'r> {
         let Some(request) = self.world.core().first_asked(handler) else {
             return false;
         };
-        lines.push_number(count as u64);
-        lines.push(if count == 1 {
-            " request stands at handler "
+        let (stand, before) = if count == 1 {
+            (" request stands at handler ", ", which can't take any: ")
         } else {
-            " requests stand at handler "
-        });
+            (
+                " requests stand at handler ",
+                ", which can't take any: first ",
+            )
+        };
+        lines.push_number(count as u64);
+        lines.push(stand);
         self.push_name(lines, handler);
-        lines.push(", which can't take any: ");
-        lines.push(if count == 1 { "" } else { "first " });
+        lines.push(before);
         push_request(self.origin, lines, self.world, &asked_by(request));
         lines.push("\n");
         true
-    }
-
-    /// Adds of how many handlers nothing is said.
-    pub fn push_left_out(&self, lines: &mut Lines, count: usize) {
-        if count > 0 {
-            lines.push("and ");
-            lines.push_number(count as u64);
-            lines.push(" more, which wait or are busy\n")
-        }
     }
 }

@@ -5,7 +5,6 @@ use sc_model::Status;
 use sc_region::Stage;
 use sc_request::Core;
 use sc_world::World;
-use std::alloc::{AllocError, Global};
 
 /// What a handler waits for.
 #[derive(Clone, Copy)]
@@ -29,35 +28,9 @@ impl Wait {
     }
 }
 
-/// The first of those that keep a handler waiting that is in the set.
-pub fn keeper_in(
-    core: &Core,
-    handler: HandlerNumber,
-    wait: Wait,
-    set: &[bool],
-) -> Option<HandlerNumber> {
-    match wait {
-        Wait::Reservation => holder_in(core, handler, set),
-        Wait::Answer(supplier) if is_in(set, supplier) => Some(supplier),
-        _ => None,
-    }
-}
-
-/// The first of those that keep a handler from what it is to reserve that is in the set.
-fn holder_in(core: &Core, handler: HandlerNumber, set: &[bool]) -> Option<HandlerNumber> {
-    let needed = core.needed_by(handler);
-    for one in needed.as_slice() {
-        if let Some(keeper) = keeper_of(core, *one)
-            && is_in(set, keeper)
-        {
-            return Some(keeper);
-        }
-    }
-    None
-}
-
-fn is_in(set: &[bool], handler: HandlerNumber) -> bool {
-    set.get(handler as usize).copied().unwrap_or(false)
+/// How many handlers there are.
+pub fn count_of(world: &World<'_>) -> u16 {
+    world.handler_count().min(u16::MAX as usize) as u16
 }
 
 /// Who keeps others from reserving a handler: the one that holds it, or itself where it isn't idle. None where it can be had.
@@ -69,16 +42,8 @@ pub fn keeper_of(core: &Core, handler: HandlerNumber) -> Option<HandlerNumber> {
     }
 }
 
-/// What each handler waits for, in order of number.
-pub fn waits_in(alloc: Global, world: &World<'_>) -> Result<Vec<Wait>, AllocError> {
-    let mut waits = Vec::new(alloc);
-    for handler in 0..world.handler_count().min(HandlerNumber::MAX as usize) {
-        waits.push(wait_of(world, handler as HandlerNumber))?;
-    }
-    Ok(waits)
-}
-
-fn wait_of(world: &World<'_>, handler: HandlerNumber) -> Wait {
+/// What a handler waits for.
+pub fn wait_of(world: &World<'_>, handler: HandlerNumber) -> Wait {
     match world.status(handler) {
         Some(Status::Busy) => Wait::Busy,
         Some(Status::Waiting) => wait_in(world.core(), handler),
@@ -121,11 +86,7 @@ pub fn standing_of(world: &World<'_>, handler: HandlerNumber) -> Option<Standing
     let is_behind = matches!(top.stage, Stage::ReservesBlock | Stage::Awaits { .. });
     Some(Standing {
         routine: top.routine,
-        place: if is_behind {
-            top.place.saturating_sub(1)
-        } else {
-            top.place
-        },
+        place: top.place.saturating_sub(is_behind as usize),
         is_entry: matches!(top.stage, Stage::Reserves),
     })
 }
