@@ -9,7 +9,7 @@ use sc_excerpt::excerpt;
 use sc_explain_text::Lines;
 use sc_explain_waiting::{Asked, RunSource, asked_feature, push_feature, push_place};
 use sc_lockpass::HandlerNumber;
-use sc_model::{Cause, Status};
+use sc_model::Cause;
 use sc_region::{Breakdown, BrokenInvariant, Errand, Point};
 use sc_text::Span;
 use sc_world::World;
@@ -24,10 +24,10 @@ pub fn push_failing(
     cause: Cause,
     moment: Option<&Moment>,
 ) {
+    let log = ended.log();
     if let Some(breakdown) = ended.breakdown(handler)
-        && let Some(place) = last_before(ended.log(), handler, ended.log().len())
-        && let Some(turn) = turn_at(ended.log(), place)
-        && has_failed_by(ended.status(handler), cause)
+        && let Some(place) = last_before(log, handler, log.len())
+        && let Some(turn) = turn_at(log, place)
     {
         let asked = asked_of(ended, handler);
         push_stood(origin, lines, &breakdown, &turn, asked.as_ref(), cause);
@@ -43,13 +43,6 @@ pub fn push_failing(
         if let Some(moment) = moment {
             lines.push_lines(&moment.behind);
         }
-    }
-}
-
-fn has_failed_by(status: Option<Status>, cause: Cause) -> bool {
-    match status {
-        Some(Status::Failed(why)) => why == cause,
-        _ => false,
     }
 }
 
@@ -91,10 +84,16 @@ fn push_point(
     if let Some(text) = origin.text_of(point.routine)
         && let Some(site) = site_of(text, point.place, cause, is_behind)
     {
-        if cause == Cause::SupplierFailed && point.place == 0 {
-            push_entry(origin, lines, text)
-        } else {
-            push_operation(origin, lines, text, &site, cause)
+        let is_entry = cause == Cause::SupplierFailed && point.place == 0;
+        let span = if is_entry { text.name } else { site.span };
+        if begin_place(origin, lines, span) {
+            push_routine(origin, lines, text);
+            if is_entry {
+                lines.push("which reserves the handlers of its formals")
+            } else {
+                push_site(origin, lines, text, &site, cause)
+            }
+            end_place(origin, lines, span)
         }
     }
 }
@@ -111,30 +110,6 @@ fn site_of(text: &RoutineText, place: usize, cause: Cause, is_behind: bool) -> O
         text.sites.get(place - 1).copied()
     } else {
         Some(site)
-    }
-}
-
-/// Adds that a handler stood where it reserves the handlers of a routine's formals.
-fn push_entry(origin: &RunSource<'_>, lines: &mut Lines, text: &RoutineText) {
-    if begin_place(origin, lines, text.name) {
-        push_routine(origin, lines, text);
-        lines.push("which reserves the handlers of its formals");
-        end_place(origin, lines, text.name)
-    }
-}
-
-/// Adds at which operation of a routine a handler stood.
-fn push_operation(
-    origin: &RunSource<'_>,
-    lines: &mut Lines,
-    text: &RoutineText,
-    site: &TextSite,
-    cause: Cause,
-) {
-    if begin_place(origin, lines, site.span) {
-        push_routine(origin, lines, text);
-        push_site(origin, lines, text, site, cause);
-        end_place(origin, lines, site.span)
     }
 }
 
@@ -162,8 +137,8 @@ fn push_at_once(origin: &RunSource<'_>, lines: &mut Lines, asked: &Asked, cause:
         && let Some(class) = origin.class_around(name)
         && begin_place(origin, lines, name)
     {
-        lines.push_all(&["`", origin.written(name), "` of "]);
-        lines.push_all(&[class_name(origin, class), " is read"]);
+        let of = class_name(origin, class);
+        lines.push_all(&["`", origin.written(name), "` of ", of, " is read"]);
         end_place(origin, lines, name)
     }
 }

@@ -9,7 +9,7 @@ use sc_code::Program;
 use sc_explain::find;
 use sc_explain_text::{Lines, let_go, system_of};
 use sc_explain_waiting::{RunSource, push_waits};
-use sc_lockpass::{HandlerNumber, Version};
+use sc_lockpass::{HandlerNumber, HandlerNumber, Version};
 use sc_model::{Cause, Status};
 use sc_source::source::Source;
 use sc_tree::Class;
@@ -40,14 +40,24 @@ pub fn run_note(
     played: Played<'_>,
     statuses: &[Status],
 ) -> Result<Vec<u8>, AllocError> {
-    if are_free(statuses) && !played.may_refuse {
+    let are_free = statuses.iter().all(|status| matches!(status, Status::Free));
+    if are_free && !played.may_refuse {
         return Ok(Vec::new(alloc));
     }
+    order_note(alloc, played)
+}
+
+/// The same of a run in which a handler isn't free, or may have refused a request.
+///
+/// # Errors
+///
+/// That memory ran out.
+pub fn order_note(alloc: Global, played: Played<'_>) -> Result<Vec<u8>, AllocError> {
     let mut lines = Lines::new(alloc);
     match system_of(alloc, played.source.text()) {
-        Ok(None) => push_note(alloc, &mut lines, &played, statuses, &[]),
+        Ok(None) => push_note(alloc, &mut lines, &played, &[]),
         Ok(Some(system)) => {
-            push_note(alloc, &mut lines, &played, statuses, &system.classes);
+            push_note(alloc, &mut lines, &played, &system.classes);
             let_go(system)
         }
         Err(_) => lines.lack(),
@@ -55,14 +65,8 @@ pub fn run_note(
     lines.finish()
 }
 
-/// Adds the same, where the text spells these classes.
-fn push_note(
-    alloc: Global,
-    lines: &mut Lines,
-    played: &Played<'_>,
-    statuses: &[Status],
-    classes: &[Class],
-) {
+/// Adds the same, where the text spells these classes and the run is played once more.
+fn push_note(alloc: Global, lines: &mut Lines, played: &Played<'_>, classes: &[Class]) {
     let origin = RunSource {
         alloc,
         source: played.source,
@@ -70,68 +74,34 @@ fn push_note(
         program: played.program,
     };
     match Replay::open(alloc, played) {
-        Ok(mut replay) => push_note_of(&origin, lines, played, statuses, &mut replay),
+        Ok(mut replay) => {
+            if replay.advance(usize::MAX).is_err() {
+                lines.lack()
+            }
+            push_note_of(&origin, lines, played, &replay.world)
+        }
         Err(_) => lines.lack(),
     }
 }
 
-/// Adds the same, where the run is played once more from its opening.
-fn push_note_of(
-    origin: &RunSource<'_>,
-    lines: &mut Lines,
-    played: &Played<'_>,
-    statuses: &[Status],
-    replay: &mut Replay<'_>,
-) {
-    if replay.advance(usize::MAX).is_err() {
-        return lines.lack();
-    }
-    match moments_of(origin, &replay.world, played) {
-        Ok(moments) => push_moments(origin, lines, played, statuses, &replay.world, &moments),
-        Err(_) => lines.lack(),
-    }
-}
-
-/// Adds the same, where that is what there was in front of each failure.
-fn push_moments(
-    origin: &RunSource<'_>,
-    lines: &mut Lines,
-    played: &Played<'_>,
-    statuses: &[Status],
-    ended: &World<'_>,
-    moments: &[Moment],
-) {
-    push_failures(origin, lines, statuses, ended, moments);
-    push_refusals(lines, moments);
-    push_limit(lines, played, statuses);
+/// Adds the same, where the run has ended like this.
+fn push_note_of(origin: &RunSource<'_>, lines: &mut Lines, played: &Played<'_>, ended: &World<'_>) {
+    let moments = moments_of(origin, lines, ended, played);
+    push_failures(origin, lines, ended, &moments);
+    push_refusals(lines, &moments);
+    push_limit(lines, played, ended);
     push_waits(origin, lines, ended)
 }
 
-fn are_free(statuses: &[Status]) -> bool {
-    statuses.iter().all(|status| matches!(status, Status::Free))
-}
-
 /// Adds what the failure of each handler is, where it was, and where more is said of it.
-fn push_failures(
-    origin: &RunSource<'_>,
-    lines: &mut Lines,
-    statuses: &[Status],
-    ended: &World<'_>,
-    moments: &[Moment],
-) {
-    for (handler, status) in statuses.iter().enumerate() {
-        if let Status::Failed(cause) = status {
-            let number = handler.min(HandlerNumber::MAX as usize) as HandlerNumber;
-            push_cause(lines, handler, *cause);
-            push_failing(
-                origin,
-                lines,
-                ended,
-                number,
-                *cause,
-                failure_of(moments, number),
-            );
-            lines.push_all(&["`scoop explain ", code_of(*cause), "` says more\n"])
+fn push_failures(origin: &RunSource<'_>, lines: &mut Lines, ended: &World<'_>, moments: &[Moment]) {
+    for number in 0..ended.handler_count().min(HandlerNumber::MAX as usize) {
+        let handler = number as HandlerNumber;
+        if let Some(Status::Failed(cause)) = ended.status(handler) {
+            push_cause(lines, handler, cause);
+            let moment = failure_of(moments, handler);
+            push_failing(origin, lines, ended, handler, cause, moment);
+            lines.push_all(&["`scoop explain ", code_of(cause), "` says more\n"])
         }
     }
 }
@@ -155,23 +125,18 @@ fn failure_of(moments: &[Moment], handler: HandlerNumber) -> Option<&Moment> {
     None
 }
 
-/// Adds by what a handler has failed, as the page of that says it.
-fn push_cause(lines: &mut Lines, handler: usize, cause: Cause) {
-    if let Some(page) = find(code_of(cause)) {
-        push_heading(lines, handler, page);
-    }
-}
-
-/// Adds by what a handler has failed: the heading of a page, and what it says first.
-fn push_heading(lines: &mut Lines, handler: usize, page: &str) {
+/// Adds by what a handler has failed: the heading of the page of that, and what it says first.
+fn push_cause(lines: &mut Lines, handler: HandlerNumber, cause: Cause) {
+    let Some(page) = find(code_of(cause)) else {
+        return;
+    };
     lines.push("handler ");
-    lines.push_number(handler as u64);
+    lines.push_number(u64::from(handler));
     lines.push(" has failed by ");
     for (number, line) in page.lines().enumerate() {
         if number > 2 && line.is_empty() {
             return;
         }
-        lines.push(line);
-        lines.push(if number == 0 { ":" } else { "\n" });
+        lines.push_all(&[line, if number == 0 { ":" } else { "\n" }]);
     }
 }

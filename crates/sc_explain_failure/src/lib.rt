@@ -14,5 +14,5 @@ mod replay;
 mod supplier;
 mod words;
 
-pub use failure::{Played, run_note};
+pub use failure::{Played, order_note, run_note};
 pub use limit::Limit;

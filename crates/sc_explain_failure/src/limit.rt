@@ -3,7 +3,9 @@
 use crate::failure::Played;
 use sc_audit::RecordLine;
 use sc_explain_text::Lines;
+use sc_lockpass::HandlerNumber;
 use sc_model::Status;
+use sc_world::World;
 
 /// The most turns that a run may make.
 const MOST_TURNS: u32 = 10_000_000;
@@ -20,14 +22,26 @@ pub enum Limit {
 }
 
 /// Adds how many turns were made, where a handler still has something to do, and what helps.
-pub fn push_limit(lines: &mut Lines, played: &Played<'_>, statuses: &[Status]) {
-    if statuses.iter().any(|status| matches!(status, Status::Busy)) {
-        match played.limit {
-            Limit::Turns(limit) => push_used_up(lines, limit, turns_in(played.lines)),
-            Limit::Output => {}
-            Limit::Record => push_record_end(lines, turns_in(played.lines)),
+pub fn push_limit(lines: &mut Lines, played: &Played<'_>, ended: &World<'_>) {
+    if !is_any_busy(ended) {
+        return;
+    }
+    let made = turns_in(played.lines);
+    match played.limit {
+        Limit::Turns(limit) => push_used_up(lines, limit, made),
+        Limit::Output => {}
+        Limit::Record => push_record_end(lines, made),
+    }
+}
+
+/// Whether a handler has something to do.
+fn is_any_busy(world: &World<'_>) -> bool {
+    for handler in 0..world.handler_count().min(HandlerNumber::MAX as usize) {
+        if let Some(Status::Busy) = world.status(handler as HandlerNumber) {
+            return true;
         }
     }
+    false
 }
 
 /// Adds that a record ended behind so many turns.

@@ -1,7 +1,7 @@
 //! What there was in front of a turn of a run: what is lost behind it.
 
 use crate::failure::Played;
-use crate::history::{Begun, Ended, Served, Turn, last_before, served_before, turn_at};
+use crate::history::{Begun, Ended, Turn, last_before, served_before, turn_at};
 use crate::replay::Replay;
 use sc_explain_text::Lines;
 use sc_explain_waiting::{
@@ -13,7 +13,7 @@ use sc_lockpass::HandlerNumber;
 use sc_model::{Cause, Status};
 use sc_region::BrokenInvariant;
 use sc_world::World;
-use std::alloc::{AllocError, Global};
+use std::alloc::Global;
 
 /// Of how many turns this is told at most.
 const MOST_MOMENTS: usize = 32;
@@ -44,104 +44,126 @@ pub struct Moment {
     pub behind: Lines,
 }
 
-/// What there was in front of each failure of a run that has ended like this, and of each refusal for which nobody waited.
+/// What there was in front of each failure of a run that has ended like this, and of each refusal for which nobody waited. Where
+/// memory is refused, the lines lack something.
 pub fn moments_of(
     origin: &RunSource<'_>,
+    lines: &mut Lines,
     ended: &World<'_>,
     played: &Played<'_>,
-) -> Result<Vec<Moment>, AllocError> {
+) -> Vec<Moment> {
     let mut moments = Vec::new(origin.alloc);
-    for handler in 0..ended.handler_count().min(HandlerNumber::MAX as usize) {
-        add_failure(origin.alloc, &mut moments, ended, handler as HandlerNumber)?;
-        add_refusals(origin.alloc, &mut moments, ended, handler as HandlerNumber)?;
+    for number in 0..ended.handler_count().min(HandlerNumber::MAX as usize) {
+        let handler = number as HandlerNumber;
+        add_failure(origin.alloc, lines, &mut moments, ended, handler);
+        add_refusals(origin.alloc, lines, &mut moments, ended, handler);
     }
     if !moments.is_empty() {
-        tell_of(origin, ended, played, &mut moments)?;
+        tell_of(origin, lines, ended, played, &mut moments)
     }
-    Ok(moments)
+    moments
 }
 
 fn add_failure(
     alloc: Global,
+    lines: &mut Lines,
     moments: &mut Vec<Moment>,
     ended: &World<'_>,
     handler: HandlerNumber,
-) -> Result<(), AllocError> {
+) {
+    let log = ended.log();
     if let Some(Status::Failed(_)) = ended.status(handler)
-        && let Some(place) = last_before(ended.log(), handler, ended.log().len())
+        && let Some(place) = last_before(log, handler, log.len())
     {
-        add(alloc, moments, handler, Kind::Failure, place)
-    } else {
-        Ok(())
+        add(alloc, lines, moments, handler, Kind::Failure, place)
     }
 }
 
 fn add_refusals(
     alloc: Global,
+    lines: &mut Lines,
     moments: &mut Vec<Moment>,
     ended: &World<'_>,
     handler: HandlerNumber,
-) -> Result<(), AllocError> {
+) {
     if ended.core().refused(handler).unwrap_or(0) == 0 {
-        return Ok(());
+        return;
     }
     let log = ended.log();
     for place in 0..log.len() {
         if log.handler_at(place) == Some(handler) && is_refusal(log, handler, place) {
-            add(alloc, moments, handler, Kind::Refusal, place)?;
+            add(alloc, lines, moments, handler, Kind::Refusal, place)
         }
     }
-    Ok(())
 }
 
+/// Adds a moment of which nothing is told as yet, where there is room.
 fn add(
     alloc: Global,
+    lines: &mut Lines,
     moments: &mut Vec<Moment>,
     handler: HandlerNumber,
     kind: Kind,
     place: usize,
-) -> Result<(), AllocError> {
+) {
     if moments.len() >= MOST_MOMENTS {
-        return Ok(());
+        return;
     }
-    moments.push(Moment {
+    let added = moments.push(Moment {
         handler,
         kind,
         place,
         is_told: false,
         values: Lines::new(alloc),
         behind: Lines::new(alloc),
-    })?;
-    Ok(())
+    });
+    if added.is_err() {
+        lines.lack()
+    }
 }
 
 /// Whether a handler refuses a request by the turn at a place for which nobody waits.
 fn is_refusal(log: &Log, handler: HandlerNumber, place: usize) -> bool {
-    match turn_at(log, place) {
-        Some(turn) if matches!(turn.ended, Ended::Done { is_refused: true }) => {
-            match served_before(log, handler, place) {
-                Some(served) => !served.is_waited,
-                None => false,
-            }
-        }
-        _ => false,
+    if let Some(turn) = turn_at(log, place)
+        && let Ended::Done { is_refused: true } = turn.ended
+        && let Some(served) = served_before(log, handler, place)
+    {
+        !served.is_waited
+    } else {
+        false
     }
 }
 
-/// Tells of each moment, the earliest first, where the run is played once more.
+/// Tells of each moment, where the run is played once more.
 fn tell_of<'o>(
     origin: &'o RunSource<'o>,
+    lines: &mut Lines,
     ended: &'o World<'o>,
     played: &Played<'_>,
-    moments: &mut Vec<Moment>,
-) -> Result<(), AllocError> {
-    let mut replay = Replay::open(origin.alloc, played)?;
+    moments: &mut [Moment],
+) {
+    match Replay::open(origin.alloc, played) {
+        Ok(mut replay) => tell_each(origin, lines, ended, &mut replay, moments),
+        Err(_) => lines.lack(),
+    }
+}
+
+/// The same, the earliest first.
+fn tell_each<'o>(
+    origin: &'o RunSource<'o>,
+    lines: &mut Lines,
+    ended: &'o World<'o>,
+    replay: &mut Replay<'_>,
+    moments: &mut [Moment],
+) {
     for _moment in 0..moments.len() {
-        if let Some(index) = earliest(moments.as_slice())
+        if let Some(index) = earliest(moments)
             && let Some(moment) = moments.get_mut(index)
         {
             moment.is_told = true;
-            replay.advance(moment.place)?;
+            if replay.advance(moment.place).is_err() {
+                return lines.lack();
+            }
             let before = Before {
                 origin: &*origin,
                 world: &replay.world,
@@ -150,7 +172,6 @@ fn tell_of<'o>(
             before.tell(moment)
         }
     }
-    Ok(())
 }
 
 /// The earliest moment that wasn't told of.
@@ -250,7 +271,12 @@ impl<'o> Before<'o> {
             let Some(served) = served_before(self.ended.log(), handler, end) else {
                 return;
             };
-            let Some(client) = client_of(&served) else {
+            let client = if served.is_waited {
+                served.asked.poster
+            } else {
+                None
+            };
+            let Some(client) = client else {
                 return;
             };
             lines.push("handler ");
@@ -273,11 +299,7 @@ impl<'o> Before<'o> {
         let core = self.world.core();
         let standing = core.queue_len(moment.handler);
         let takes = matches!(turn.begun, Begun::Takes(_));
-        let count = if takes {
-            standing.saturating_sub(1)
-        } else {
-            standing
-        };
+        let count = standing.saturating_sub(takes as usize);
         if count == 0 {
             return;
         }
@@ -295,15 +317,6 @@ impl<'o> Before<'o> {
             push_request(self.origin, lines, self.world, &asked_by(request));
         }
         lines.push("\n")
-    }
-}
-
-/// Who waits for the end of a request.
-fn client_of(served: &Served) -> Option<HandlerNumber> {
-    if served.is_waited {
-        served.asked.poster
-    } else {
-        None
     }
 }
 

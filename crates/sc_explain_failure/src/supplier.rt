@@ -25,14 +25,10 @@ pub fn supplier_of(world: &World<'_>, handler: HandlerNumber) -> Option<HandlerN
 /// The first failed handler of those that are to be reserved by the turn at a place.
 fn failed_at(world: &World<'_>, place: usize) -> Option<HandlerNumber> {
     let settlement = world.log().get(place)?;
-    match &settlement.want {
-        Want::Reserve(handlers) => failed_among(world, handlers.as_slice()),
-        _ => None,
-    }
-}
-
-fn failed_among(world: &World<'_>, handlers: &[HandlerNumber]) -> Option<HandlerNumber> {
-    for handler in handlers {
+    let Want::Reserve(handlers) = &settlement.want else {
+        return None;
+    };
+    for handler in handlers.as_slice() {
         if let Some(Status::Failed(_)) = world.status(*handler) {
             return Some(*handler);
         }
