@@ -6,14 +6,15 @@ ghost use Rattle.std.specs.Option.{option_map};
 ghost use Rattle.sc_serve.specs.Answer.{IsJudged, IsRanOf, IsRunOn, IsUnrun, IsUnrunOn, asked_of, kept_of};
 
 use crate::progress::Tell;
-use crate::serve::{Answer, Exit, Fault, Recording, answer_explained, answer_unread, exit_of};
+use crate::serve::{
+    Answer, Exit, Fault, Recording, answer_explained, answer_unread, exit_of, root_if,
+};
 use crate::tracing::{Tracing, tracer_of};
 use crate::verdict::turns_of;
 use crate::watching::RunWatch;
 use sc_arguments::RunOptions;
 use sc_audit::RecordLine;
 use sc_auditing::{AuditFault, audit};
-use sc_class::Root;
 use sc_code::Program;
 use sc_driver::{Ended, RunReport, load_text, run_program};
 use sc_explain_failure::{Limit, Played, run_note};
@@ -49,16 +50,10 @@ pub fn answer_run<'a, R: Threads + Wait + Clock + Sync, F: Files, T: Tell>(
     };
     match load_text(alloc, source.text(), &options.root) {
         Ok(program) => run_loaded(rt, alloc, &program, options, &source, teller),
-        Err(rejection) => { answer_explained(alloc, &source, &rejection, explained_root(options)) }
-    }
-}
-
-/// What the system is run from, where a refusal is to be shown in its line of the text too.
-fn explained_root<'r>(options: &'r RunOptions<'_>) -> Option<&'r Root> {
-    if options.is_explained {
-        Some(&options.root)
-    } else {
-        None
+        Err(rejection) => {
+            let explained = root_if(options.is_explained, &options.root);
+            answer_explained(alloc, &source, &rejection, explained)
+        }
     }
 }
 

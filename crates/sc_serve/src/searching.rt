@@ -8,19 +8,17 @@ ghost use Rattle.sc_serve.specs.Search as spec;
 ghost use Rattle.sc_serve.specs.Search.{IsSearchOf, IsSearchOn, IsTold};
 
 use crate::json::search_object;
-use crate::serve::{Answer, Exit, Fault, Recording, answer_explained, answer_unread};
+use crate::serve::{Answer, Exit, Fault, Recording, answer_explained, answer_unread, root_if};
 use crate::verdict::{outcome_lines, verdict_lines};
 use sc_arguments::{Format, SearchOptions, Sought};
 use sc_audit::RecordLine;
-use sc_class::Root;
 use sc_code::Program;
 use sc_driver::load_text;
-use sc_explain_failure::{Limit, Played, run_note};
+use sc_explain_failure::{Limit, Played, order_note};
 use sc_lockpass::Version;
 use sc_search::{Aim, Finding, Verdict, Watch, search};
 use sc_source::files::{Files, read_source};
 use sc_source::source::Source;
-use sc_world::World;
 use std::alloc::{AllocError, Global};
 
 /// Plays the system of the named files in every order of turns.
@@ -44,16 +42,10 @@ pub fn answer_search<'a, F: Files, W: Watch>(
     };
     match load_text(alloc, source.text(), &options.root) {
         Ok(program) => search_loaded(alloc, &program, options, &source, watch),
-        Err(rejection) => answer_explained(alloc, &source, &rejection, explained_root(options)),
-    }
-}
-
-/// What the system is run from, where a refusal is to be shown in its line of the text too.
-fn explained_root<'r>(options: &'r SearchOptions<'_>) -> Option<&'r Root> {
-    if options.is_explained {
-        Some(&options.root)
-    } else {
-        None
+        Err(rejection) => {
+            let explained = root_if(options.is_explained, &options.root);
+            answer_explained(alloc, &source, &rejection, explained)
+        }
     }
 }
 
@@ -151,36 +143,23 @@ fn note_of(
             let told = format!(in alloc; "no order was found, so nothing is written to {name}\n")?;
             Ok(told.into_bytes())
         }
-        (Some(lines), _) if options.is_explained => { explain_order(alloc, program, source, lines) }
+        (Some(lines), _) if options.is_explained => {
+            let played = Played {
+                source,
+                program,
+                version: Version::Two,
+                lines,
+                limit: Limit::Record,
+                may_refuse: true,
+            };
+            order_note(alloc, played)
+        }
         _ => Ok(Vec::new(alloc)),
     }
 }
 
-/// Why handlers wait or fail where the turns of these lines are played.
-fn explain_order(
-    alloc: Global,
-    program: &Program,
-    source: &Source,
-    lines: &[RecordLine],
-) -> Result<Vec<u8>, AllocError> {
-    let mut world = World::open(alloc, program, Version::Two)?;
-    for line in lines {
-        world.turns_of(line.handler, line.turns)?;
-    }
-    let statuses = world.statuses()?;
-    let played = Played {
-        source,
-        program,
-        version: Version::Two,
-        lines,
-        limit: Limit::Record,
-        may_refuse: true,
-    };
-    run_note(alloc, played, statuses.as_slice())
-}
-
 /// The lines of the order that was found, if one was.
-fn lines_of(finding: &Finding) -> Option<&[RecordLine]> {
+pub fn lines_of(finding: &Finding) -> Option<&[RecordLine]> {
     match finding {
         Finding::Stuck(order) | Finding::Fails(order) => Some(order.lines.as_slice()),
         Finding::Nothing | Finding::Undecided => None,

@@ -28,14 +28,14 @@ use sc_excerpt::excerpt;
 use sc_explain::{find, list};
 use sc_explain_failure::{Limit, Played, run_note};
 use sc_explain_refusal::{Related, diagnose};
-use sc_explain_text::left_out;
+use sc_explain_text::{Lines, left_out};
 use sc_model::Status;
 use sc_search::Watch;
 use sc_source::files::{Files, NamedFile, read_source};
 use sc_source::reading::FileFault;
 use sc_source::source::{JoinFault, Place, Source, name_at};
 use sc_source::writing::Remains;
-use sc_text::LexFault;
+use sc_text::{LexFault, Span};
 use std::alloc::{AllocError, Global};
 use std::convert::AsStr;
 use std::io::{self, ErrorKind, Write};
@@ -171,64 +171,69 @@ pub fn end_with<E: Write>(fault: &Fault<'_>, err: &mut E) -> u8
 fn say<E: Write>(fault: &Fault<'_>, err: &mut E) -> io::Result<()> {
     match fault {
         Fault::Usage(UsageFault::Arguments(error)) => write!(err, "{error}"),
-        Fault::Usage(UsageFault::NoCommand) => writeln!(err, "no command"),
-        Fault::Usage(UsageFault::BadRoot) => writeln!(err, "bad root"),
-        Fault::Usage(UsageFault::TracedWorkers) => writeln!(
-            err,
-            "a run by several workers can't be traced: leave out --workers or --trace"
-        ),
         Fault::NoCode(word) => writeln!(err, "no code {word}\n`scoop explain` lists the codes"),
-        Fault::CannotRead(name, fault) => {
-            writeln!(err, "cannot read {name}")?;
-            say_reason(fault, err)
-        }
-        Fault::CannotWrite => writeln!(err, "cannot write standard output"),
-        Fault::CannotRecord(name, error, remains) => {
-            writeln!(err, "cannot write {name}")?;
-            say_why_unwritten(error, err)?;
-            say_remains(remains, err)
-        }
-        Fault::NoThread => writeln!(err, "no thread"),
-        Fault::LogsDiffer => writeln!(err, "logs differ"),
-        Fault::NotText => writeln!(err, "an argument isn't UTF-8"),
-        Fault::Usage(UsageFault::OutOfMemory) | Fault::OutOfMemory => writeln!(
-            err,
-            "out of memory"
-        ),
+        Fault::CannotRead(name, fault) => say_unread(name, fault, err),
+        Fault::CannotRecord(name, error, remains) => say_unwritten(name, error, remains, err),
+        _ => writeln!(err, "{}", words_of(fault)),
     }?;
     err.flush()
 }
 
-/// Says on a line what is wrong with a file.
-fn say_reason<E: Write>(fault: &FileFault, err: &mut E) -> io::Result<()> {
+/// What is said of a fault that is always told in the same words.
+fn words_of(fault: &Fault<'_>) -> &'static str {
     match fault {
-        FileFault::Unreadable(error) => match error.kind() {
-            ErrorKind::NotFound => writeln!(err, "there is no such file"),
-            ErrorKind::IsADirectory => writeln!(err, "it is a folder"),
-            ErrorKind::PermissionDenied => writeln!(err, "there is no right to read it"),
-            _ => writeln!(err, "{error}"),
-        },
+        Fault::Usage(UsageFault::NoCommand) => "no command",
+        Fault::Usage(UsageFault::BadRoot) => "bad root",
+        Fault::Usage(UsageFault::TracedWorkers) => {
+            "a run by several workers can't be traced: leave out --workers or --trace"
+        }
+        Fault::CannotWrite => "cannot write standard output",
+        Fault::NoThread => "no thread",
+        Fault::LogsDiffer => "logs differ",
+        Fault::NotText => "an argument isn't UTF-8",
+        _ => "out of memory",
+    }
+}
+
+/// Says which file can't be read, and on a line what is wrong with it.
+fn say_unread<E: Write>(name: &str, fault: &FileFault, err: &mut E) -> io::Result<()> {
+    writeln!(err, "cannot read {name}")?;
+    match fault {
+        FileFault::Unreadable(error) => say_error(why_unread(error.kind()), error, err),
         FileFault::NotUtf8 { offset } => writeln!(err, "it isn't UTF-8 at offset {offset}"),
         FileFault::TooLong => writeln!(err, "it is too long"),
         FileFault::OutOfMemory => writeln!(err, "out of memory"),
     }
 }
 
-/// Says on a line why a file can't be written.
-fn say_why_unwritten<E: Write>(error: &io::Error, err: &mut E) -> io::Result<()> {
-    match error.kind() {
-        ErrorKind::NotFound | ErrorKind::NotADirectory => {
-            writeln!(err, "there is no such folder")
-        }
-        ErrorKind::IsADirectory => writeln!(err, "it is a folder"),
-        ErrorKind::PermissionDenied => writeln!(err, "there is no right to write it"),
-        ErrorKind::StorageFull => writeln!(err, "there is no room for it"),
-        _ => writeln!(err, "{error}"),
+/// Why a file can't be read; nothing where the error says it.
+fn why_unread(kind: ErrorKind) -> &'static str {
+    match kind {
+        ErrorKind::NotFound => "there is no such file",
+        ErrorKind::IsADirectory => "it is a folder",
+        ErrorKind::PermissionDenied => "there is no right to read it",
+        _ => "",
     }
 }
 
-/// Says on a line what is left in a file whose writing failed.
-fn say_remains<E: Write>(remains: &Option<Remains>, err: &mut E) -> io::Result<()> {
+/// Says on a line why something can't be done with a file, in these words if there are any.
+fn say_error<E: Write>(words: &str, error: &io::Error, err: &mut E) -> io::Result<()> {
+    if words.is_empty() {
+        writeln!(err, "{error}")
+    } else {
+        writeln!(err, "{words}")
+    }
+}
+
+/// Says which file can't be written, why, and what is left in it.
+fn say_unwritten<E: Write>(
+    name: &str,
+    error: &io::Error,
+    remains: &Option<Remains>,
+    err: &mut E,
+) -> io::Result<()> {
+    writeln!(err, "cannot write {name}")?;
+    say_error(why_unwritten(error.kind()), error, err)?;
     match remains {
         None | Some(Remains::Unchanged) => writeln!(err, "it is as it was"),
         Some(Remains::Beginning) => writeln!(err, "a beginning of the record may be written to it"),
@@ -238,6 +243,17 @@ fn say_remains<E: Write>(remains: &Option<Remains>, err: &mut E) -> io::Result<(
                 "it is as it was, and a beginning of the record is left in {name}"
             )
         }
+    }
+}
+
+/// Why a file can't be written; nothing where the error says it.
+fn why_unwritten(kind: ErrorKind) -> &'static str {
+    match kind {
+        ErrorKind::NotFound | ErrorKind::NotADirectory => "there is no such folder",
+        ErrorKind::IsADirectory => "it is a folder",
+        ErrorKind::PermissionDenied => "there is no right to write it",
+        ErrorKind::StorageFull => "there is no room for it",
+        _ => "",
     }
 }
 
@@ -360,9 +376,14 @@ fn answer_on_files<'a, F: Files>(
 /// What the system is run from, where a refusal is to be shown in its line of the text too.
 fn explained_root(command: &Command) -> Option<&Root> {
     match command {
-        Command::Check(options) if options.is_explained => Some(&options.root),
-        _ => None,
+        Command::Check(options) => root_if(options.is_explained, &options.root),
+        Command::Print => None,
     }
+}
+
+/// The root, where a refusal is to be shown in its line of the text too.
+pub fn root_if(is_explained: bool, root: &Root) -> Option<&Root> {
+    if is_explained { Some(root) } else { None }
 }
 
 /// What is answered where nothing is made of the source text, shown in its line of the text where that is run from a root.
@@ -377,11 +398,11 @@ pub fn answer_explained<'a>(
     ensures object { IfOk result (λ answer. answer.object ≡ None) }
     ensures untold { IfErr result (λ fault. fault ≡ spec.out_of_memory) }
 {
-    let mut answer = answer_rejected(alloc, source, rejection)?;
-    if let Some(root) = explained {
-        answer.note = explanation(alloc, source, root, rejection)?;
-    }
-    Ok(answer)
+    let note = match explained {
+        Some(root) => explanation(alloc, source, root, rejection)?,
+        None => Vec::new(alloc),
+    };
+    answer_rejected(alloc, source, rejection, note)
 }
 
 /// The line of the source text in which something is refused, with carets, a sentence on the fault, where the text stands
@@ -392,44 +413,58 @@ fn explanation(
     root: &Root,
     rejection: &Rejection,
 ) -> Result<Vec<u8>, AllocError> {
-    let Some(refusal) = Refusal::of(rejection) else {
-        return match rejection {
-            Rejection::CodeTooLong => {
-                Vec::from_slice(alloc, b"`scoop explain CodeTooLong` says more\n")
-            }
-            _ => Ok(Vec::new(alloc)),
-        };
-    };
-    let mut lines = match refusal.span {
-        Some(span) => excerpt(alloc, source.text().as_bytes(), span)?,
-        None => Vec::new(alloc),
-    };
-    let diagnosis = diagnose(alloc, source.text(), root, refusal.code, refusal.span)?;
-    lines.extend_from_slice(diagnosis.lines.as_slice())?;
-    if let Some(related) = diagnosis.related {
-        push_related(alloc, &mut lines, source, related)?;
+    let mut lines = Lines::new(alloc);
+    match Refusal::of(rejection) {
+        Some(refusal) => push_explanation(alloc, &mut lines, source, root, refusal),
+        None if matches!(rejection, Rejection::CodeTooLong) => {
+            lines.push("`scoop explain CodeTooLong` says more\n")
+        }
+        None => {}
     }
-    let code = refusal.code.code();
-    let more = format!(in alloc; "`scoop explain {code}` says more\n")?;
-    lines.extend_from_slice(more.as_bytes())?;
-    Ok(lines)
+    lines.finish()
+}
+
+/// Adds the same of a refusal that has a code.
+fn push_explanation(
+    alloc: Global,
+    lines: &mut Lines,
+    source: &Source,
+    root: &Root,
+    refusal: Refusal,
+) {
+    if let Some(span) = refusal.span {
+        push_excerpt(alloc, lines, source, span)
+    }
+    match diagnose(alloc, source.text(), root, refusal.code, refusal.span) {
+        Ok(diagnosis) => {
+            lines.push_bytes(diagnosis.lines.as_slice());
+            if let Some(related) = diagnosis.related {
+                push_related(alloc, lines, source, related)
+            }
+        }
+        Err(_) => lines.lack(),
+    }
+    lines.push_all(&["`scoop explain ", refusal.code.code(), "` says more\n"])
+}
+
+/// Adds the line of a part of the source text, with carets.
+fn push_excerpt(alloc: Global, lines: &mut Lines, source: &Source, span: Span) {
+    match excerpt(alloc, source.text().as_bytes(), span) {
+        Ok(shown) => lines.push_bytes(shown.as_slice()),
+        Err(_) => lines.lack(),
+    }
 }
 
 /// Adds where a part of the source text stands that a fault goes with, and its line with carets.
-fn push_related(
-    alloc: Global,
-    lines: &mut Vec<u8>,
-    source: &Source,
-    related: Related,
-) -> Result<(), AllocError> {
-    let Some(Place { file, line, column }) = source.place_of(related.span.start) else {
-        return Ok(());
-    };
-    let what = related.what;
-    let told = format!(in alloc; "{file}:{line}:{column}: {what}\n")?;
-    lines.extend_from_slice(told.as_bytes())?;
-    let shown = excerpt(alloc, source.text().as_bytes(), related.span)?;
-    lines.extend_from_slice(shown.as_slice())
+fn push_related(alloc: Global, lines: &mut Lines, source: &Source, related: Related) {
+    if let Some(Place { file, line, column }) = source.place_of(related.span.start) {
+        lines.push_all(&[file, ":"]);
+        lines.push_number(line as u64);
+        lines.push(":");
+        lines.push_number(column as u64);
+        lines.push_all(&[": ", related.what, "\n"]);
+        push_excerpt(alloc, lines, source, related.span)
+    }
 }
 
 /// What is answered where the named files have no source text.
@@ -448,7 +483,7 @@ pub fn answer_unread<'a>(
     match fault {
         FileFault::TooLong => {
             let rejection = Rejection::Text(LexFault::SourceTooLong);
-            answer_rejected(alloc, &Source::new(alloc), &rejection)
+            answer_rejected(alloc, &Source::new(alloc), &rejection, Vec::new(alloc))
         }
         FileFault::OutOfMemory => Err(Fault::OutOfMemory),
         FileFault::Unreadable(_) | FileFault::NotUtf8 { offset: _ } => {
@@ -458,11 +493,12 @@ pub fn answer_unread<'a>(
     }
 }
 
-/// What is answered where nothing is made of the source text.
+/// What is answered where nothing is made of the source text, with what is added on standard error.
 fn answer_rejected<'a>(
     alloc: Global,
     source: &Source,
     rejection: &Rejection,
+    note: Vec<u8>,
 ) -> Result<Answer<'a>, Fault<'a>>
     ensures refused { IfOk result (λ answer. IsRefusalOf source.now rejection.now answer.text.items answer.exit) }
     ensures unrecorded { IfOk result (λ answer. answer.record ≡ None) }
@@ -472,10 +508,10 @@ fn answer_rejected<'a>(
     match Refusal::of(rejection) {
         Some(refusal) => {
             let line = refusal.line(alloc, source)?.into_bytes();
-            Ok(Answer::new(alloc, line, Exit::Refused))
+            Ok(refused(line, note))
         }
         None => match rejection {
-            Rejection::CodeTooLong => answer_refused(alloc, b"refused CodeTooLong\n"),
+            Rejection::CodeTooLong => answer_refused(alloc, b"refused CodeTooLong\n", note),
             _ => Err(Fault::OutOfMemory),
         },
     }
@@ -494,9 +530,15 @@ fn examine<'a>(alloc: Global, command: &Command, text: &str) -> Result<Answer<'a
             Ok(Answer::new(alloc, text, Exit::Done))
         }
         Command::Print => {
-            let mut answer = Answer::new(alloc, print_text(alloc, text)?, Exit::Done);
-            answer.note = left_out(alloc, text)?;
-            Ok(answer)
+            let printed = print_text(alloc, text)?;
+            let note = left_out(alloc, text)?;
+            Ok(Answer {
+                text: printed,
+                object: None,
+                exit: Exit::Done,
+                note,
+                record: None,
+            })
         }
     }
 }
@@ -523,16 +565,10 @@ fn answer_replay<'a, F: Files, T: Tell>(
     };
     match load_text(alloc, source.text(), &options.root) {
         Ok(program) => play_record(alloc, &program, files, options, &source, teller),
-        Err(rejection) => answer_explained(alloc, &source, &rejection, replayed_root(options)),
-    }
-}
-
-/// What the system is played from, where a refusal is to be shown in its line of the text too.
-fn replayed_root<'r>(options: &'r ReplayOptions<'_>) -> Option<&'r Root> {
-    if options.is_explained {
-        Some(&options.root)
-    } else {
-        None
+        Err(rejection) => {
+            let explained = root_if(options.is_explained, &options.root);
+            answer_explained(alloc, &source, &rejection, explained)
+        }
     }
 }
 
@@ -631,11 +667,12 @@ fn answer_no_record<'a>(
 {
     match fault {
         ReadFault::BadRecord { line } => {
-            let mut answer = answer_refused(alloc, b"refused A1 BadRecord\n")?;
-            if is_explained {
-                answer.note = bad_line_note(alloc, name, line)?;
-            }
-            Ok(answer)
+            let note = if is_explained {
+                bad_line_note(alloc, name, line)?
+            } else {
+                Vec::new(alloc)
+            };
+            answer_refused(alloc, b"refused A1 BadRecord\n", note)
         }
         ReadFault::Unreadable(error) => Err(Fault::CannotRead(name, FileFault::Unreadable(error))),
         ReadFault::OutOfMemory => Err(Fault::OutOfMemory),
@@ -644,14 +681,14 @@ fn answer_no_record<'a>(
 
 /// In which line a file that should hold a record goes wrong.
 fn bad_line_note(alloc: Global, name: &str, line: usize) -> Result<Vec<u8>, AllocError> {
-    let told = format!(in alloc; "{name}:{line}: the record goes wrong in this line\n")?;
-    let mut note = Vec::from_slice(alloc, told.as_bytes())?;
-    note.extend_from_slice(b"`scoop explain A1` says more\n")?;
-    Ok(note)
+    let told = format!(in alloc;
+        "{name}:{line}: the record goes wrong in this line\n`scoop explain A1` says more\n"
+    )?;
+    Ok(told.into_bytes())
 }
 
-/// The answer of a line that tells a refusal.
-fn answer_refused<'a>(alloc: Global, line: &[u8]) -> Result<Answer<'a>, Fault<'a>>
+/// The answer of a line that tells a refusal, with what is added on standard error.
+fn answer_refused<'a>(alloc: Global, line: &[u8], note: Vec<u8>) -> Result<Answer<'a>, Fault<'a>>
     ensures text { IfOk result (λ answer. answer.text.items ≡ line.now) }
     ensures exit { IfOk result (λ answer. answer.exit ≡ Exit.Refused) }
     ensures unrecorded { IfOk result (λ answer. answer.record ≡ None) }
@@ -659,7 +696,23 @@ fn answer_refused<'a>(alloc: Global, line: &[u8]) -> Result<Answer<'a>, Fault<'a
     ensures err { IfErr result (λ fault. fault ≡ spec.out_of_memory) }
 {
     let text = Vec::from_slice(alloc, line)?;
-    Ok(Answer::new(alloc, text, Exit::Refused))
+    Ok(refused(text, note))
+}
+
+/// The answer of a text that tells a refusal.
+fn refused<'a>(text: Vec<u8>, note: Vec<u8>) -> Answer<'a>
+    ensures text { result.text ≡ text }
+    ensures exit { result.exit ≡ Exit.Refused }
+    ensures record { result.record ≡ None }
+    ensures object { result.object ≡ None }
+{
+    Answer {
+        text,
+        object: None,
+        exit: Exit::Refused,
+        note,
+        record: None,
+    }
 }
 
 /// What the program ends with where the handlers are left like that.

@@ -1,8 +1,7 @@
 //! Reports as objects of JSON.
 
-use crate::json::{number_of, text_or_null};
-use serde_json::{Value, json};
-use std::alloc::{AllocError, Global};
+use crate::json::number_of;
+use crate::json::writer::Writer;
 
 /// Reads a report from its beginning.
 #[derive(Drop)]
@@ -20,44 +19,43 @@ struct Line<'t> {
     length: usize,
 }
 
-/// A report: each handler with its status, the code of its failure, how many requests it refused, and its output; how the
-/// run has stopped; and what its audit says, where there is one.
-pub fn report_value(alloc: Global, text: &[u8]) -> Result<Value, AllocError> {
+/// Writes a report: each handler with its status, the code of its failure, how many requests it refused, and its output; how
+/// the run has stopped; and what its audit says, where there is one.
+pub fn push_report(json: &mut Writer, name: &str, text: &[u8]) {
     let mut reader = Reader { rest: text };
-    let handlers = handler_values(alloc, &mut reader)?;
-    let stopped = text_or_null(alloc, reader.told_behind("stopped "))?;
-    let audit = text_or_null(alloc, reader.told_behind("audit "))?;
-    json!(in alloc; {
-        "answer": "report",
-        "handlers": handlers,
-        "stopped": stopped,
-        "audit": audit
-    })
+    let mut handlers = Writer::new(json.alloc);
+    push_handlers(&mut handlers, &mut reader);
+    let stopped = reader.told_behind("stopped ");
+    let audit = reader.told_behind("audit ");
+    json.open(name, "{");
+    json.text("answer", Some("report"));
+    json.text("audit", audit);
+    json.value("handlers", &handlers);
+    json.text("stopped", stopped);
+    json.close("}")
 }
 
-/// The handlers with which a report begins.
-fn handler_values(alloc: Global, reader: &mut Reader<'_>) -> Result<Value, AllocError> {
-    let mut values = Vec::new(alloc);
+/// Writes the handlers with which a report begins.
+fn push_handlers(json: &mut Writer, reader: &mut Reader<'_>) {
+    json.open("", "[");
     for _ in 0..reader.rest.len() {
         let Some(line) = reader.told_behind("handler ").and_then(line_told) else {
             break;
         };
         let output = reader.take(line.length);
-        values.push(handler_value(alloc, line, output)?)?;
+        push_handler(json, line, output)
     }
-    Ok(Value::Array(values))
+    json.close("]")
 }
 
-fn handler_value(alloc: Global, line: Line<'_>, output: &[u8]) -> Result<Value, AllocError> {
-    let cause = text_or_null(alloc, line.cause)?;
-    let output = String::from_utf8_lossy(alloc, output)?;
-    json!(in alloc; {
-        "number": number_of(line.number),
-        "status": line.status,
-        "cause": cause,
-        "refused": number_of(line.refused),
-        "output": output.as_str()
-    })
+fn push_handler(json: &mut Writer, line: Line<'_>, output: &[u8]) {
+    json.open("", "{");
+    json.text("cause", line.cause);
+    json.number("number", number_of(line.number));
+    json.bytes("output", output);
+    json.number("refused", number_of(line.refused));
+    json.text("status", Some(line.status));
+    json.close("}")
 }
 
 /// What the line of a handler tells behind its first word: `NUMBER STATUS refused COUNT output BYTES`, where the status may have

@@ -1,12 +1,12 @@
 //! The verdict of a search as an object of JSON.
 
-use crate::json::line_of;
-use crate::json::report::report_value;
+use crate::json::report::push_report;
+use crate::json::writer::Writer;
+use crate::searching::lines_of;
 use crate::verdict::turns_of;
 use sc_arguments::SearchOptions;
 use sc_audit::RecordLine;
 use sc_search::{End, Finding, Length, Verdict};
-use serde_json::{Value, json};
 use std::alloc::{AllocError, Global};
 
 /// The object of a verdict, with its outcomes where they are to be listed.
@@ -15,22 +15,25 @@ pub fn search_object(
     options: &SearchOptions<'_>,
     verdict: &Verdict,
 ) -> Result<Vec<u8>, AllocError> {
-    let (order, turns) = order_values(alloc, &verdict.finding)?;
+    let lines = lines_of(&verdict.finding);
     let (endless, longest) = length_values(verdict.length);
-    let reports = reports_value(alloc, options, verdict.ends.as_slice())?;
-    let object = json!(in alloc; {
-        "answer": answer_of(&verdict.finding),
-        "proved": is_proved(verdict),
-        "order": order,
-        "turns": turns,
-        "endless": endless,
-        "longest": longest,
-        "outcomes": verdict.ends.len() as u64,
-        "all_outcomes": matches!(verdict.finding, Finding::Nothing),
-        "reports": reports,
-        "states": verdict.states as u64
-    })?;
-    line_of(alloc, &object)
+    let mut json = Writer::new(alloc);
+    json.open("", "{");
+    json.truth(
+        "all_outcomes",
+        Some(matches!(verdict.finding, Finding::Nothing)),
+    );
+    json.text("answer", Some(answer_of(&verdict.finding)));
+    json.truth("endless", endless);
+    json.number("longest", longest);
+    push_order(&mut json, lines);
+    json.number("outcomes", Some(verdict.ends.len() as u64));
+    json.truth("proved", Some(is_proved(verdict)));
+    push_reports(&mut json, options, verdict.ends.as_slice());
+    json.number("states", Some(verdict.states as u64));
+    json.number("turns", turns_in(lines));
+    json.close("}");
+    json.finish()
 }
 
 fn answer_of(finding: &Finding) -> &'static str {
@@ -52,60 +55,49 @@ fn is_proved(verdict: &Verdict) -> bool {
     }
 }
 
-/// The order that was found and how many turns it has, or nulls.
-fn order_values(alloc: Global, finding: &Finding) -> Result<(Value, Value), AllocError> {
-    match finding {
-        Finding::Stuck(order) | Finding::Fails(order) => {
-            let lines = order.lines.as_slice();
-            let turns = Value::from(turns_of(lines));
-            Ok((lines_value(alloc, lines)?, turns))
-        }
-        Finding::Nothing | Finding::Undecided => Ok((Value::Null, Value::Null)),
+/// How many turns the lines of an order are, if there is one.
+fn turns_in(lines: Option<&[RecordLine]>) -> Option<u64> {
+    match lines {
+        Some(lines) => Some(turns_of(lines)),
+        None => None,
     }
 }
 
-/// The lines of a record, each as a list of a handler and how many turns it takes.
-fn lines_value(alloc: Global, lines: &[RecordLine]) -> Result<Value, AllocError> {
-    let mut values = Vec::new(alloc);
-    for line in lines {
-        values.push(line_value(alloc, *line)?)?;
-    }
-    Ok(Value::Array(values))
-}
-
-fn line_value(alloc: Global, line: RecordLine) -> Result<Value, AllocError> {
-    let handler = line.handler as u64;
-    let turns = line.turns as u64;
-    json!(in alloc; [handler, turns])
-}
-
-/// Whether some order goes on for ever, and how many turns an order has at most, or nulls where that isn't known.
-fn length_values(length: Length) -> (Value, Value) {
+/// Whether some order goes on for ever, and how many turns an order has at most, as far as that is known.
+fn length_values(length: Length) -> (Option<bool>, Option<u64>) {
     match length {
-        Length::AtMost(turns) => (Value::Bool(false), Value::from(turns as u64)),
-        Length::Endless => (Value::Bool(true), Value::Null),
-        Length::Unknown => (Value::Null, Value::Null),
+        Length::AtMost(turns) => (Some(false), Some(turns as u64)),
+        Length::Endless => (Some(true), None),
+        Length::Unknown => (None, None),
     }
 }
 
-/// The outcomes, each with an order and its report, or null where they aren't to be listed.
-fn reports_value(
-    alloc: Global,
-    options: &SearchOptions<'_>,
-    ends: &[End],
-) -> Result<Value, AllocError> {
+/// Writes an order: the lines of its record, each as a list of a handler and how many turns it takes; null where there is none.
+fn push_order(json: &mut Writer, lines: Option<&[RecordLine]>) {
+    let Some(lines) = lines else {
+        return json.text("order", None);
+    };
+    json.open("order", "[");
+    for line in lines {
+        json.open("", "[");
+        json.number("", Some(line.handler as u64));
+        json.number("", Some(line.turns as u64));
+        json.close("]")
+    }
+    json.close("]")
+}
+
+/// Writes the outcomes, each with an order and its report; null where they aren't to be listed.
+fn push_reports(json: &mut Writer, options: &SearchOptions<'_>, ends: &[End]) {
     if !options.lists_outcomes {
-        return Ok(Value::Null);
+        return json.text("reports", None);
     }
-    let mut values = Vec::new(alloc);
+    json.open("reports", "[");
     for end in ends {
-        values.push(end_value(alloc, end)?)?;
+        json.open("", "{");
+        push_order(json, Some(end.order.lines.as_slice()));
+        push_report(json, "report", end.report.as_slice());
+        json.close("}")
     }
-    Ok(Value::Array(values))
-}
-
-fn end_value(alloc: Global, end: &End) -> Result<Value, AllocError> {
-    let order = lines_value(alloc, end.order.lines.as_slice())?;
-    let report = report_value(alloc, end.report.as_slice())?;
-    json!(in alloc; { "order": order, "report": report })
+    json.close("]")
 }
