@@ -13,7 +13,9 @@ use sc_code::Program;
 use sc_plant::Left;
 use std::alloc::{AllocError, Global};
 use std::process::Abort;
+use std::sync::Wait;
 use std::test::Fail;
+use std::thread::Threads;
 
 /// What an audit answers.
 type Answer = Result<(), AuditFault>;
@@ -136,31 +138,46 @@ fn replace(text: &mut Vec<u8>, place: usize, byte: u8) {
     }
 }
 
-/// So many of the texts that are this one but for a byte have each of these answers, and none has another one.
-fn expect_altered<R: Abort>(
+/// The audit of the run of a system answers this to a text, or so to those texts that are it but for a byte.
+fn expect<R: Abort + AllocGlobal + Threads + Wait + Sync>(
     rt: &R,
-    alloc: Global,
+    source: &str,
+    row: (&str, &str),
+    is_altered: bool,
+) -> Result<(), Fail> {
+    let alloc = rt.alloc();
+    let program = load(rt, alloc, source)?;
+    let mut left = left_by_one(rt, alloc, &program)?;
+    expect_answer(rt, &program, &mut left, row, is_altered)
+}
+
+/// The same, of what a run of this program left.
+fn expect_answer<R: Abort + AllocGlobal>(
+    rt: &R,
     program: &Program,
     left: &mut Left<'_>,
     (text, wanted): (&str, &str),
+    is_altered: bool,
 ) -> Result<(), Fail> {
-    let answers = answers(alloc, program, left, text.as_bytes())?;
-    let told = answers.told(alloc)?;
-    expect_text(rt, &told, wanted, text);
+    let alloc = rt.alloc();
+    let answer = if is_altered {
+        told_altered(alloc, program, left, text.as_bytes())?
+    } else {
+        told(alloc, answer_to(alloc, program, left, text.as_bytes())?)?
+    };
+    expect_text(rt, &answer, wanted, text);
     Ok(())
 }
 
-/// What the audit of a run answers to this text.
-fn expect_answer<R: Abort>(
-    rt: &R,
+/// How many of the texts that are this one but for a byte have each answer.
+fn told_altered(
     alloc: Global,
     program: &Program,
     left: &mut Left<'_>,
-    (text, wanted): (&str, &str),
-) -> Result<(), Fail> {
-    let told = told(alloc, answer_to(alloc, program, left, text.as_bytes())?)?;
-    expect_text(rt, &told, wanted, text);
-    Ok(())
+    text: &[u8],
+) -> Result<String, Fail> {
+    let answers = answers(alloc, program, left, text)?;
+    Ok(answers.told(alloc)?)
 }
 
 /// 6 to 9 turns are as good as 5, of which the rest change nothing. In both versions the first line has one byte that may be the
@@ -169,13 +186,10 @@ const FIVE_TURNS_ANSWERS: &str = "yes: 5, differs 0: 13, bad 1: 3824, bad 2: 100
 
 #[test]
 fn altered_records_of_the_smallest_run(rt: HostRuntime) -> Result<(), Fail> {
-    let alloc = rt.alloc();
-    let program = load(&rt, alloc, FIVE_TURNS)?;
-    let mut left = left_by_one(&rt, alloc, &program)?;
     let first = ("scoop record 1\n0 5\nend 1\n", FIVE_TURNS_ANSWERS);
-    expect_altered(&rt, alloc, &program, &mut left, first)?;
+    expect(&rt, FIVE_TURNS, first, true)?;
     let second = ("scoop record 2\n0 5\nend 1\n", FIVE_TURNS_ANSWERS);
-    expect_altered(&rt, alloc, &program, &mut left, second)
+    expect(&rt, FIVE_TURNS, second, true)
 }
 
 /// Texts, and what the audit of the same run answers to each behind a bar. Between two stands a line with a sign.
@@ -208,25 +222,12 @@ scoop record 1
 end 2
 |bad 3";
 
-fn expect_texts<R: Abort>(
-    rt: &R,
-    alloc: Global,
-    program: &Program,
-    left: &mut Left<'_>,
-) -> Result<(), Fail> {
-    for row in TEXTS.split("\n#\n") {
-        let row = halves_of(row)?;
-        expect_answer(rt, alloc, program, left, row)?;
-    }
-    Ok(())
-}
-
 #[test]
 fn texts_that_are_nearly_its_record(rt: HostRuntime) -> Result<(), Fail> {
-    let alloc = rt.alloc();
-    let program = load(&rt, alloc, FIVE_TURNS)?;
-    let mut left = left_by_one(&rt, alloc, &program)?;
-    expect_texts(&rt, alloc, &program, &mut left)
+    for row in TEXTS.split("\n#\n") {
+        expect(&rt, FIVE_TURNS, halves_of(row)?, false)?;
+    }
+    Ok(())
 }
 
 /// The record of the run of RELAY on one worker: handlers take turns in the order of their numbers, and each goes on until it
@@ -264,11 +265,6 @@ const RELAY_ANSWERS: &str = "yes: 122, differs 0: 195, differs 1: 41, bad 1: 382
 
 #[test]
 fn altered_records_of_a_failure_in_a_chain(rt: HostRuntime) -> Result<(), Fail> {
-    let alloc = rt.alloc();
-    let program = load(&rt, alloc, RELAY)?;
-    let mut left = left_by_one(&rt, alloc, &program)?;
-    let own = (RELAY_RECORD, "yes");
-    expect_answer(&rt, alloc, &program, &mut left, own)?;
-    let altered = (RELAY_RECORD, RELAY_ANSWERS);
-    expect_altered(&rt, alloc, &program, &mut left, altered)
+    expect(&rt, RELAY, (RELAY_RECORD, "yes"), false)?;
+    expect(&rt, RELAY, (RELAY_RECORD, RELAY_ANSWERS), true)
 }

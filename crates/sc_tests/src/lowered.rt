@@ -3,15 +3,22 @@
 use crate::programs::program_within;
 use crate::rows::{expect_text, halves_of};
 use sc_code::Program;
-use std::alloc::{AllocError, Global};
+use std::alloc::Global;
 use std::process::Abort;
 use std::test::Fail;
 
 /// How many features a program is asked for.
 const ASKED: usize = 8;
 
-/// How many instructions a program has, and the greatest number of operands of each routine, behind this text.
-fn told(alloc: Global, before: &str, program: &Program) -> Result<String, AllocError> {
+/// What comes of a source that is lowered within so many instructions.
+fn told_within(alloc: Global, source: &str, most: u32) -> Result<String, Fail> {
+    let (program, is_too_long) = program_within(alloc, source, "application", "make", most)?;
+    told(alloc, &program, is_too_long)
+}
+
+/// How many instructions a program has, and the greatest number of operands of each routine.
+fn told(alloc: Global, program: &Program, is_too_long: bool) -> Result<String, Fail> {
+    let before = if is_too_long { "too long, " } else { "" };
     let instructions = program.instructions();
     let mut told = format!(in alloc; "{before}{instructions}:")?;
     for number in 0..ASKED {
@@ -47,18 +54,9 @@ const REDEFINED: &str = "8|too long, 9: 0 1 1 1 0 0 0 0
 9|9: 0 1 1 1 0 0 0 0";
 
 fn expect_rows<R: Abort + AllocGlobal>(rt: &R, source: &str, rows: &str) -> Result<(), Fail> {
-    let alloc = rt.alloc();
     for row in rows.lines() {
         let (most, wanted) = halves_of(row)?;
-        let (program, is_too_long) = program_within(
-            alloc,
-            source,
-            "application",
-            "make",
-            most.parse()?,
-        )?;
-        let before = if is_too_long { "too long, " } else { "" };
-        let got = told(alloc, before, &program)?;
+        let got = told_within(rt.alloc(), source, most.parse()?)?;
         expect_text(rt, &got, wanted, source);
     }
     Ok(())

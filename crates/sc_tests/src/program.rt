@@ -6,7 +6,7 @@ mod output;
 mod records;
 
 use crate::program::fake::{ENDLESS, FakeFiles, FakeWriter, Patience};
-use crate::rows::expect_text;
+use crate::rows::expect_bytes;
 use sc_serve::serve::{Exit, serve};
 use std::alloc::AllocError;
 use std::process::Abort;
@@ -75,14 +75,8 @@ fn expect<R: Abort + Threads + Wait + Clock + Sync + AllocGlobal>(
     if said.status == Exit::Broken as u8 && (status != said.status || is_cut) {
         return Err(Fail::new("out of memory"));
     }
-    let alloc = rt.alloc();
-    let (wrote, told, ended) = (
-        str::from_utf8(&said.out)?,
-        str::from_utf8(&said.err)?,
-        said.status,
-    );
-    let answer = format!(in alloc; "{ended}\n{wrote}\n{told}")?;
-    let wanted = format!(in alloc; "{status}\n{out}\n{err}")?;
-    expect_text(rt, &answer, &wanted, call.words);
+    expect_bytes(rt, &said.out, out, call.words);
+    expect_bytes(rt, &said.err, err, call.words);
+    assert_eq!(rt; said.status, status);
     Ok(())
 }

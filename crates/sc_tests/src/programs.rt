@@ -2,7 +2,7 @@
 
 use crate::reading::{root_of, system_of};
 use sc_check::{CheckFault, Checked, check};
-use sc_class::{Root, Tables, tables};
+use sc_class::{Root, tables};
 use sc_code::Program;
 use sc_explain_text::let_go;
 use sc_lower::{Lowering, lower, lower_within};
@@ -43,12 +43,7 @@ fn program_of_system(
     root: &Root,
     most: u32,
 ) -> Result<(Program, bool), Fail> {
-    judged(alloc, tables(alloc, system, root)?, most)
-}
-
-/// The same of classes.
-fn judged(alloc: Global, tables: Tables<'_>, most: u32) -> Result<(Program, bool), Fail> {
-    match check(alloc, tables) {
+    match check(alloc, tables(alloc, system, root)?) {
         Ok(checked) => lowered_within(alloc, checked, most),
         Err(CheckFault::Refused(_)) => Err(Fail::new("a rule fails")),
         Err(CheckFault::OutOfMemory) => Err(Fail::new("out of memory")),
@@ -59,16 +54,10 @@ fn judged(alloc: Global, tables: Tables<'_>, most: u32) -> Result<(Program, bool
 fn lowered_within(alloc: Global, checked: Checked<'_>, most: u32) -> Result<(Program, bool), Fail> {
     match lower_within(alloc, checked, most) {
         Ok(program) => Ok((program, false)),
-        Err(Lowering::CodeTooLong(checked)) => Ok((lowered(alloc, checked)?, true)),
-        Err(Lowering::OutOfMemory(_)) => Err(Fail::new("out of memory")),
-    }
-}
-
-/// The program of a system that was handed back.
-fn lowered(alloc: Global, checked: Checked<'_>) -> Result<Program, Fail> {
-    match lower(alloc, checked) {
-        Ok(program) => Ok(program),
-        Err(Lowering::CodeTooLong(_)) => Err(Fail::new("the code is too long")),
+        Err(Lowering::CodeTooLong(checked)) => match lower(alloc, checked) {
+            Ok(program) => Ok((program, true)),
+            Err(_) => Err(Fail::new("out of memory")),
+        },
         Err(Lowering::OutOfMemory(_)) => Err(Fail::new("out of memory")),
     }
 }

@@ -82,11 +82,11 @@ pub fn leave<R: Abort + Threads + Wait + Sync, G: Gate>(
         begun: AtomicU64::new(0),
     };
     match run(rt, alloc, program, workers, limit, &noting) {
-        Ok(left) => audited(rt, alloc, program, left),
-        Err(RunFault::OutOfMemory(Some(left))) => {
-            replayed(rt, alloc, program, left)?;
-            Err(Fail::from(AllocError))
-        }
+        Ok(left) => audited(rt, alloc, program, &left),
+        Err(RunFault::OutOfMemory(Some(left))) => match replayed(rt, alloc, program, &left) {
+            Ok(_) => Err(Fail::from(AllocError)),
+            told => told,
+        },
         Err(RunFault::OutOfMemory(None)) => {
             assert_eq!(rt; noting.begun.load(Ordering::SeqCst), 0);
             Err(Fail::from(AllocError))
@@ -101,9 +101,9 @@ fn audited<R: Abort>(
     rt: &R,
     alloc: Global,
     program: &Program,
-    left: Left<'_>,
+    left: &Left<'_>,
 ) -> Result<String, Fail> {
-    match audit(alloc, program, &left) {
+    match audit(alloc, program, left) {
         Ok(()) => replayed(rt, alloc, program, left),
         Err(AuditFault::OutOfMemory) => Err(Fail::from(AllocError)),
         Err(why) => panic!(rt; "the audit of a run: {why}"),
@@ -115,11 +115,13 @@ fn replayed<R: Abort>(
     rt: &R,
     alloc: Global,
     program: &Program,
-    left: Left<'_>,
+    left: &Left<'_>,
 ) -> Result<String, Fail> {
     let report = text_of(left.report(alloc)?)?;
-    let Left { lines, version, .. } = left;
-    let record = Record { version, lines };
+    let record = Record {
+        version: left.version,
+        lines: Vec::from_slice(alloc, left.lines.as_slice())?,
+    };
     let RunReport { report: told, .. } = replay(alloc, program, &record)?;
     let told = text_of(told)?;
     expect_text(rt, &report, &told, "a replay");

@@ -254,9 +254,9 @@ fn told(alloc: Global, store: &Store<'_>) -> Result<String, Fail> {
     Ok(text)
 }
 
-fn told_frame(alloc: Global, store: &Store<'_>) -> Result<String, AllocError> {
+fn told_frame(alloc: Global, store: &Store<'_>) -> Result<String, Fail> {
     let Some(top) = store.top() else {
-        return String::from_str(alloc, "none");
+        return Ok(String::from_str(alloc, "none")?);
     };
     let Activation {
         routine,
@@ -271,9 +271,9 @@ fn told_frame(alloc: Global, store: &Store<'_>) -> Result<String, AllocError> {
     } = top;
     let may_keep = !olds.is_full();
     let may_push = !operands.is_full();
-    format!(in alloc;
+    Ok(format!(in alloc;
         "{routine} {origin:?} {stage:?} at {place} {slots:?} {result:?} {may_keep} {may_push}"
-    )
+    )?)
 }
 
 /// Makes a call. One that is refused memory has changed nothing, so it is made once more.
@@ -292,52 +292,55 @@ fn expect_call<R: Abort + AllocGlobal>(
     Ok(())
 }
 
-/// The store after these calls.
-fn play<'p>(
-    rt: &(impl Abort + AllocGlobal),
-    program: &'p Program,
-    steps: &str,
-) -> Result<Store<'p>, Fail> {
-    let mut store = Store::new(rt.alloc(), program);
+/// Makes these calls.
+fn play<R: Abort + AllocGlobal>(rt: &R, store: &mut Store<'_>, steps: &str) -> Result<(), Fail> {
     for words in steps.split(", ") {
         if words.is_empty() {
             break;
         }
-        expect_call(rt, &mut store, words)?;
+        expect_call(rt, store, words)?;
     }
-    Ok(store)
+    Ok(())
 }
 
-fn expect_store<R: Abort + AllocGlobal>(rt: &R, program: &Program, row: &str) -> Result<(), Fail> {
-    let (steps, wanted) = halves_of(row)?;
-    let store = play(rt, program, steps)?;
-    let told = told(rt.alloc(), &store)?;
-    expect_text(rt, &told, wanted, steps);
+/// What is told of the store after these calls, or of its topmost routine.
+fn told_after<R: Abort + AllocGlobal>(
+    rt: &R,
+    program: &Program,
+    steps: &str,
+    is_of_frame: bool,
+) -> Result<String, Fail> {
+    let mut store = Store::new(rt.alloc(), program);
+    play(rt, &mut store, steps)?;
+    if is_of_frame {
+        told_frame(rt.alloc(), &store)
+    } else {
+        told(rt.alloc(), &store)
+    }
+}
+
+fn expect_rows<R: Abort + AllocGlobal>(
+    rt: &R,
+    program: &Program,
+    rows: &str,
+    are_of_frames: bool,
+) -> Result<(), Fail> {
+    for row in rows.lines() {
+        let (steps, wanted) = halves_of(row)?;
+        let told = told_after(rt, program, steps, are_of_frames)?;
+        expect_text(rt, &told, wanted, steps);
+    }
     Ok(())
 }
 
 #[test]
 fn calls_leave_stores(rt: HostRuntime) -> Result<(), Fail> {
     let program = program_of(rt.alloc(), SOURCE, "low", "run")?;
-    for row in STORES.lines() {
-        expect_store(&rt, &program, row)?;
-    }
-    Ok(())
-}
-
-fn expect_frame<R: Abort + AllocGlobal>(rt: &R, program: &Program, row: &str) -> Result<(), Fail> {
-    let (steps, wanted) = halves_of(row)?;
-    let store = play(rt, program, steps)?;
-    let told = told_frame(rt.alloc(), &store)?;
-    expect_text(rt, &told, wanted, steps);
-    Ok(())
+    expect_rows(&rt, &program, STORES, false)
 }
 
 #[test]
 fn routines_begin(rt: HostRuntime) -> Result<(), Fail> {
     let program = program_of(rt.alloc(), SOURCE, "low", "run")?;
-    for row in FRAMES.lines() {
-        expect_frame(&rt, &program, row)?;
-    }
-    Ok(())
+    expect_rows(&rt, &program, FRAMES, true)
 }

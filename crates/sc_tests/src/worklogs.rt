@@ -4,11 +4,10 @@ use crate::programs::program_of;
 use crate::rows::{expect_text, halves_of};
 use arrayvec::ArrayVec;
 use sc_code::Program;
-use sc_handler::Settlement;
 use sc_lockpass::HandlerNumber;
 use sc_region::{Errand, Job, Reference, Request, Want};
 use sc_worklog::LoggedRegion;
-use std::alloc::{AllocError, Global};
+use std::alloc::Global;
 use std::process::Abort;
 use std::test::Fail;
 
@@ -117,30 +116,19 @@ fn want_name(want: &Want) -> &'static str {
     }
 }
 
-fn told_entry(alloc: Global, entry: &Settlement) -> Result<String, AllocError> {
-    let Settlement {
-        handler,
-        job,
-        turns,
-        want,
-    } = entry;
-    format!(in alloc; "{handler} {} {turns} {}", job_name(job), want_name(want))
-}
-
 fn told(alloc: Global, region: &LoggedRegion<'_>) -> Result<String, Fail> {
     let mut told = String::new(alloc);
     let log = region.log();
     for place in 0..log.len() {
-        if place > 0 {
-            told.push_str(", ")?;
-        }
         let entry = log.get(place).ok_or("no entry")?;
-        told.push_str(&told_entry(alloc, &entry)?)?;
+        let (handler, turns) = (entry.handler, entry.turns);
+        let (job, want) = (job_name(&entry.job), want_name(&entry.want));
+        let comma = if place > 0 { ", " } else { "" };
+        write!(told, "{comma}{handler} {job} {turns} {want}")?;
     }
-    told.push_str("; ")?;
-    told.push_str(str::from_utf8(region.output())?)?;
-    told.push_str("; ")?;
-    told.push_str(told_object(region))?;
+    let output = str::from_utf8(region.output())?;
+    let object = told_object(region);
+    write!(told, "; {output}; {object}")?;
     Ok(told)
 }
 
@@ -193,11 +181,20 @@ fn play_jobs<R: Abort>(
     Ok(())
 }
 
-fn expect_log<R: Abort + AllocGlobal>(rt: &R, program: &Program, row: &str) -> Result<(), Fail> {
-    let (steps, wanted) = halves_of(row)?;
+/// What is told of a handler after these jobs.
+fn told_after<R: Abort + AllocGlobal>(
+    rt: &R,
+    program: &Program,
+    steps: &str,
+) -> Result<String, Fail> {
     let mut region = LoggedRegion::new(rt.alloc(), program, 0);
     play_jobs(rt, program, &mut region, steps)?;
-    let told = told(rt.alloc(), &region)?;
+    told(rt.alloc(), &region)
+}
+
+fn expect_log<R: Abort + AllocGlobal>(rt: &R, program: &Program, row: &str) -> Result<(), Fail> {
+    let (steps, wanted) = halves_of(row)?;
+    let told = told_after(rt, program, steps)?;
     expect_text(rt, &told, wanted, steps);
     Ok(())
 }

@@ -62,18 +62,22 @@ handler 1 free refused 0 output 1
 stopped idle
 ";
 
+fn expect_moves<R: Abort>(rt: &R, world: &mut World<'_>) -> Result<(), Fail> {
+    for handler in &CALLBACK_TURNS {
+        expect_turns(rt, world, &[*handler], Turned::Moved)?;
+        expect_turns(rt, world, &STRANGERS, Turned::Nothing)?;
+    }
+    expect_turns(rt, world, &[0, 1], Turned::Nothing)?;
+    let report = text_of(world.report()?)?;
+    expect_text(rt, &report, CALLBACK_REPORT, CALLBACK);
+    Ok(())
+}
+
 #[test]
 fn says_whether_a_turn_moves(rt: HostRuntime) -> Result<(), Fail> {
     let program = load(&rt, rt.alloc(), CALLBACK)?;
     let mut world = World::open(rt.alloc(), &program, Version::One)?;
-    for handler in &CALLBACK_TURNS {
-        expect_turns(&rt, &mut world, &[*handler], Turned::Moved)?;
-        expect_turns(&rt, &mut world, &STRANGERS, Turned::Nothing)?;
-    }
-    expect_turns(&rt, &mut world, &[0, 1], Turned::Nothing)?;
-    let report = text_of(world.report()?)?;
-    expect_text(&rt, &report, CALLBACK_REPORT, CALLBACK);
-    Ok(())
+    expect_moves(&rt, &mut world)
 }
 
 /// A handler that calls a routine of its own.
@@ -146,12 +150,21 @@ fn expect_report<R: Abort + AllocGlobal>(
 ) -> Result<(), Fail> {
     let program = load(rt, rt.alloc(), text)?;
     let mut world = World::open(rt.alloc(), &program, Version::One)?;
+    expect_reported(rt, &mut world, handlers, report)
+}
+
+fn expect_reported<R: Abort>(
+    rt: &R,
+    world: &mut World<'_>,
+    handlers: &[u16],
+    report: &str,
+) -> Result<(), Fail> {
     let (made, result) = world.turns_until(handlers);
     if result.is_err() {
         world.turns(handlers.get(made..).unwrap_or(&[]))?;
     }
     let told = text_of(world.report()?)?;
-    expect_text(rt, &told, report, text);
+    expect_text(rt, &told, report, "the turns");
     Ok(())
 }
 

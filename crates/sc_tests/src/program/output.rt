@@ -2,6 +2,7 @@
 
 use super::{Call, answer_of, expect};
 use crate::program::fake::{FakeFile, FakeFiles, Patience};
+use crate::rows::expect_bytes;
 use sc_serve::serve::Exit;
 use std::io::ErrorKind;
 use std::process::Abort;
@@ -49,11 +50,12 @@ fn expect_cut<'a, R: Abort + Threads + Wait + Clock + Sync + AllocGlobal>(
             kind: failure.kind,
         };
         let taken = printed.get(..calls).unwrap_or("");
-        if calls > printed.len() {
-            expect(rt, call, (status, printed, ""))?;
+        let wanted = if calls > printed.len() {
+            (status, printed, "")
         } else {
-            expect(rt, call, (failure.status, taken, failure.told))?;
-        }
+            (failure.status, taken, failure.told)
+        };
+        expect(rt, call, wanted)?;
     }
     Ok(())
 }
@@ -80,6 +82,20 @@ const FAULTY: &str = "scoop run
 scoop run --root A a.e
 scoop run a.e";
 
+/// A call ends with 2 and prints nothing.
+fn expect_usage<R: Abort + Threads + Wait + Sync + AllocGlobal>(
+    rt: &R,
+    call: Call<'_>,
+) -> Result<(), Fail> {
+    let said = answer_of(rt, call)?;
+    if said.status == Exit::Broken as u8 {
+        return Err(Fail::new("out of memory"));
+    }
+    expect_bytes(rt, &said.out, "", call.words);
+    assert_eq!(rt; said.status, 2);
+    Ok(())
+}
+
 #[test]
 fn keeps_its_status_where_standard_error_fails(rt: HostRuntime) -> Result<(), Fail> {
     for words in FAULTY.lines() {
@@ -89,12 +105,7 @@ fn keeps_its_status_where_standard_error_fails(rt: HostRuntime) -> Result<(), Fa
                 calls_left: calls,
                 kind: ErrorKind::BrokenPipe,
             };
-            let said = answer_of(&rt, call)?;
-            if said.status == Exit::Broken as u8 {
-                return Err(Fail::new("out of memory"));
-            }
-            assert_eq!(rt; said.status, 2, "of {words}, after {calls} calls");
-            assert_eq!(rt; said.out.len(), 0, "of {words}, after {calls} calls");
+            expect_usage(&rt, call)?;
         }
     }
     Ok(())
