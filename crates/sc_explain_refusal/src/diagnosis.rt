@@ -172,27 +172,24 @@ impl<'s> Refusal<'s> {
     /// Adds the sentence, and what helps where something does in general.
     fn push_sentence(&self, lines: &mut Lines) {
         let part = part_of(self.text, self.span);
-        let text = if self.is_of_result(part) {
+        let is_of_result = matches!(self.code, RefusalCode::Rule(Rule::ResultType))
+            && part.eq_ignore_ascii_case("result");
+        let text = if is_of_result {
             "# stands in a function alone"
         } else {
             text_of(self.code)
         };
-        let help = help_of(self.code);
-        if part.is_empty() {
-            push_with(lines, text, "", "this")
+        let (mark, shown, named) = if part.is_empty() {
+            ("", "this", "..")
         } else {
-            push_with(lines, text, "`", part)
-        }
+            ("`", part, part)
+        };
+        push_with(lines, text, mark, shown);
+        let help = help_of(self.code);
         if !help.is_empty() {
             lines.push("help: ");
-            push_with(lines, help, "", if part.is_empty() { ".." } else { part })
+            push_with(lines, help, "", named)
         }
-    }
-
-    /// Whether `Result` stands where no function is.
-    fn is_of_result(&self, part: &str) -> bool {
-        matches!(self.code, RefusalCode::Rule(Rule::ResultType))
-            && part.eq_ignore_ascii_case("result")
     }
 }
 

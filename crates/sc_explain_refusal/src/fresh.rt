@@ -6,13 +6,9 @@ const NAMES: &str =
 
 /// The first of the names that stands nowhere in the text, but for so many of them; nothing where all do.
 pub fn fresh_name(text: &str, but: usize) -> &'static str {
-    fresh_among(NAMES, text.as_bytes(), but)
-}
-
-fn fresh_among<'n>(names: &'n str, text: &[u8], but: usize) -> &'n str {
     let mut left = but;
-    for name in names.split(' ') {
-        if !has_word(text, name.as_bytes()) {
+    for name in NAMES.split(' ') {
+        if !has_word(text.as_bytes(), name.as_bytes()) {
             if left == 0 {
                 return name;
             }
@@ -25,15 +21,15 @@ fn fresh_among<'n>(names: &'n str, text: &[u8], but: usize) -> &'n str {
 /// Whether the word stands somewhere in the text, in any letter case.
 fn has_word(text: &[u8], word: &[u8]) -> bool {
     let mut start = 0;
-    for (index, byte) in text.iter().enumerate() {
-        if !is_part_of_name(*byte) {
+    for index in 0..text.len().saturating_add(1) {
+        if !is_part_of_name(text.get(index)) {
             if is_word(text.get(start..index), word) {
                 return true;
             }
             start = index.saturating_add(1);
         }
     }
-    is_word(text.get(start..), word)
+    false
 }
 
 fn is_word(part: Option<&[u8]>, word: &[u8]) -> bool {
@@ -43,6 +39,9 @@ fn is_word(part: Option<&[u8]>, word: &[u8]) -> bool {
     }
 }
 
-fn is_part_of_name(byte: u8) -> bool {
-    byte.is_ascii_alphanumeric() || byte == b'_'
+fn is_part_of_name(byte: Option<&u8>) -> bool {
+    match byte {
+        None => false,
+        Some(byte) => byte.is_ascii_alphanumeric() || *byte == b'_',
+    }
 }

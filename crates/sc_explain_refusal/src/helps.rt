@@ -39,7 +39,11 @@ impl<'s> Scope<'s> {
         let name = word_at(self.text, self.span);
         match misfit {
             Misfit::Unknown => self.push_known(lines, name),
-            Misfit::Lacking(class) => self.push_near_or_instead(lines, class, name),
+            Misfit::Lacking(class) => {
+                if !push_instead_of(lines, name) {
+                    self.push_near_feature(lines, class, name);
+                }
+            }
             Misfit::Fixed(Some(_)) => self.push_local(lines, name),
             Misfit::Fixed(None) => {
                 lines.push(
@@ -50,13 +54,6 @@ impl<'s> Scope<'s> {
         }
     }
 
-    /// Adds a feature of the class that is near to a name, or what is written in place of what it shows.
-    fn push_near_or_instead(&self, lines: &mut Lines, class: ClassId, name: &str) {
-        if !push_instead_of(lines, name) {
-            self.push_near_feature(lines, class, name);
-        }
-    }
-
     /// Adds that a local takes what is to be assigned to this name.
     fn push_local(&self, lines: &mut Lines, name: &str) {
         let local = fresh_name(self.text, 0);
@@ -64,9 +61,11 @@ impl<'s> Scope<'s> {
             "help: use a local: declare `",
             local,
             "` under `local`, and begin with `",
-        ]);
-        lines.push_all(&[local, " := "]);
-        lines.push_all(&[name, "`\n"])
+            local,
+            " := ",
+            name,
+            "`\n",
+        ])
     }
 
     /// Adds a name that is known there and near to this one, or what is written in place of what it shows.
@@ -129,13 +128,13 @@ impl<'s> Scope<'s> {
 
     /// Adds that there is no actual for the formal that another's tag names.
     fn push_missing(&self, lines: &mut Lines, taker: Span, missing: Span) {
-        let missing = part_of(self.text, missing);
         lines.push_all(&[
             "help: there is no actual for `",
-            missing,
+            part_of(self.text, missing),
             "`, on whose handler `",
-        ]);
-        lines.push_all(&[part_of(self.text, taker), "` lies\n"])
+            part_of(self.text, taker),
+            "` lies\n",
+        ])
     }
 
     /// Adds how an entity of this type is declared to take objects of other handlers.
@@ -198,18 +197,15 @@ impl<'s> Scope<'s> {
 
     /// Adds the part at fault under this name, behind another text.
     fn push_named(&self, lines: &mut Lines, before: &str, name: &str) {
-        lines.push(before);
-        lines.push_all(&[self.part(), " as "]);
-        lines.push(name)
+        lines.push_all(&[before, self.part(), " as ", name])
     }
 
     /// Adds how it is asked whether the part at fault is Void, and how its handler is reserved then.
     fn push_question_and_block(&self, lines: &mut Lines, name: &str) {
         let before = "help: ask first, and reserve it: `if attached ";
         self.push_named(lines, before, name);
-        lines.push_all(&[" then separate ", name, " as "]);
         let other = fresh_name(self.text, 1);
-        lines.push_all(&[other, " do .. end end`\n"])
+        lines.push_all(&[" then separate ", name, " as ", other, " do .. end end`\n"])
     }
 
     /// How it is asked there whether what has this tag is Void.
@@ -217,16 +213,16 @@ impl<'s> Scope<'s> {
         match self.context {
             Context::Invariant => Way::Nowhere,
             Context::Body | Context::Check => self.way_in_body(tag, asked),
-            _ if is_own(tag) => Way::OfClass,
+            _ if matches!(tag, Tag::Own) => Way::OfClass,
             _ => Way::Formal,
         }
     }
 
     /// How it is asked in a body whether what has this tag is Void.
     fn way_in_body(&self, tag: Tag, asked: Asked) -> Way {
-        let is_enough = asked == Asked::Value || is_reserved(tag);
+        let is_enough = asked == Asked::Value || matches!(tag, Tag::Own | Tag::With(_));
         match self.place {
-            Place::Until if is_own(tag) => Way::Function,
+            Place::Until if matches!(tag, Tag::Own) => Way::Function,
             Place::Condition if is_enough => Way::Condition,
             _ if is_enough => Way::Around,
             _ => Way::Reserved,
@@ -236,7 +232,7 @@ impl<'s> Scope<'s> {
     /// Adds how the handler of the part at fault is reserved, where that is of this type.
     fn push_reservation(&self, lines: &mut Lines, given: EntityType) {
         let name = fresh_name(self.text, 0);
-        if !self.is_in_body() {
+        if !matches!(self.context, Context::Body | Context::Check) {
             return self.push_formal(lines, given, name);
         }
         let before = match self.place {
@@ -251,16 +247,9 @@ impl<'s> Scope<'s> {
     /// Adds which function reserves an object of this class each time that it is called.
     fn push_reserving_function(&self, lines: &mut Lines, class: ClassId, name: &str) {
         let before = "help: let a function reserve it each time: `f (";
-        lines.push_all(&[before, name, ": separate ", self.class_name(class)]);
-        lines.push("): BOOLEAN do Result := .. end`\n")
-    }
-
-    /// Whether it stands in a body.
-    fn is_in_body(&self) -> bool {
-        match self.context {
-            Context::Body | Context::Check => true,
-            _ => false,
-        }
+        let behind = "): BOOLEAN do Result := .. end`\n";
+        let class = self.class_name(class);
+        lines.push_all(&[before, name, ": separate ", class, behind])
     }
 
     /// Adds that a contract calls what is reserved for a formal.
@@ -368,22 +357,6 @@ enum Way {
     OfClass,
     /// By an attached formal in its place.
     Formal,
-}
-
-/// Whether what has the tag is of the current handler.
-fn is_own(tag: Tag) -> bool {
-    match tag {
-        Tag::Own => true,
-        _ => false,
-    }
-}
-
-/// Whether what has the tag is of the current handler or of one that is reserved.
-fn is_reserved(tag: Tag) -> bool {
-    match tag {
-        Tag::Own | Tag::With(_) => true,
-        _ => false,
-    }
 }
 
 /// What helps where an object is to be made of a class that every system has.

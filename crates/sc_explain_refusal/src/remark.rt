@@ -97,9 +97,19 @@ impl<'s> Scope<'s> {
     /// What is said of what stands there. Nothing where the types and numbers that are found there don't earn the fault.
     pub fn remark(&mut self, site: Site<'s>) -> Result<Remark, Untold> {
         match site.part {
-            Part::Assigned(variable, value) => self.of_assigned(variable, value),
-            Part::Head(value) => self.of_head(value),
-            Part::Condition(e) => of_untrue(self.type_of_condition(site.context, e)?),
+            Part::Assigned(variable, value) => {
+                let types = self.assigned_types(variable, value)?;
+                Ok(Remark::Assigned(types, variable_span(variable)))
+            }
+            Part::Head(value) => {
+                let types = self.head_types(value)?;
+                Ok(Remark::Given(types.given, Wanted::Reserved))
+            }
+            Part::Condition(e) => {
+                let given = self.type_of_condition(site.context, e)?;
+                let remark = Remark::Given(given, Wanted::Condition);
+                unless(is_boolean(given.class), remark)
+            }
             Part::Operation(_) if matches!(self.rule, Rule::OldPlace) => {
                 Ok(Remark::Old(site.context))
             }
@@ -112,29 +122,29 @@ impl<'s> Scope<'s> {
         }
     }
 
-    fn of_assigned(&self, variable: &Variable, value: &Expr) -> Result<Remark, Untold> {
-        let types = self.assigned_types(variable, value)?;
-        Ok(Remark::Assigned(types, variable_span(variable)))
-    }
-
-    fn of_head(&self, value: &Expr) -> Result<Remark, Untold> {
-        let types = self.head_types(value)?;
-        Ok(Remark::Given(types.given, Wanted::Reserved))
-    }
-
     /// Of a part of a call or of a creation.
     fn of_part(&self, context: Context, part: Part<'s>) -> Result<Remark, Untold> {
         match part {
-            Part::Actual(call, number) => self.of_actual(context, call, number),
-            Part::CreationActual(created, call, number) => {
-                self.of_creation_actual(created, call, number)
+            Part::Actual(call, number) => {
+                let called = self.called(context, call)?;
+                self.of_taken(context, called, &call.actuals, number)
             }
-            Part::CallName(call) => self.of_call(context, call),
+            Part::CreationActual(created, call, number) => {
+                let called = self.creator(created, call)?;
+                self.of_taken(Context::Body, called, &call.actuals, number)
+            }
+            Part::CallName(call) => {
+                let called = self.called(context, call)?;
+                of_called(self.rule, called, call.actuals.len())
+            }
             Part::CreationName(created, _) if matches!(self.rule, Rule::NotCreation) => {
                 let created = self.type_of_variable(created)?;
                 Ok(Remark::Made(Making::By(created.class)))
             }
-            Part::CreationName(created, call) => self.of_creation(created, call),
+            Part::CreationName(created, call) => {
+                let called = self.creator(created, call)?;
+                of_creator(self.rule, called, call.actuals.len())
+            }
             Part::Assignee(variable) => self.of_assignee(variable),
             _ => of_unknown(self.rule, None),
         }
@@ -165,31 +175,6 @@ impl<'s> Scope<'s> {
         None
     }
 
-    fn of_actual(&self, context: Context, call: &Call, number: usize) -> Result<Remark, Untold> {
-        let called = self.called(context, call)?;
-        self.of_taken(context, called, &call.actuals, number)
-    }
-
-    fn of_creation_actual(
-        &self,
-        created: &Variable,
-        call: &CreationCall,
-        number: usize,
-    ) -> Result<Remark, Untold> {
-        let called = self.creator(created, call)?;
-        self.of_taken(Context::Body, called, &call.actuals, number)
-    }
-
-    fn of_call(&self, context: Context, call: &Call) -> Result<Remark, Untold> {
-        let called = self.called(context, call)?;
-        of_called(self.rule, called, call.actuals.len())
-    }
-
-    fn of_creation(&self, created: &Variable, call: &CreationCall) -> Result<Remark, Untold> {
-        let called = self.creator(created, call)?;
-        of_creator(self.rule, called, call.actuals.len())
-    }
-
     /// The type of a condition, if it has one; the names that it gives are known behind it.
     fn type_of_condition(&mut self, context: Context, e: &'s Expr) -> Result<EntityType, Untold> {
         type_found(self.routine.condition(context, &mut self.names, e))
@@ -200,12 +185,14 @@ impl<'s> Scope<'s> {
             Expr::Unary(span, operator, operand) => {
                 let around = operand_context(*operator, context);
                 let given = self.type_of(around, Position::Plain, operand)?;
-                of_operand(context, *span, *operator, given)
+                let judged = judge_unary(context, *span, *operator, typing_of(given));
+                unless(judged.is_ok(), Remark::Operand(*operator, given))
             }
             Expr::Binary(span, operator, left, right) => {
                 let left = self.type_of_operand(context, *operator, left)?;
                 let right = self.type_of_operand(context, *operator, right)?;
-                of_operands(*span, *operator, left, right)
+                let judged = judge_binary(*span, *operator, typing_of(left), typing_of(right));
+                unless(judged.is_ok(), Remark::Operands(*operator, left, right))
             }
             _ => Err(Untold::Nothing),
         }
@@ -266,7 +253,9 @@ impl<'s> Scope<'s> {
     ) -> Result<Remark, Untold> {
         let given = type_of_actual(found, number)?;
         match callee.formals {
-            Formals::Printed => of_printed(given),
+            Formals::Printed => {
+                unless(given.is_expanded(), Remark::Given(given, Wanted::Printed))
+            }
             Formals::Declared(formals) => {
                 let passed = self.passed_types(found, callee.target, formals, number, given)?;
                 Ok(Remark::Passed(passed))
@@ -315,32 +304,31 @@ fn of_unknown(rule: Rule, class: Option<ClassId>) -> Result<Remark, Untold> {
 
 /// By the rule that fails, of the name of a call with so many actuals.
 fn of_called(rule: Rule, called: Called<'_>, actuals: usize) -> Result<Remark, Untold> {
-    match called.callee {
-        None => of_unknown(rule, called.class),
-        Some(callee) => of_callee(rule, callee, actuals),
-    }
-}
-
-/// By the rule that fails, of the name of a creation with so many actuals.
-fn of_creator(rule: Rule, called: Called<'_>, actuals: usize) -> Result<Remark, Untold> {
-    Ok(as_creation(of_called(rule, called, actuals)?))
-}
-
-/// By the rule that fails, of a name with so many actuals that is called by this.
-fn of_callee(rule: Rule, callee: Callee<'_>, actuals: usize) -> Result<Remark, Untold> {
+    let Some(callee) = called.callee else {
+        return of_unknown(rule, called.class);
+    };
     match rule {
-        Rule::WrongArity => of_arity(taken_by(callee.formals), actuals),
+        Rule::WrongArity => {
+            let taken = match callee.formals {
+                Formals::Declared(formals) => formals.len(),
+                Formals::Printed => 1,
+            };
+            unless(
+                taken == actuals,
+                Remark::Name(Misfit::Arity(taken, actuals)),
+            )
+        }
         Rule::ResultType if callee.is_query => Ok(Remark::Name(Misfit::Query)),
         Rule::ResultType => Ok(Remark::Name(Misfit::Procedure)),
         _ => Err(Untold::Nothing),
     }
 }
 
-/// What is said of the name of a creation, by what is said of that of a call.
-fn as_creation(remark: Remark) -> Remark {
-    match remark {
-        Remark::Name(Misfit::Query) => Remark::Name(Misfit::Creator),
-        _ => remark,
+/// The same of the name of a creation.
+fn of_creator(rule: Rule, called: Called<'_>, actuals: usize) -> Result<Remark, Untold> {
+    match of_called(rule, called, actuals)? {
+        Remark::Name(Misfit::Query) => Ok(Remark::Name(Misfit::Creator)),
+        remark => Ok(remark),
     }
 }
 
@@ -352,63 +340,11 @@ fn typing_of(entity_type: EntityType) -> Typing {
     }
 }
 
-/// That an operand's type isn't one that the operator takes.
-fn of_operand(
-    context: Context,
-    span: Span,
-    operator: UnaryOperator,
-    given: EntityType,
-) -> Result<Remark, Untold> {
-    match judge_unary(context, span, operator, typing_of(given)) {
-        Ok(_) => Err(Untold::Nothing),
-        Err(_) => Ok(Remark::Operand(operator, given)),
-    }
-}
-
-/// That the types of operands aren't ones that the operator takes.
-fn of_operands(
-    span: Span,
-    operator: BinaryOperator,
-    left: EntityType,
-    right: EntityType,
-) -> Result<Remark, Untold> {
-    match judge_binary(span, operator, typing_of(left), typing_of(right)) {
-        Ok(_) => Err(Untold::Nothing),
-        Err(_) => Ok(Remark::Operands(operator, left, right)),
-    }
-}
-
-/// That a reference is printed.
-fn of_printed(given: EntityType) -> Result<Remark, Untold> {
-    if given.is_expanded() {
+/// What is said of a fault, unless what is found shows that there is none.
+fn unless(is_right: bool, remark: Remark) -> Result<Remark, Untold> {
+    if is_right {
         Err(Untold::Nothing)
     } else {
-        Ok(Remark::Given(given, Wanted::Printed))
-    }
-}
-
-/// That a condition isn't BOOLEAN.
-fn of_untrue(given: EntityType) -> Result<Remark, Untold> {
-    if is_boolean(given.class) {
-        Err(Untold::Nothing)
-    } else {
-        Ok(Remark::Given(given, Wanted::Condition))
-    }
-}
-
-/// How many actuals are taken.
-fn taken_by(formals: Formals<'_>) -> usize {
-    match formals {
-        Formals::Declared(formals) => formals.len(),
-        Formals::Printed => 1,
-    }
-}
-
-/// That another number of actuals is given than is taken.
-fn of_arity(taken: usize, given: usize) -> Result<Remark, Untold> {
-    if taken == given {
-        Err(Untold::Nothing)
-    } else {
-        Ok(Remark::Name(Misfit::Arity(taken, given)))
+        Ok(remark)
     }
 }

@@ -25,17 +25,25 @@ impl<'s> Scope<'s> {
             Remark::Given(given, wanted) => {
                 self.push_given(lines, part, *given, said_of_wanted(*wanted))
             }
-            Remark::Operand(operator, given) => { self.push_operand(lines, *operator, *given) }
+            Remark::Operand(operator, given) => {
+                let and = ", and its operand is of type ";
+                lines.push_all(&[taken_by_unary(*operator), and]);
+                self.push_type(lines, *given, "")
+            }
             Remark::Operands(operator, left, right) => {
                 push_operator(lines, *operator);
                 self.push_type(lines, *left, " and of type ");
                 self.push_type(lines, *right, "")
             }
             Remark::Name(Misfit::Lacking(class)) => {
-                push_lacking(lines, self.class_name(*class), part)
+                lines.push_all(&["the class `", self.class_name(*class)]);
+                push_quoted(lines, "` has no feature ", part, "")
             }
             Remark::Name(misfit) => push_misfit(lines, part, *misfit),
-            Remark::Target(given) => push_quoted(lines, "", part, said_of_target(given.attached)),
+            Remark::Target(given) if given.attached => {
+                push_quoted(lines, "", part, " may lie on a handler that isn't reserved")
+            }
+            Remark::Target(_) => push_quoted(lines, "", part, " may be Void"),
             Remark::Made(making) => self.push_made(lines, part, *making),
             Remark::Old(context) => push_quoted(lines, "", part, said_of_old(*context)),
         }
@@ -45,8 +53,11 @@ impl<'s> Scope<'s> {
     fn push_made(&self, lines: &mut Lines, part: &str, making: Making) {
         match making {
             Making::Plain(class) => {
-                lines.push_all(&["the class `", self.class_name(class), "`"]);
-                lines.push(said_of_plain(class))
+                let said = match class {
+                    ClassId::Declared(_) => "` has a `create` list",
+                    _ => "` is no class of which objects are created",
+                };
+                lines.push_all(&["the class `", self.class_name(class), said])
             }
             Making::By(class) => {
                 push_quoted(
@@ -79,12 +90,6 @@ impl<'s> Scope<'s> {
         push_quoted(lines, "", part, " is of type ");
         self.push_type(lines, given, behind)
     }
-
-    fn push_operand(&self, lines: &mut Lines, operator: UnaryOperator, given: EntityType) {
-        lines.push(taken_by_unary(operator));
-        lines.push(", and its operand is of type ");
-        self.push_type(lines, given, "")
-    }
 }
 
 /// Adds what is said of a name at fault, whose class isn't told.
@@ -94,12 +99,6 @@ fn push_misfit(lines: &mut Lines, name: &str, misfit: Misfit) {
         Misfit::Unknown => push_quoted(lines, "nothing that is known here has the name ", name, ""),
         _ => push_quoted(lines, "", name, said_of_use(misfit)),
     }
-}
-
-/// Adds that a class has no feature of the name.
-fn push_lacking(lines: &mut Lines, class: &str, name: &str) {
-    lines.push_all(&["the class `", class]);
-    push_quoted(lines, "` has no feature ", name, "")
 }
 
 /// Adds which operands an operator takes.
@@ -136,23 +135,6 @@ fn said_of_use(misfit: Misfit) -> &'static str {
     }
 }
 
-/// What is said of a target, by whether it is attached.
-fn said_of_target(is_attached: bool) -> &'static str {
-    if is_attached {
-        " may lie on a handler that isn't reserved"
-    } else {
-        " may be Void"
-    }
-}
-
-/// What is said of a class of which no object is made without a procedure.
-fn said_of_plain(class: ClassId) -> &'static str {
-    match class {
-        ClassId::Declared(_) => " has a `create` list",
-        _ => " is no class of which objects are created",
-    }
-}
-
 /// What is said of an `old` that stands in this part of a class's text.
 fn said_of_old(context: Context) -> &'static str {
     match context {
@@ -186,29 +168,17 @@ fn taken_by_binary(operator: BinaryOperator) -> &'static str {
 /// Adds how many actuals are taken, and how many are given.
 fn push_arity(lines: &mut Lines, name: &str, taken: usize, given: usize) {
     push_quoted(lines, "", name, " takes ");
-    push_actuals(lines, taken);
-    push_given_number(lines, given)
-}
-
-/// Adds how many actuals are taken.
-fn push_actuals(lines: &mut Lines, count: usize) {
-    match count {
-        0 => lines.push("no actuals"),
-        1 => lines.push("1 actual"),
+    match taken {
+        0 => lines.push("no actuals, and is given "),
+        1 => lines.push("1 actual, and is given "),
         _ => {
-            lines.push_number(count as u64);
-            lines.push(" actuals")
+            lines.push_number(taken as u64);
+            lines.push(" actuals, and is given ")
         }
     }
-}
-
-/// Adds how many are given.
-fn push_given_number(lines: &mut Lines, count: usize) {
-    match count {
-        0 => lines.push(", and is given none"),
-        _ => {
-            lines.push(", and is given ");
-            lines.push_number(count as u64)
-        }
+    if given == 0 {
+        lines.push("none")
+    } else {
+        lines.push_number(given as u64)
     }
 }

@@ -10,7 +10,7 @@ use sc_explain_classes::{class_around, feature_around, let_tables_go, tables_of}
 use sc_explain_text::Lines;
 use sc_rules::{Context, Rule};
 use sc_text::Span;
-use sc_tree::{Class, Feature, FeatureKind, Name, Routine, System};
+use sc_tree::{Class, FeatureKind, Name, Routine, System};
 use sc_typing::{Purity, RoutineContext, result_type};
 use std::alloc::Global;
 
@@ -234,14 +234,7 @@ fn routine_in<'s>(class: &RoutineContext<'s, 's>, text: &'s Routine) -> RoutineC
 
 /// The routine that is the feature around a part of the text, if it is one.
 fn routine_around(class: &Class, span: Span) -> Option<&Routine> {
-    match feature_around(class, span) {
-        Some(feature) => routine_of(feature),
-        None => None,
-    }
-}
-
-fn routine_of(feature: &Feature) -> Option<&Routine> {
-    match &feature.kind {
+    match &feature_around(class, span)?.kind {
         FeatureKind::Attribute(_) => None,
         FeatureKind::Routine(text) => Some(text),
     }
