@@ -13,14 +13,13 @@ ghost use Rattle.std.specs.Prelude.{◌≡◌, IfOk, codes, map};
 ghost use Rattle.sc_arguments.specs.Asked.{IsAskedFor, IsAskedOf};
 ghost use Rattle.sc_arguments.specs.Usage as spec;
 
-use crate::arguments::explaining::{is_explained, with_explain};
-use crate::arguments::format::{format_argument, read_format};
+use crate::arguments::explaining::is_explained;
+use crate::arguments::format::read_format;
 use crate::arguments::given::given_in;
-use crate::arguments::options::{flag, number, option};
-use crate::arguments::tracing::{read_trace, read_trace_by, trace_argument};
-use clap::builder::ValueParser;
+use crate::arguments::options::{Taken, argument};
+use crate::arguments::tracing::{read_trace, read_trace_by};
+use clap::ArgMatches;
 use clap::error::ErrorKind;
-use clap::{Arg, ArgAction, ArgMatches};
 pub use format::Format;
 pub use help::ask_for_help;
 use sc_class::Root;
@@ -266,20 +265,7 @@ const EXPLAIN_HELP: &str =
 const RUN_EXPLAIN_HELP: &str =
     "Shows where a refusal stands, or says why handlers failed or wait, on standard error; the default where that is a terminal";
 
-const CODE_HELP: &str = "The code, as V6, or its name, in any letter case";
-
-const RECORD_HELP: &str = "The file of the record; `-` is standard input";
-
-const FILE_HELP: &str = "The files of the system's classes, in order; `-` is standard input";
-
-const ROOT_HELP: &str = "The root class and its creation procedure";
-
 const TURNS_HELP: &str = "The most turns that are played, 1 to 10000000";
-
-const OUTPUT_LIMIT_HELP: &str =
-    "Ends the run once all that is printed has more bytes than this, 0 to 1000000000000";
-
-const MOST_OUTPUT: u64 = 1_000_000_000_000;
 
 const WORKERS_HELP: &str = "How many threads play the handlers, 1 to 8";
 
@@ -377,6 +363,7 @@ fn read_replay<'a>(
     let Some((record, names)) = given.split_first() else {
         return Err(UsageFault::NoCommand);
     };
+    let names = Vec::from_slice(alloc, names)?;
     let replay = ReplayOptions {
         root: read_root(alloc, options)?,
         record: *record,
@@ -384,7 +371,7 @@ fn read_replay<'a>(
         is_explained: is_explained(options, explains),
         format: read_format(options),
     };
-    Ok(Invocation::Replay(replay, Vec::from_slice(alloc, names)?))
+    Ok(Invocation::Replay(replay, names))
 }
 
 fn read_root(alloc: Global, options: &ArgMatches<'_>) -> Result<Root, UsageFault> {
@@ -394,7 +381,7 @@ fn read_root(alloc: Global, options: &ArgMatches<'_>) -> Result<Root, UsageFault
 
 fn scoop_command<'a>(alloc: Global) -> Result<clap::Command<'a>, AllocError> {
     let commands = commands(alloc)?;
-    with_commands(program(alloc), commands)
+    program(alloc).subcommands(commands)?.bin_name("scoop")
 }
 
 /// What the program can be told to do.
@@ -419,147 +406,87 @@ fn add<'a>(
 }
 
 /// The program, without its commands.
-fn program<'a>(alloc: Global) -> Result<clap::Command<'a>, AllocError> {
-    described(alloc, "scoop", ABOUT, LONG_ABOUT, STATUS_HELP)
+fn program<'a>(alloc: Global) -> clap::Command<'a> {
+    described(alloc, "scoop", [ABOUT, LONG_ABOUT, STATUS_HELP])
         .version("0.1.0")
         .subcommand_required(true)
         .arg_required_else_help(true)
-        .bin_name("scoop")
 }
 
 fn check_command<'a>(alloc: Global) -> Result<clap::Command<'a>, AllocError> {
-    let command = described(
-        alloc,
-        "check",
-        CHECK_ABOUT,
-        CHECK_LONG_ABOUT,
-        CHECK_AFTER_HELP,
-    );
-    let command = with_explain(alloc, Ok(command), EXPLAIN_HELP);
-    let command = with_argument(command, format_argument(alloc));
-    let command = with_argument(command, root_argument(alloc));
-    with_argument(command, file_argument(alloc))
+    let texts = [CHECK_ABOUT, CHECK_LONG_ABOUT, CHECK_AFTER_HELP];
+    let takes = [
+        Taken::Explain(EXPLAIN_HELP),
+        Taken::NoExplain,
+        Taken::Format,
+        Taken::Root,
+        Taken::Files,
+    ];
+    command_of(alloc, "check", texts, &takes)
 }
 
 fn run_command<'a>(alloc: Global) -> Result<clap::Command<'a>, AllocError> {
-    let command = described(alloc, "run", RUN_ABOUT, RUN_LONG_ABOUT, RUN_AFTER_HELP);
-    let command = with_argument(Ok(command), workers_argument(alloc));
-    let command = with_argument(command, turns_argument(alloc));
-    let command = with_argument(command, output_limit_argument(alloc));
-    let command = with_argument(command, option(alloc, "record", "PATH", KEPT_HELP));
-    let command = with_argument(command, flag(alloc, "audit", AUDIT_HELP));
-    let command = with_argument(command, trace_argument(alloc));
-    let command = with_explain(alloc, command, RUN_EXPLAIN_HELP);
-    let command = with_argument(command, format_argument(alloc));
-    let command = with_argument(command, root_argument(alloc));
-    with_argument(command, file_argument(alloc))
+    let texts = [RUN_ABOUT, RUN_LONG_ABOUT, RUN_AFTER_HELP];
+    let takes = [
+        Taken::Number("workers", WORKERS_HELP, 8, "1"),
+        Taken::Number("turns", TURNS_HELP, 10_000_000, "1000000"),
+        Taken::OutputLimit,
+        Taken::Kept(KEPT_HELP),
+        Taken::Flag("audit", AUDIT_HELP),
+        Taken::Trace,
+        Taken::Explain(RUN_EXPLAIN_HELP),
+        Taken::NoExplain,
+        Taken::Format,
+        Taken::Root,
+        Taken::Files,
+    ];
+    command_of(alloc, "run", texts, &takes)
 }
 
 fn replay_command<'a>(alloc: Global) -> Result<clap::Command<'a>, AllocError> {
-    let command = described(
-        alloc,
-        "replay",
-        REPLAY_ABOUT,
-        REPLAY_LONG_ABOUT,
-        REPLAY_AFTER_HELP,
-    );
-    let command = with_argument(Ok(command), trace_argument(alloc));
-    let command = with_explain(alloc, command, RUN_EXPLAIN_HELP);
-    let command = with_argument(command, format_argument(alloc));
-    let command = with_argument(command, root_argument(alloc));
-    let command = with_argument(command, record_argument(alloc));
-    with_argument(command, file_argument(alloc))
+    let texts = [REPLAY_ABOUT, REPLAY_LONG_ABOUT, REPLAY_AFTER_HELP];
+    let takes = [
+        Taken::Trace,
+        Taken::Explain(RUN_EXPLAIN_HELP),
+        Taken::NoExplain,
+        Taken::Format,
+        Taken::Root,
+        Taken::Record,
+        Taken::Files,
+    ];
+    command_of(alloc, "replay", texts, &takes)
 }
 
 fn print_command<'a>(alloc: Global) -> Result<clap::Command<'a>, AllocError> {
-    let command = described(
-        alloc,
-        "print",
-        PRINT_ABOUT,
-        PRINT_LONG_ABOUT,
-        PRINT_AFTER_HELP,
-    );
-    with_argument(Ok(command), file_argument(alloc))
+    let texts = [PRINT_ABOUT, PRINT_LONG_ABOUT, PRINT_AFTER_HELP];
+    command_of(alloc, "print", texts, &[Taken::Files])
 }
 
 fn explain_command<'a>(alloc: Global) -> Result<clap::Command<'a>, AllocError> {
-    let command = described(
-        alloc,
-        "explain",
-        EXPLAIN_ABOUT,
-        EXPLAIN_LONG_ABOUT,
-        EXPLAIN_AFTER_HELP,
-    );
-    command.arg(Arg::new(alloc, "CODE").help(CODE_HELP))
+    let texts = [EXPLAIN_ABOUT, EXPLAIN_LONG_ABOUT, EXPLAIN_AFTER_HELP];
+    command_of(alloc, "explain", texts, &[Taken::Code])
 }
 
-/// A command of this name with these texts in its help, and with no arguments.
-fn described<'a>(
+/// A command of this name with these texts in its help, which takes this.
+fn command_of<'a>(
     alloc: Global,
     name: &'a str,
-    about: &'a str,
-    long_about: &'a str,
-    after_help: &'a str,
-) -> clap::Command<'a> {
+    texts: [&'a str; 3],
+    takes: &[Taken],
+) -> Result<clap::Command<'a>, AllocError> {
+    let mut command = described(alloc, name, texts);
+    for taken in takes {
+        let argument = argument(alloc, *taken)?;
+        command = command.arg(argument)?;
+    }
+    Ok(command)
+}
+
+/// A command of this name that takes nothing, with a short and a long text on it and one behind its options.
+fn described<'a>(alloc: Global, name: &'a str, texts: [&'a str; 3]) -> clap::Command<'a> {
+    let [about, long_about, after_help] = texts;
     clap::Command::new(alloc, name)
         .about(about)
         .long_about(long_about)
         .after_help(after_help)
-}
-
-/// The command with these subcommands, where memory sufficed for it.
-fn with_commands<'a>(
-    command: Result<clap::Command<'a>, AllocError>,
-    subcommands: Vec<clap::Command<'a>>,
-) -> Result<clap::Command<'a>, AllocError> {
-    match command {
-        Ok(command) => command.subcommands(subcommands),
-        Err(error) => Err(error),
-    }
-}
-
-/// The command with this argument, where memory sufficed for it.
-fn with_argument<'a>(
-    command: Result<clap::Command<'a>, AllocError>,
-    argument: Arg<'a>,
-) -> Result<clap::Command<'a>, AllocError> {
-    match command {
-        Ok(command) => command.arg(argument),
-        Err(error) => Err(error),
-    }
-}
-
-fn root_argument<'a>(alloc: Global) -> Arg<'a> {
-    option(alloc, "root", "CLASS.PROCEDURE", ROOT_HELP).default_value("APPLICATION.make")
-}
-
-fn turns_argument<'a>(alloc: Global) -> Arg<'a> {
-    number(
-        option(alloc, "turns", "N", TURNS_HELP),
-        10_000_000,
-        "1000000",
-    )
-}
-
-fn output_limit_argument<'a>(alloc: Global) -> Arg<'a> {
-    option(alloc, "output-limit", "BYTES", OUTPUT_LIMIT_HELP).value_parser(ValueParser::unsigned(
-        0,
-        MOST_OUTPUT,
-    ))
-}
-
-fn workers_argument<'a>(alloc: Global) -> Arg<'a> {
-    number(option(alloc, "workers", "N", WORKERS_HELP), 8, "1")
-}
-
-fn record_argument<'a>(alloc: Global) -> Arg<'a> {
-    Arg::new(alloc, "RECORD").required(true).help(RECORD_HELP)
-}
-
-fn file_argument<'a>(alloc: Global) -> Arg<'a> {
-    Arg::new(alloc, "FILE")
-        .required(true)
-        .num_args(1..)
-        .action(ArgAction::Append)
-        .help(FILE_HELP)
 }

@@ -1,8 +1,6 @@
 //! The value of `--format`: how an answer is written.
 
-use crate::arguments::options::{choice, option};
-use clap::{Arg, ArgMatches};
-use std::alloc::Global;
+use clap::ArgMatches;
 
 /// How an answer is written.
 #[derive(Clone, Copy)]
@@ -13,17 +11,9 @@ pub enum Format {
     Json,
 }
 
-const FORMATS: [&str; 2] = ["text", "json"];
+pub const FORMATS: [&str; 2] = ["text", "json"];
 
-const FORMAT_HELP: &str = "How the answer is written: as lines, or as one object of JSON";
-
-pub fn format_argument<'a>(alloc: Global) -> Arg<'a> {
-    choice(
-        option(alloc, "format", "FORMAT", FORMAT_HELP),
-        &FORMATS,
-        "text",
-    )
-}
+pub const FORMAT_HELP: &str = "How the answer is written: as lines, or as one object of JSON";
 
 pub fn read_format(options: &ArgMatches<'_>) -> Format {
     match options.get_str("format") {

@@ -1,12 +1,10 @@
 //! The command `search`: what is looked for in the orders of turns, and how far.
 
-use crate::arguments::explaining::{is_explained, with_explain};
-use crate::arguments::format::{Format, format_argument, read_format};
-use crate::arguments::options::{choice, flag, number, option};
-use crate::arguments::{
-    UsageFault, described, file_argument, read_root, root_argument, with_argument,
-};
-use clap::{Arg, ArgMatches};
+use crate::arguments::explaining::is_explained;
+use crate::arguments::format::{Format, read_format};
+use crate::arguments::options::Taken;
+use crate::arguments::{UsageFault, command_of, read_root};
+use clap::ArgMatches;
 use sc_class::Root;
 use std::alloc::{AllocError, Global};
 
@@ -39,7 +37,7 @@ pub enum Sought {
 
 const DEFAULT_STATES: u32 = 25_000;
 
-const SOUGHT: [&str; 3] = ["stuck", "fails", "any"];
+pub const SOUGHT: [&str; 3] = ["stuck", "fails", "any"];
 
 const SEARCH_ABOUT: &str = "Looks for an order of turns in which handlers are stuck, or one fails";
 
@@ -74,7 +72,7 @@ Exit status:
   5  memory ran out
   6  undecided: the states were used up";
 
-const SOUGHT_HELP: &str = "What ends the search";
+pub const SOUGHT_HELP: &str = "What ends the search";
 
 const STATES_HELP: &str = "The most states that are kept, 1 to 10000000";
 
@@ -86,21 +84,19 @@ const SEARCH_EXPLAIN_HELP: &str =
     "Shows where a refusal stands, or says who waits for whom and why one fails, on standard error; the default where that is a terminal";
 
 pub fn search_command<'a>(alloc: Global) -> Result<clap::Command<'a>, AllocError> {
-    let command = described(
-        alloc,
-        "search",
-        SEARCH_ABOUT,
-        SEARCH_LONG_ABOUT,
-        SEARCH_AFTER_HELP,
-    );
-    let command = with_argument(Ok(command), sought_argument(alloc));
-    let command = with_argument(command, states_argument(alloc));
-    let command = with_argument(command, option(alloc, "record", "PATH", FOUND_HELP));
-    let command = with_argument(command, flag(alloc, "outcomes", OUTCOMES_HELP));
-    let command = with_explain(alloc, command, SEARCH_EXPLAIN_HELP);
-    let command = with_argument(command, format_argument(alloc));
-    let command = with_argument(command, root_argument(alloc));
-    with_argument(command, file_argument(alloc))
+    let texts = [SEARCH_ABOUT, SEARCH_LONG_ABOUT, SEARCH_AFTER_HELP];
+    let takes = [
+        Taken::Sought,
+        Taken::Number("states", STATES_HELP, 10_000_000, "25000"),
+        Taken::Kept(FOUND_HELP),
+        Taken::Flag("outcomes", OUTCOMES_HELP),
+        Taken::Explain(SEARCH_EXPLAIN_HELP),
+        Taken::NoExplain,
+        Taken::Format,
+        Taken::Root,
+        Taken::Files,
+    ];
+    command_of(alloc, "search", texts, &takes)
 }
 
 pub fn read_search<'a>(
@@ -125,16 +121,4 @@ fn read_sought(options: &ArgMatches<'_>) -> Sought {
         Some("fails") => Sought::Fails,
         _ => Sought::Any,
     }
-}
-
-fn sought_argument<'a>(alloc: Global) -> Arg<'a> {
-    choice(option(alloc, "for", "WHAT", SOUGHT_HELP), &SOUGHT, "any")
-}
-
-fn states_argument<'a>(alloc: Global) -> Arg<'a> {
-    number(
-        option(alloc, "states", "N", STATES_HELP),
-        10_000_000,
-        "25000",
-    )
 }

@@ -1,10 +1,7 @@
 //! The option `--trace`: which turns of a run are told as they are made.
 
 use crate::arguments::UsageFault;
-use crate::arguments::options::option;
-use clap::builder::ValueParser;
-use clap::{Arg, ArgMatches};
-use std::alloc::Global;
+use clap::ArgMatches;
 
 /// Which turns of a run are told.
 #[derive(Clone, Copy)]
@@ -15,19 +12,10 @@ pub enum Trace {
     Print,
 }
 
-const TRACED: [&str; 2] = ["all", "print"];
+pub const TRACED: [&str; 2] = ["all", "print"];
 
-const TRACE_HELP: &str =
+pub const TRACE_HELP: &str =
     "Tells each turn that concerns others as it is made, or only what is printed, on standard error";
-
-/// The option, whose value stands behind `=` if it has one.
-pub fn trace_argument<'a>(alloc: Global) -> Arg<'a> {
-    option(alloc, "trace", "WHAT", TRACE_HELP)
-        .num_args(0..=1)
-        .require_equals(true)
-        .default_missing_value("all")
-        .value_parser(ValueParser::Names(&TRACED))
-}
 
 pub fn read_trace(options: &ArgMatches<'_>) -> Option<Trace> {
     match options.get_str("trace") {
