@@ -129,9 +129,14 @@ fn play_in_turns<'p, P: OfProgram + Send + Sync, R: Threads + Wait + Sync, G: Ga
         if let Some(made) = ended(&mut left, bounds) {
             return Ok((left, made));
         }
-        let Ok((turns, is_over)) =
-            play_all(rt, &mut left, Until::CoarseGrained, bounds, gate, watch)
-        else {
+        let Ok((turns, is_over)) = play_all(
+            rt,
+            &mut left,
+            Until::CoarseGrained,
+            bounds,
+            gate,
+            watch,
+        ) else {
             return Err(RunFault::OutOfMemory(Some(left)));
         };
         if is_over {

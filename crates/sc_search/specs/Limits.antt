@@ -60,6 +60,7 @@ SaysWhy p v a limit is_whole finding.Nothing = NothingSays p v a limit is_whole
 SaysWhy p v a limit is_whole (finding.Stuck order) = Unit {0}
 SaysWhy p v a limit is_whole (finding.Fails order) = Unit {0}
 SaysWhy p v a limit is_whole finding.Undecided = GivesUp p v a limit
+
 -- the same of what is searched
 abbrev pub SaysWhyFor : Subject → ℕ → Bool → Finding → Type 0
 SaysWhyFor s limit is_whole found = SaysWhy s.program.now.image s.version s.aim limit is_whole found
