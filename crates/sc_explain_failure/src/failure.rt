@@ -9,7 +9,7 @@ use sc_code::Program;
 use sc_explain::find;
 use sc_explain_text::{Lines, let_go, system_of};
 use sc_explain_waiting::{RunSource, push_waits};
-use sc_lockpass::{HandlerNumber, HandlerNumber, Version};
+use sc_lockpass::{HandlerNumber, Version};
 use sc_model::{Cause, Status};
 use sc_source::source::Source;
 use sc_tree::Class;

@@ -3,10 +3,12 @@
 use crate::naming::Names;
 use crate::printed::push_printed;
 use crate::waiting::Waiting;
+use sc_code::ClassNumber;
 use sc_explain::find;
 use sc_explain_text::Lines;
 use sc_explain_waiting::{RunSource, keeper_of, push_place, stand_of};
 use sc_handler::Settlement;
+use sc_lockpass::HandlerNumber;
 use sc_model::{Cause, Status};
 use sc_region::{Job, Request, Want};
 use sc_text::Span;
@@ -27,7 +29,7 @@ pub struct Before {
 }
 
 impl Before {
-    pub fn of(origin: &RunSource<'_>, world: &World<'_>, handler: u16) -> Before {
+    pub fn of(origin: &RunSource<'_>, world: &World<'_>, handler: HandlerNumber) -> Before {
         Before {
             printed: match world.region(handler) {
                 Some(region) => region.output().len(),
@@ -47,7 +49,7 @@ pub struct Moment<'o> {
     pub origin: &'o RunSource<'o>,
     pub classes: &'o [Span],
     pub world: &'o World<'o>,
-    pub handler: u16,
+    pub handler: HandlerNumber,
     /// Which turn of the run it was, from 1.
     pub turn: u64,
     pub before: Before,
@@ -81,13 +83,13 @@ impl<'o> Moment<'o> {
     }
 
     /// Adds what its reserve step had got for it, and who has to wait for that now.
-    fn tell_reserved(&self, lines: &mut Lines, handlers: &[u16], waiting: &mut Waiting) {
+    fn tell_reserved(&self, lines: &mut Lines, handlers: &[HandlerNumber], waiting: &mut Waiting) {
         waiting.set(self.handler, false);
         self.begin(lines, self.handler, " reserves ");
         self.names().push_handlers(lines, handlers);
         self.end(lines, self.before.stand);
-        for other in 0..self.world.handler_count().min(u16::MAX as usize) {
-            let other = other as u16;
+        for other in 0..self.world.handler_count().min(HandlerNumber::MAX as usize) {
+            let other = other as HandlerNumber;
             if other != self.handler
                 && !waiting.is_told(other)
                 && self.needs_some(other, handlers)
@@ -98,7 +100,7 @@ impl<'o> Moment<'o> {
     }
 
     /// Whether a handler is to reserve one of these.
-    fn needs_some(&self, handler: u16, handlers: &[u16]) -> bool {
+    fn needs_some(&self, handler: HandlerNumber, handlers: &[HandlerNumber]) -> bool {
         let needed = self.world.core().needed_by(handler);
         for one in needed.as_slice() {
             if handlers.iter().any(|other| *other == *one) {
@@ -143,17 +145,18 @@ impl<'o> Moment<'o> {
     }
 
     /// Adds that a handler was created, if it was.
-    fn tell_creation(&self, lines: &mut Lines, class: u8) {
+    fn tell_creation(&self, lines: &mut Lines, class: ClassNumber) {
         let made = self.before.handlers;
-        if made < self.world.handler_count() && made <= u16::MAX as usize {
+        if made < self.world.handler_count() && made <= HandlerNumber::MAX as usize {
             self.begin(lines, self.handler, " creates ");
-            self.names().push_handler(lines, made as u16, Some(class));
+            self.names()
+                .push_handler(lines, made as HandlerNumber, Some(class));
             self.end(lines, self.asked_at())
         }
     }
 
     /// Adds which handlers one waits for that it is to reserve, if it can't have all of them now.
-    fn tell_wait(&self, lines: &mut Lines, handler: u16, waiting: &mut Waiting) {
+    fn tell_wait(&self, lines: &mut Lines, handler: HandlerNumber, waiting: &mut Waiting) {
         let core = self.world.core();
         let needed = core.needed_by(handler);
         let mut is_first = true;
@@ -189,7 +192,7 @@ impl<'o> Moment<'o> {
     }
 
     /// Begins a line: the turn, and of whom is told.
-    fn begin(&self, lines: &mut Lines, handler: u16, words: &str) {
+    fn begin(&self, lines: &mut Lines, handler: HandlerNumber, words: &str) {
         lines.push_number(self.turn);
         lines.push(" ");
         self.names().push_handler(lines, handler, None);
@@ -198,11 +201,8 @@ impl<'o> Moment<'o> {
 
     /// Ends a line, with the place of the text if there is one.
     fn end(&self, lines: &mut Lines, span: Option<Span>) {
-        if let Some(span) = span
-            && let Some(place) = self.origin.source.place_of(span.start)
-        {
-            lines.push(" at ");
-            push_place(lines, place)
+        if let Some(span) = span {
+            let _is_there = push_place(self.origin, lines, " at ", span);
         }
         lines.push("\n")
     }
@@ -216,7 +216,7 @@ impl<'o> Moment<'o> {
     }
 
     /// Where a handler stands now.
-    fn stand(&self, handler: u16) -> Option<Span> {
+    fn stand(&self, handler: HandlerNumber) -> Option<Span> {
         stand_in(self.origin, self.world, handler)
     }
 
@@ -261,7 +261,7 @@ fn is_behind(settlement: &Settlement, cause: Cause) -> bool {
 }
 
 /// By what a handler has failed, if it has.
-fn failure_in(world: &World<'_>, handler: u16) -> Option<Cause> {
+fn failure_in(world: &World<'_>, handler: HandlerNumber) -> Option<Cause> {
     match world.status(handler) {
         Some(Status::Failed(cause)) => Some(cause),
         _ => None,
@@ -269,12 +269,12 @@ fn failure_in(world: &World<'_>, handler: u16) -> Option<Cause> {
 }
 
 /// Where a handler stands, if a routine of it runs.
-fn stand_in(origin: &RunSource<'_>, world: &World<'_>, handler: u16) -> Option<Span> {
+fn stand_in(origin: &RunSource<'_>, world: &World<'_>, handler: HandlerNumber) -> Option<Span> {
     Some(stand_of(origin, world, handler)?.span)
 }
 
 /// Where the name of the routine stands that a handler has come to.
-fn routine_in(origin: &RunSource<'_>, world: &World<'_>, handler: u16) -> Option<Span> {
+fn routine_in(origin: &RunSource<'_>, world: &World<'_>, handler: HandlerNumber) -> Option<Span> {
     let top = world.region(handler)?.store().top()?;
     Some(origin.text_of(top.routine)?.name)
 }

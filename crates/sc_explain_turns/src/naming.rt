@@ -1,7 +1,9 @@
 //! How classes, handlers and features are named.
 
+use sc_code::ClassNumber;
 use sc_explain_text::{Lines, let_go, system_of};
 use sc_explain_waiting::RunSource;
+use sc_lockpass::HandlerNumber;
 use sc_region::{Errand, Request};
 use sc_text::Span;
 use sc_tree::Class;
@@ -40,7 +42,12 @@ pub struct Names<'o> {
 impl<'o> Names<'o> {
     /// Adds the class of the root object of a handler and the handler's number. One that has no object yet is named by the class
     /// of what is asked of it.
-    pub fn push_handler(&self, lines: &mut Lines, handler: u16, asked: Option<u8>) {
+    pub fn push_handler(
+        &self,
+        lines: &mut Lines,
+        handler: HandlerNumber,
+        asked: Option<ClassNumber>,
+    ) {
         let root = match self.world.region(handler) {
             Some(region) => region.store().class_of(1),
             None => None,
@@ -53,14 +60,14 @@ impl<'o> Names<'o> {
     }
 
     /// Adds handlers, one after the other.
-    pub fn push_handlers(&self, lines: &mut Lines, handlers: &[u16]) {
+    pub fn push_handlers(&self, lines: &mut Lines, handlers: &[HandlerNumber]) {
         for (place, handler) in handlers.iter().enumerate() {
             lines.push(if place == 0 { "" } else { " and " });
             self.push_handler(lines, *handler, None)
         }
     }
 
-    fn class_name(&self, class: Option<u8>) -> Option<&'o str> {
+    fn class_name(&self, class: Option<ClassNumber>) -> Option<&'o str> {
         let span = *self.classes.get(class? as usize)?;
         Some(self.origin.written(span))
     }

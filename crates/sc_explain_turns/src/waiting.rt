@@ -1,5 +1,6 @@
 //! Who was told to wait.
 
+use sc_lockpass::HandlerNumber;
 use std::alloc::{AllocError, Global};
 
 /// How many handlers there may be.
@@ -20,12 +21,12 @@ impl Waiting {
     }
 
     /// Whether it was told of a handler.
-    pub fn is_told(&self, handler: u16) -> bool {
+    pub fn is_told(&self, handler: HandlerNumber) -> bool {
         self.told.get(handler as usize).copied().unwrap_or(true)
     }
 
     /// It is told of a handler, or it has reserved what it was to.
-    pub fn set(&mut self, handler: u16, is_told: bool) {
+    pub fn set(&mut self, handler: HandlerNumber, is_told: bool) {
         if let Some(place) = self.told.get_mut(handler as usize) {
             *place = is_told;
         }

@@ -4,7 +4,7 @@ use crate::evaluation::{Evaluation, Seen, Start, Until, stored, version_in};
 use crate::naming::push_place;
 use crate::origin::RunSource;
 use crate::waits::standing_of;
-use sc_code::{FeatureCode, SiteKind};
+use sc_code::{FeatureCode, NameNumber, SiteKind};
 use sc_explain_text::Lines;
 use sc_lockpass::HandlerNumber;
 use sc_region::{Reference, Value};
@@ -126,10 +126,10 @@ impl<'r> RunSource<'r> {
     }
 
     /// The number of a name of the program.
-    fn number_of(&self, name: &str) -> Option<usize> {
+    fn number_of(&self, name: &str) -> Option<NameNumber> {
         for (number, other) in self.program.pool().names.iter().enumerate() {
             if other.as_str().eq_ignore_ascii_case(name) {
-                return Some(number);
+                return Some(number.min(NameNumber::MAX as usize) as NameNumber);
             }
         }
         None

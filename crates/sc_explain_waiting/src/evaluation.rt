@@ -342,7 +342,7 @@ impl<'r> Evaluation<'r> {
 /// What a feature of this name is in the class of an object.
 pub fn version_in(program: &Program, object: Reference, name: NameNumber) -> Option<FeatureCode> {
     let class = program.classes().get(object.class as usize)?;
-    *class.features.get(name)?
+    *class.features.get(name as usize)?
 }
 
 /// The attribute of this number that an object has in a world.

@@ -156,7 +156,7 @@ fn expect_report<R: Abort + AllocGlobal>(
 fn expect_reported<R: Abort>(
     rt: &R,
     world: &mut World<'_>,
-    handlers: &[u16],
+    handlers: &[HandlerNumber],
     report: &str,
 ) -> Result<(), Fail> {
     let (made, result) = world.turns_until(handlers);

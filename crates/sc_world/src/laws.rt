@@ -4,6 +4,7 @@ ghost use Rattle.sc_world.specs.Kept.{AttemptsStayOf, KeptAlikeAreAlike, Opening
 ghost use Rattle.sc_world.specs.Views.{world_of};
 
 use crate::world::World;
+use sc_lockpass::HandlerNumber;
 
 /// At the opening each handler serves in the core what its region serves.
 pub fn openings_are_linked()
@@ -33,7 +34,7 @@ pub fn stopped_rounds_stay_linked()
 /// In each world that there is, each object of a handler that is free, and so hasn't failed, meets its class invariant.
 ///
 /// What a store keeps is known where it stands, so the region is looked up. Nothing of it is tested.
-pub fn free_objects_meet(world: &World<'_>, handler: u16)
+pub fn free_objects_meet(world: &World<'_>, handler: HandlerNumber)
     ensures { FreeObjectsMeet handler (world_of world.now) }
 {
     if let Some(region) = world.regions.get(handler as usize) {
