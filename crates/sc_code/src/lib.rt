@@ -19,7 +19,8 @@ pub use numbers::{ClassNumber, NameNumber};
 pub use operation::{DefaultValue, Operation};
 pub use program::lookup::Program;
 pub use program::{
-    AttributeCode, ClassCode, ConstantPool, FeatureCode, Image, RoutineCode, RoutineText,
+    AttributeCode, ClassCode, ClassText, ClauseText, ConstantPool, FeatureCode, Image, RoutineCode,
+    RoutineText,
 };
 pub use site::{CallSite, CreationSite, Heads, ObjectTest, Residence, TestedType};
 pub use text_site::{Assertion, NameSpan, SiteKind, TextSite};

@@ -7,12 +7,11 @@ use crate::replay::Replay;
 use sc_audit::RecordLine;
 use sc_code::Program;
 use sc_explain::find;
-use sc_explain_text::{Lines, let_go, system_of};
+use sc_explain_text::Lines;
 use sc_explain_waiting::{RunSource, push_waits};
 use sc_lockpass::{HandlerNumber, Version};
 use sc_model::{Cause, Status};
 use sc_source::source::Source;
-use sc_tree::Class;
 use sc_world::{World, code_of};
 use std::alloc::{AllocError, Global};
 
@@ -54,23 +53,15 @@ pub fn run_note(
 /// That memory ran out.
 pub fn order_note(alloc: Global, played: Played<'_>) -> Result<Vec<u8>, AllocError> {
     let mut lines = Lines::new(alloc);
-    match system_of(alloc, played.source.text()) {
-        Ok(None) => push_note(alloc, &mut lines, &played, &[]),
-        Ok(Some(system)) => {
-            push_note(alloc, &mut lines, &played, &system.classes);
-            let_go(system)
-        }
-        Err(_) => lines.lack(),
-    }
+    push_note(alloc, &mut lines, &played);
     lines.finish()
 }
 
-/// Adds the same, where the text spells these classes and the run is played once more.
-fn push_note(alloc: Global, lines: &mut Lines, played: &Played<'_>, classes: &[Class]) {
+/// Adds the same, where the run is played once more.
+fn push_note(alloc: Global, lines: &mut Lines, played: &Played<'_>) {
     let origin = RunSource {
         alloc,
         source: played.source,
-        classes,
         program: played.program,
     };
     match Replay::open(alloc, played) {

@@ -47,7 +47,6 @@ impl Before {
 #[derive(Clone, Copy)]
 pub struct Moment<'o> {
     pub origin: &'o RunSource<'o>,
-    pub classes: &'o [Span],
     pub world: &'o World<'o>,
     pub handler: HandlerNumber,
     /// Which turn of the run it was, from 1.
@@ -210,7 +209,6 @@ impl<'o> Moment<'o> {
     fn names(&self) -> Names<'o> {
         Names {
             origin: self.origin,
-            classes: self.classes,
             world: self.world,
         }
     }

@@ -1,41 +1,16 @@
 //! How classes, handlers and features are named.
 
 use sc_code::ClassNumber;
-use sc_explain_text::{Lines, let_go, system_of};
+use sc_explain_text::Lines;
 use sc_explain_waiting::RunSource;
 use sc_lockpass::HandlerNumber;
 use sc_region::{Errand, Request};
-use sc_text::Span;
-use sc_tree::Class;
 use sc_world::World;
-use std::alloc::{AllocError, Global};
 
-/// Where the names of the classes of a text stand, by number.
-pub fn class_names(alloc: Global, text: &str) -> Result<Vec<Span>, AllocError> {
-    match system_of(alloc, text) {
-        Ok(Some(system)) => {
-            let names = names_of(alloc, &system.classes);
-            let_go(system);
-            names
-        }
-        Ok(None) => Ok(Vec::new(alloc)),
-        Err(error) => Err(error),
-    }
-}
-
-fn names_of(alloc: Global, classes: &[Class]) -> Result<Vec<Span>, AllocError> {
-    let mut names = Vec::new(alloc);
-    for class in classes {
-        names.push(class.name.span)?;
-    }
-    Ok(names)
-}
-
-/// Who is named: the classes of a text, and the world whose handlers have them.
+/// Who is named: what a run is of, and its world.
 #[derive(Clone, Copy)]
 pub struct Names<'o> {
     pub origin: &'o RunSource<'o>,
-    pub classes: &'o [Span],
     pub world: &'o World<'o>,
 }
 
@@ -68,8 +43,7 @@ impl<'o> Names<'o> {
     }
 
     fn class_name(&self, class: Option<ClassNumber>) -> Option<&'o str> {
-        let span = *self.classes.get(class? as usize)?;
-        Some(self.origin.written(span))
+        self.origin.class_name(class? as usize)
     }
 
     /// Adds the feature that a request asks for, or that it asks for a creation.

@@ -1,7 +1,6 @@
 //! A run that is told as it goes on.
 
 use crate::moment::{Before, Moment};
-use crate::naming::class_names;
 use crate::waiting::Waiting;
 use sc_audit::RecordLine;
 use sc_code::Program;
@@ -9,7 +8,6 @@ use sc_explain_text::Lines;
 use sc_explain_waiting::RunSource;
 use sc_lockpass::Version;
 use sc_source::source::Source;
-use sc_text::Span;
 use sc_world::{Turned, World};
 use std::alloc::{AllocError, Global};
 
@@ -27,8 +25,6 @@ pub enum Told {
 #[derive(Drop)]
 pub struct Tracer<'r> {
     origin: RunSource<'r>,
-    /// Where the names of the classes stand, by number.
-    classes: Vec<Span>,
     world: World<'r>,
     told: Told,
     waiting: Waiting,
@@ -51,12 +47,10 @@ impl<'r> Tracer<'r> {
         let origin = RunSource {
             alloc,
             source,
-            classes: &[],
             program,
         };
         Ok(Tracer {
             origin,
-            classes: class_names(alloc, source.text())?,
             world: World::open(alloc, program, version)?,
             told,
             waiting: Waiting::none(alloc)?,
@@ -78,7 +72,6 @@ impl<'r> Tracer<'r> {
             self.turns = self.turns.saturating_add(1);
             let moment = Moment {
                 origin: &self.origin,
-                classes: self.classes.as_slice(),
                 world: &self.world,
                 handler: line.handler,
                 turn: self.turns,

@@ -21,6 +21,6 @@ pub use naming::{
     Asked, Stand, asked_by, asked_feature, push_callers, push_feature, push_name, push_place,
     push_request, push_stand, stand_of,
 };
-pub use origin::{InvariantClause, RunSource};
+pub use origin::RunSource;
 pub use telling::push_waits;
 pub use waits::keeper_of;

@@ -2,6 +2,7 @@
 
 pub mod attributes;
 pub mod class_code;
+mod class_text;
 pub mod invariant;
 pub mod lowering;
 mod operators;

@@ -12,6 +12,7 @@ ghost use Rattle.sc_lower.specs.AttributeBindings.{binding_of, is_named};
 
 use sc_class::{ClassId, FeatureEntry, Tables};
 use sc_proctype::EntityType;
+use sc_text::Span;
 use sc_tree::{Feature, FeatureKind};
 use sc_typing::declared_type;
 use std::alloc::{AllocError, Global};
@@ -20,6 +21,8 @@ use std::alloc::{AllocError, Global};
 #[derive(Clone, Copy)]
 pub struct Attribute<'s> {
     pub name: &'s str,
+    /// Where its name stands.
+    pub span: Span,
     pub entity_type: EntityType,
 }
 
@@ -55,6 +58,7 @@ fn declared_attribute<'s>(tables: &Tables<'s>, feature: &'s Feature) -> Option<A
             None => None,
             Some(entity_type) => Some(Attribute {
                 name: feature.name.text.as_str(),
+                span: feature.name.span,
                 entity_type,
             }),
         },

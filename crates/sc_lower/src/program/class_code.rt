@@ -12,6 +12,7 @@ ghost use Rattle.sc_code.specs.Attributes.{known_formulas};
 ghost use Rattle.sc_code.specs.Programs.{attribute_in, class_in, class_code_of};
 
 use crate::program::attributes::{Attribute, attributes_of};
+use crate::program::class_text::class_text;
 use crate::program::invariant;
 use crate::program::versions::versions;
 use sc_class::{ClassId, Tables};
@@ -33,6 +34,7 @@ fn attribute_codes(
         codes.push(AttributeCode {
             default: DefaultValue::of(attribute.entity_type.class),
             is_attached: attribute.entity_type.attached,
+            name: attribute.span,
         })?;
     }
     Ok(codes)
@@ -95,6 +97,7 @@ fn class_code(
         features: versions(alloc, numbering, &attributes, class, names)?,
         conforms: conforms(alloc, tables, class)?,
         invariant: formulas(alloc, &attributes, &clauses)?,
+        text: class_text(alloc, tables, class, &clauses)?,
     })
 }
 

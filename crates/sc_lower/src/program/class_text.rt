@@ -1,0 +1,48 @@
+//! Where classes stand in the text, for what is told to people of their objects.
+
+use sc_class::Tables;
+use sc_code::{ClassText, ClauseText};
+use sc_text::Span;
+use sc_tree::Clause;
+use std::alloc::{AllocError, Global};
+
+/// Where a part is that isn't there.
+const NOWHERE: Span = Span { start: 0, end: 0 };
+
+/// Where the class at the number stands, whose joined invariant has these clauses.
+pub fn class_text(
+    alloc: Global,
+    tables: &Tables,
+    class: usize,
+    clauses: &[&Clause],
+) -> Result<ClassText, AllocError> {
+    let (span, name) = match tables.classes().get(class) {
+        Some(declared) => (declared.span, declared.name.span),
+        None => (NOWHERE, NOWHERE),
+    };
+    let mut invariant = Vec::with_capacity(alloc, clauses.len())?;
+    for clause in clauses {
+        invariant.push(clause_text(clause))?;
+    }
+    Ok(ClassText {
+        span,
+        name,
+        invariant,
+    })
+}
+
+/// Where a clause stands.
+fn clause_text(clause: &Clause) -> ClauseText {
+    let condition = clause.condition.span();
+    let tag = match &clause.tag {
+        Some(tag) => Some(tag.span),
+        None => None,
+    };
+    ClauseText {
+        span: Span {
+            start: tag.unwrap_or(condition).start,
+            end: condition.end,
+        },
+        tag,
+    }
+}
