@@ -83,7 +83,7 @@ scoop run --root A a.e
 scoop run a.e";
 
 /// A call ends with 2 and prints nothing.
-fn expect_usage<R: Abort + Threads + Wait + Sync + AllocGlobal>(
+fn expect_usage<R: Abort + Threads + Wait + Clock + Sync + AllocGlobal>(
     rt: &R,
     call: Call<'_>,
 ) -> Result<(), Fail> {
