@@ -29,7 +29,7 @@ use Rattle.sc_rules.specs.TextRules.{void_use, no_result, in_call, operand, oper
 use Rattle.sc_rules.specs.Judging.{◌>>=◌, required, judge_target, JudgedActual, judged_types, formals_of, target_of, judge_use, judge_name, judge_actuals_and_name, judge_called, judge_operation, judge_result, judge, judge_receiver, judged_actuals, judge_given}
 use Rattle.sc_rules.proofs.Refusals.{Gave, gave, refuses, gave_then, gave_more, gave_map, gave_if, gave_required}
 use Rattle.sc_rules.proofs.Complete.{types_ok}
-use Rattle.sc_rules.proofs.ToldActuals.{ActualsFail, ActualsFit, AllTold, TargetFails, Told, here, in_target, old_fails, operated_told, target_told, told_actuals, told_more, told_none, told_tested, up}
+use Rattle.sc_rules.proofs.ToldActuals.{ActualsFail, ActualsFit, AllTold, TargetFails, Told, here, in_target, old_fails, operated_told, target_told, told_actuals, told_more, told_none, told_tested, up, in_actual, at_target, mismatch, passed_reference}
 
 -- ---- the name
 
