@@ -37,7 +37,7 @@ use Rattle.sc_model.specs.Instructions.{actuals_of}
 use Rattle.sc_model.specs.Sizes.{expr_size, exprs_size, clauses_size, heads_size, creation_size, task_size, size}
 
 -- what a step leaves is smaller, unless it is visible
-pub Smaller : ℕ → Step → Type 0
+unfoldable pub Smaller : ℕ → Step → Type 0
 Smaller n (Goes p) = size p.tasks < n
 Smaller n (Does a p) = Unit {0}
 
