@@ -1,4 +1,3 @@
-pub mod ExecutionLemmas
 pub mod ReplayLemmas
 pub mod Threads
 mod Rows

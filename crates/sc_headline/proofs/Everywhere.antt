@@ -11,7 +11,7 @@ use Rattle.sc_world.specs.Kept.{AttemptsStayOf, IsOf, OpeningsAreOf}
 use Rattle.sc_world.specs.Turning.{Attempts, IsTried}
 use Rattle.sc_world.specs.Worlds.{PlainWorld, opened}
 use Rattle.sc_refines_world.specs.Refining.{AttemptsHaveHeadline, HasHeadline}
-use Rattle.sc_driver.specs.Execution.{IsLoaded}
+use Rattle.sc_frontend.specs.Texts.{IsLoaded}
 use Rattle.sc_headline.specs.Everywhere.{HasHeadlineAnyhow, RunsProgram, StandsNearReached}
 
 module _ (law : AttemptsHaveHeadline) (open_of : OpeningsAreOf) (stay : AttemptsStayOf) (text : List ℕ) (root : Root) (program : Image) (w : PlainWorld) (loaded : IsLoaded text root program)

@@ -13,7 +13,7 @@ use Rattle.sc_auditing.specs.Audits.{DiffersAt, IsAudited, LeadsTo, TellsWhy, tu
 use Rattle.sc_auditing.specs.Laws.{MisfitsAreNoRecord, OneMisfit, RunsAuditYes}
 use Rattle.sc_auditing.specs.Misfits.{IsFirstMisfit}
 use Rattle.sc_auditing.specs.Same.{FirstDiffers, IsSame}
-use Rattle.sc_driver.specs.Execution.{IsLoaded}
+use Rattle.sc_frontend.specs.Texts.{IsLoaded}
 use Rattle.sc_refines_world.specs.Functional.{RunsAreFunctional}
 use Rattle.sc_headline.specs.Exactly.{AuditsAreExact, EndsApart, EndsInLeft, IsAnswer, IsExact, OneWorld, RunsAreAnsweredYes}
 

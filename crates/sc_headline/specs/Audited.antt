@@ -4,7 +4,7 @@ use Rattle.sc_class.specs.ClassNames.{Root}
 use Rattle.sc_code.specs.declared.program.Image.{Image}
 use Rattle.sc_plant.specs.declared.left.Left.{Left}
 use Rattle.sc_auditing.specs.Audits.{IsAudited}
-use Rattle.sc_driver.specs.Execution.{IsLoaded}
+use Rattle.sc_frontend.specs.Texts.{IsLoaded}
 use Rattle.sc_headline.specs.Headline.{StandsForReached}
 
 -- The turns of the record lead to a world that has the same of each handler as what is left. That world stands for a

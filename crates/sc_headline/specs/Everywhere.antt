@@ -9,7 +9,7 @@ use Rattle.sc_play.specs.Regions.{PlainRegion}
 use Rattle.sc_world.specs.Worlds.{PlainWorld}
 use Rattle.sc_refines_world.specs.Refining.{HasHeadline}
 use Rattle.sc_refines_world.specs.Standing.{StandsNear}
-use Rattle.sc_driver.specs.Execution.{IsLoaded, IsRead, IsSound}
+use Rattle.sc_frontend.specs.Texts.{IsLoaded, IsRead, IsSound}
 
 -- The text spells a system that is sound. The world is near a state that the machine on this system reaches, and of
 -- that state the headline holds.

@@ -13,7 +13,7 @@ use Rattle.sc_auditing.specs.declared.auditing.AuditFault.TheVariants.{BadRecord
 use Rattle.sc_auditing.specs.Audits.{IsAudited, LeadsTo, TellsWhy}
 use Rattle.sc_auditing.specs.Misfits.{IsFirstMisfit}
 use Rattle.sc_auditing.specs.Same.{FirstDiffers, IsSame}
-use Rattle.sc_driver.specs.Execution.{IsLoaded}
+use Rattle.sc_frontend.specs.Texts.{IsLoaded}
 
 -- From the opening of a text's program, turns of the same handlers in the same order lead to one world.
 abbrev pub OneWorld : Type 0

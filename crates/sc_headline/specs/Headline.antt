@@ -18,7 +18,8 @@ use Rattle.sc_world.specs.Turning.{Runs}
 use Rattle.sc_world.specs.Worlds.{PlainWorld, opened}
 use Rattle.sc_refines_world.specs.Refining.{HasHeadline}
 use Rattle.sc_refines_world.specs.Standing.{StandsFor}
-use Rattle.sc_driver.specs.Execution.{IsLoaded, IsRead, IsReplay, IsRunOf, IsSound, line_turns}
+use Rattle.sc_frontend.specs.Texts.{IsLoaded, IsRead, IsSound}
+use Rattle.sc_driver.specs.Execution.{IsReplay, IsRunOf, line_turns}
 
 -- ---- the machine
 

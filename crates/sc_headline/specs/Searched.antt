@@ -10,7 +10,7 @@ use Rattle.sc_model.specs.Handlers.{World}
 use Rattle.sc_model.specs.Reports as machine
 use Rattle.sc_code.specs.declared.program.Image.{Image}
 use Rattle.sc_world.specs.Kept.{PlainKept}
-use Rattle.sc_driver.specs.Execution.{IsLoaded, IsRead, IsSound}
+use Rattle.sc_frontend.specs.Texts.{IsLoaded, IsRead, IsSound}
 use Rattle.sc_search.specs.declared.aims.Aim.{Aim}
 use Rattle.sc_search.specs.Aims.{AreStuck, IsMet}
 use Rattle.sc_search.specs.Closed.{IsClosed}

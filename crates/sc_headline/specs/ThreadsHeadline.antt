@@ -13,7 +13,7 @@ use Rattle.sc_plant.specs.declared.left.Left.{Left}
 use Rattle.sc_plant.specs.Left.{IsRun, world_of}
 use Rattle.sc_plant.specs.OneThread.{EndsIn}
 use Rattle.sc_plant.specs.Recorded.{turns_of}
-use Rattle.sc_driver.specs.Execution.{IsLoaded}
+use Rattle.sc_frontend.specs.Texts.{IsLoaded}
 use Rattle.sc_headline.specs.Headline.{HaveTurns, IsMachineRun, StandsForReached}
 
 -- One thread that makes the turns of the record's lines, from the opening of the program, ends in a world with just the

@@ -13,12 +13,12 @@ use Rattle.sc_audit.specs.Reading.{IsReadFault}
 use Rattle.sc_audit.specs.Records.{IsRecordText}
 use Rattle.sc_class.specs.ClassNames.{Root}
 use Rattle.sc_code.specs.declared.program.Image.{Image}
-use Rattle.sc_driver.specs.Execution.{IsLoaded, IsNotRunFor}
+use Rattle.sc_frontend.specs.Texts.{IsLoaded, IsNotRunFor}
 use Rattle.sc_serve.specs.declared.serve.Answer.{Answer}
 use Rattle.sc_serve.specs.declared.serve.Fault.{Fault}
 use Rattle.sc_serve.specs.declared.serve.Fault.TheVariants as fault
-use Rattle.sc_driver.specs.declared.rejection.Rejection.{Rejection}
-use Rattle.sc_driver.specs.declared.rejection.Rejection.TheVariants as rejection
+use Rattle.sc_frontend.specs.declared.rejection.Rejection.{Rejection}
+use Rattle.sc_frontend.specs.declared.rejection.Rejection.TheVariants as rejection
 use Rattle.sc_arguments.specs.declared.arguments.Command.{Command}
 use Rattle.sc_arguments.specs.declared.arguments.RunOptions.{RunOptions}
 use Rattle.sc_class.specs.View.{root_of}

@@ -3,8 +3,8 @@ use Rattle.std.proofs.Common.{◌≡◌, inl, inr, ℕ, List, Option, None, Resu
 use Rattle.sc_arguments.specs.declared.arguments.searching.SearchOptions.{SearchOptions}
 use Rattle.sc_class.specs.View.{root_of}
 use Rattle.sc_code.specs.declared.program.Image.{Image}
-use Rattle.sc_driver.specs.Execution.{IsLoaded, IsNotRunFor}
-use Rattle.sc_driver.specs.declared.rejection.Rejection.{Rejection}
+use Rattle.sc_frontend.specs.Texts.{IsLoaded, IsNotRunFor}
+use Rattle.sc_frontend.specs.declared.rejection.Rejection.{Rejection}
 use Rattle.sc_serve.specs.Answer.{IsRefusalOf, IsSourceOf, TellsTooLong}
 use Rattle.sc_serve.specs.Search.{IsSearchOf, IsSearchOn}
 use Rattle.sc_serve.specs.declared.serve.Answer.{Answer}

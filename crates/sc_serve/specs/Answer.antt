@@ -21,7 +21,8 @@ use Rattle.sc_serve.specs.declared.serve.Fault.TheVariants as fault
 use Rattle.sc_arguments.specs.declared.arguments.Command.{Command}
 use Rattle.sc_arguments.specs.declared.arguments.Command.TheVariants as command
 use Rattle.sc_arguments.specs.declared.arguments.RunOptions.{RunOptions}
-use Rattle.sc_driver.specs.Execution.{IsAccepted, IsLoaded, IsNotRunFor, IsPrinted, IsRefusedFor, IsReplay, IsRunOf, IsThreadRun, IsUnreadable}
+use Rattle.sc_frontend.specs.Texts.{IsAccepted, IsLoaded, IsNotRunFor, IsPrinted, IsRefusedFor, IsUnreadable}
+use Rattle.sc_driver.specs.Execution.{IsReplay, IsRunOf, IsThreadRun}
 use Rattle.sc_plant.specs.declared.left.Left.{Left}
 use Rattle.sc_plant.specs.declared.bounds.Bounds.{Bounds}
 use Rattle.sc_plant.specs.Bounded.{IsBoundedRun}
@@ -30,8 +31,8 @@ use Rattle.sc_auditing.specs.declared.auditing.AuditFault.TheVariants as auditin
 use Rattle.sc_auditing.specs.Audits.{IsAudited, TellsWhy}
 use Rattle.sc_class.specs.ClassNames.{Root}
 use Rattle.sc_class.specs.View.{root_of}
-use Rattle.sc_driver.specs.declared.rejection.Rejection.{Rejection}
-use Rattle.sc_driver.specs.declared.rejection.Rejection.TheVariants as rejection
+use Rattle.sc_frontend.specs.declared.rejection.Rejection.{Rejection}
+use Rattle.sc_frontend.specs.declared.rejection.Rejection.TheVariants as rejection
 use Rattle.sc_serve.specs.Refusal.{refusal_line, told, too_long_line}
 use Rattle.sc_source.specs.Source.{File, joined, line_feed, names_of, place_at}
 use Rattle.sc_source.specs.Joining.{AreJoined, AreTold, FailsForGood, IsForGood, IsJoinFault, no_memory, source_text}

@@ -11,8 +11,8 @@ use Rattle.sc_rules.specs.declared.fault.Fault.{Fault}
 use Rattle.sc_rules.specs.RuleText as rules
 use Rattle.sc_refusals.specs.RefusalText.{code_of, name_of}
 use Rattle.sc_serve.specs.declared.refusal.Refusal.{Refusal}
-use Rattle.sc_driver.specs.declared.rejection.Rejection.{Rejection}
-use Rattle.sc_driver.specs.declared.rejection.Rejection.TheVariants as rejection
+use Rattle.sc_frontend.specs.declared.rejection.Rejection.{Rejection}
+use Rattle.sc_frontend.specs.declared.rejection.Rejection.TheVariants as rejection
 use Rattle.sc_source.specs.Source.{Place, line_feed}
 
 -- ` FILE:LINE:COLUMN`, or nothing where there is no place

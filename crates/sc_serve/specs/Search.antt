@@ -7,8 +7,8 @@ use Rattle.sc_audit.specs.Records.{turns_of}
 use Rattle.sc_class.specs.View.{root_of}
 use Rattle.sc_class.specs.ClassNames.{Root}
 use Rattle.sc_code.specs.declared.program.Image.{Image}
-use Rattle.sc_driver.specs.Execution.{IsLoaded, IsNotRunFor}
-use Rattle.sc_driver.specs.declared.rejection.Rejection.{Rejection}
+use Rattle.sc_frontend.specs.Texts.{IsLoaded, IsNotRunFor}
+use Rattle.sc_frontend.specs.declared.rejection.Rejection.{Rejection}
 use Rattle.sc_search.specs.declared.aims.Aim.{Aim}
 use Rattle.sc_search.specs.declared.aims.Aim.TheVariants as aim
 use Rattle.sc_search.specs.declared.verdict.Finding.{Finding}

@@ -2,8 +2,8 @@
 //! canonical text that the arguments of a command line ask for.
 //!
 //! [`serve::serve`] is one call of the program, over files and writers of its caller's. What it answers for a source text
-//! is that of [`sc_driver`], whose contracts go from the bytes of the text to the state of the run; a refusal is told in
-//! one line.
+//! is that of [`sc_frontend`] and [`sc_driver`], whose contracts go from the bytes of the text to the state of the run; a
+//! refusal is told in one line.
 #![tactic(auto)]
 
 mod delivery;

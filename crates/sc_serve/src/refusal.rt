@@ -7,7 +7,7 @@ ghost use Rattle.sc_source.specs.Source.{place_at};
 ghost use Rattle.sc_serve.specs.Refusal as spec;
 
 use sc_class::ClassFault;
-use sc_driver::Rejection;
+use sc_frontend::Rejection;
 use sc_parse::ParseFault;
 use sc_refusals::RefusalCode;
 use sc_rules::Fault;

@@ -23,12 +23,13 @@ use sc_arguments::{
 use sc_audit::{ReadFault, Record, RecordLine, read_record};
 use sc_class::Root;
 use sc_code::Program;
-use sc_driver::{Rejection, check_text, load_text, print_text, replay};
+use sc_driver::replay;
 use sc_excerpt::excerpt;
 use sc_explain::{find, list};
 use sc_explain_failure::{Limit, Played, run_note};
 use sc_explain_refusal::{Related, diagnose};
 use sc_explain_text::{Lines, left_out};
+use sc_frontend::{Rejection, check_text, load_text, print_text};
 use sc_model::Status;
 use sc_search::Watch;
 use sc_source::files::{Files, NamedFile, read_source};

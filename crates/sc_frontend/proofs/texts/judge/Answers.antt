@@ -3,9 +3,9 @@ use Rattle.sc_tree.specs.View.{system_of}
 use Rattle.sc_class.specs.View.{root_of}
 use Rattle.sc_rules.specs.SystemRules.{WellFormed}
 use Rattle.sc_class.specs.SystemIn.{root_in, system_in}
-use Rattle.sc_driver.specs.Execution.{IsAtFault}
-use Rattle.sc_driver.proofs.ExecutionLemmas.{err-is, class-fault, check-fault}
-use Rattle.sc_driver.proofs.execution.judge.Goals as goal
+use Rattle.sc_frontend.specs.Texts.{IsAtFault}
+use Rattle.sc_frontend.proofs.TextLemmas.{err-is, class-fault, check-fault}
+use Rattle.sc_frontend.proofs.texts.judge.Goals as goal
 
 pub returns-in_err-classes-clause-fault : goal.returns-in_err-classes-clause-fault
 returns-in_err-classes-clause-fault c =

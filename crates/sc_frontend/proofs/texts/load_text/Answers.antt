@@ -1,9 +1,9 @@
 use Rattle.std.proofs.Common.{◌≡◌}
 use Rattle.sc_tree.specs.View.{system_of}
 use Rattle.sc_class.specs.View.{root_of}
-use Rattle.sc_driver.specs.Rejection.{out_of_memory}
-use Rattle.sc_driver.proofs.ExecutionLemmas.{err-is, sound-in_memory}
-use Rattle.sc_driver.proofs.execution.load_text.Goals as goal
+use Rattle.sc_frontend.specs.Rejection.{out_of_memory}
+use Rattle.sc_frontend.proofs.TextLemmas.{err-is, sound-in_memory}
+use Rattle.sc_frontend.proofs.texts.load_text.Goals as goal
 
 pub returns-in_err-system-clause-complete : goal.returns-in_err-system-clause-complete
 returns-in_err-system-clause-complete c = λ must.

@@ -1,10 +1,10 @@
 use Rattle.std.proofs.Common.{◌≡◌}
 use Rattle.sc_tree.specs.View.{system_of}
 use Rattle.sc_class.specs.View.{root_of}
-use Rattle.sc_driver.specs.Execution.{IsRefusedFor}
-use Rattle.sc_driver.specs.Rejection.{out_of_memory}
-use Rattle.sc_driver.proofs.ExecutionLemmas.{err-is, unreadable-refused, fault-refused, sound-in_memory}
-use Rattle.sc_driver.proofs.execution.check_text.Goals as goal
+use Rattle.sc_frontend.specs.Texts.{IsRefusedFor}
+use Rattle.sc_frontend.specs.Rejection.{out_of_memory}
+use Rattle.sc_frontend.proofs.TextLemmas.{err-is, unreadable-refused, fault-refused, sound-in_memory}
+use Rattle.sc_frontend.proofs.texts.check_text.Goals as goal
 
 pub returns-in_err-system-clause-refused : goal.returns-in_err-system-clause-refused
 returns-in_err-system-clause-refused c =

@@ -2,10 +2,10 @@ use Rattle.std.proofs.Common.{◌∙◌, ap, sym}
 use Rattle.sc_tree.specs.Bare.{bare_system}
 use Rattle.sc_tree.specs.View.{system_of}
 use Rattle.sc_tree.specs.Canonical.{canonical_text}
-use Rattle.sc_driver.specs.Execution.{IsUnreadable}
-use Rattle.sc_driver.specs.Rejection.{out_of_memory}
-use Rattle.sc_driver.proofs.ExecutionLemmas.{canonical-bare, read-spelled, err-is, only-err-is}
-use Rattle.sc_driver.proofs.execution.print_text.Goals as goal
+use Rattle.sc_frontend.specs.Texts.{IsUnreadable}
+use Rattle.sc_frontend.specs.Rejection.{out_of_memory}
+use Rattle.sc_frontend.proofs.TextLemmas.{canonical-bare, read-spelled, err-is, only-err-is}
+use Rattle.sc_frontend.proofs.texts.print_text.Goals as goal
 
 pub returns-in_err-system-clause-refused : goal.returns-in_err-system-clause-refused
 returns-in_err-system-clause-refused c = err-is (IsUnreadable c.args.text.now) c.from_residual.result _ c.from_residual.ensures.1 c.in_err-system.ensures.refused

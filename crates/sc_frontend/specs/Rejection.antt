@@ -9,8 +9,8 @@ use Rattle.sc_typing.specs.declared.fault.CheckFault.{CheckFault}
 use Rattle.sc_typing.specs.declared.fault.CheckFault.TheVariants as checking
 use Rattle.sc_lower.specs.declared.program.lowering.Lowering.{Lowering}
 use Rattle.sc_lower.specs.declared.program.lowering.Lowering.TheVariants as lowering
-use Rattle.sc_driver.specs.declared.rejection.Rejection.{Rejection}
-use Rattle.sc_driver.specs.declared.rejection.Rejection.TheVariants as rejection
+use Rattle.sc_frontend.specs.declared.rejection.Rejection.{Rejection}
+use Rattle.sc_frontend.specs.declared.rejection.Rejection.TheVariants as rejection
 
 abbrev pub out_of_memory : Rejection
 out_of_memory = rejection.OutOfMemory

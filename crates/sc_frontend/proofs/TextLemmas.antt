@@ -27,11 +27,11 @@ use Rattle.sc_code.specs.Programs.{code_length}
 use Rattle.sc_lower.specs.declared.program.lowering.Lowering.{Lowering}
 use Rattle.sc_lower.specs.declared.program.lowering.Lowering.TheVariants as lowering
 use Rattle.sc_lower.specs.Lowerings.{HandsBack}
-use Rattle.sc_driver.specs.declared.rejection.Rejection.{Rejection}
-use Rattle.sc_driver.specs.declared.rejection.Rejection.TheVariants as rejection
-use Rattle.sc_driver.specs.Rejection.{of_code, of_tokens, of_classes, of_system}
+use Rattle.sc_frontend.specs.declared.rejection.Rejection.{Rejection}
+use Rattle.sc_frontend.specs.declared.rejection.Rejection.TheVariants as rejection
+use Rattle.sc_frontend.specs.Rejection.{of_code, of_tokens, of_classes, of_system}
 use Rattle.sc_parse.specs.Places.{IsPlaced}
-use Rattle.sc_driver.specs.Execution.{kinds, IsSpelled, IsRead, IsSound, IsAtFault, IsRefusedFor, IsRunnable, IsNotRunFor, IsUnreadable}
+use Rattle.sc_frontend.specs.Texts.{kinds, IsSpelled, IsRead, IsSound, IsAtFault, IsRefusedFor, IsRunnable, IsNotRunFor, IsUnreadable}
 
 -- the kinds of tokens, with their places or without
 pub kinds-lexemes_of : (ts : List Token) → kinds (lexemes_of ts) ≡ kinds_of ts

@@ -1,9 +1,9 @@
 use Rattle.std.proofs.Common.{ap}
 use Rattle.sc_tree.specs.View.{system_of}
-use Rattle.sc_driver.specs.Execution.{IsUnreadable}
-use Rattle.sc_driver.specs.Rejection.{of_tokens, out_of_memory}
-use Rattle.sc_driver.proofs.ExecutionLemmas.{system-read, tokens-refused, tree-found, err-is, only-err-is}
-use Rattle.sc_driver.proofs.execution.read.Goals as goal
+use Rattle.sc_frontend.specs.Texts.{IsUnreadable}
+use Rattle.sc_frontend.specs.Rejection.{of_tokens, out_of_memory}
+use Rattle.sc_frontend.proofs.TextLemmas.{system-read, tokens-refused, tree-found, err-is, only-err-is}
+use Rattle.sc_frontend.proofs.texts.read.Goals as goal
 
 pub returns-in_err-parse-clause-refused : goal.returns-in_err-parse-clause-refused
 returns-in_err-parse-clause-refused c =

@@ -1,7 +1,7 @@
 //! Why nothing is made of a source text.
 
 ghost use Rattle.std.specs.Prelude.{◌≡◌};
-ghost use Rattle.sc_driver.specs.Rejection as spec;
+ghost use Rattle.sc_frontend.specs.Rejection as spec;
 
 use sc_check::CheckFault;
 use sc_class::ClassFault;

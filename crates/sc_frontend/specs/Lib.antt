@@ -1,0 +1,2 @@
+pub mod Rejection
+pub mod Texts

@@ -1,0 +1,77 @@
+//! What is made of a source text: its check, its program and its canonical text.
+
+ghost use Rattle.std.specs.Prelude.{◌≡◌, IfErr, IfOk, IsOk, MatchResult, OnOk};
+ghost use Rattle.sc_tree.specs.Bare.{bare_system};
+ghost use Rattle.sc_tree.specs.Plain as plain;
+ghost use Rattle.sc_tree.specs.View.{system_of};
+ghost use Rattle.sc_tree.specs.Canonical.{canonical_text};
+ghost use Rattle.sc_class.specs.View.{root_of};
+ghost use Rattle.sc_class.specs.SystemIn.{root_in, system_in};
+ghost use Rattle.sc_check.specs.CheckedTables.{tables_of};
+ghost use Rattle.sc_lower.specs.Lowerings.{image_of};
+ghost use Rattle.sc_frontend.specs.Texts.{IsAccepted, IsAtFault, IsLoaded, IsNotRunFor, IsPrinted, IsRead, IsRefusedFor, IsSound, IsSpelled, IsUnreadable, MustBeAccepted, MustBeRun};
+
+use crate::rejection::Rejection;
+use sc_check::{Checked, check};
+use sc_class::{Root, tables};
+use sc_code::Program;
+use sc_lower::lower;
+use sc_parse::parse;
+use sc_text::lex;
+use sc_tree::{System, print_system};
+use std::alloc::Global;
+
+/// Checks the system of a source text.
+pub fn check_text(alloc: Global, text: &str, root: &Root) -> Result<(), Rejection>
+    ensures accepted { IsOk result → IsAccepted text.now (root_of root.now) }
+    ensures refused { IfErr result (IsRefusedFor text.now (root_of root.now)) }
+    ensures complete { MustBeAccepted text.now (root_of root.now) → IfErr result (λ e. e ≡ Rejection.OutOfMemory) }
+{
+    let system = read(alloc, text)?;
+    judge(alloc, &system, root)?;
+    Ok(())
+}
+
+/// Checks the system of a source text: its program.
+pub fn load_text(alloc: Global, text: &str, root: &Root) -> Result<Program, Rejection>
+    ensures loaded { IfOk result (λ program. IsLoaded text.now (root_of root.now) (image_of program)) }
+    ensures refused { IfErr result (IsNotRunFor text.now (root_of root.now)) }
+    ensures complete { MustBeRun text.now (root_of root.now) → IfErr result (λ e. e ≡ Rejection.OutOfMemory) }
+{
+    let system = read(alloc, text)?;
+    let checked = judge(alloc, &system, root)?;
+    Ok(lower(alloc, checked)?)
+}
+
+/// The canonical text of the system of a source text, which isn't checked.
+pub fn print_text(alloc: Global, text: &str) -> Result<Vec<u8>, Rejection>
+    ensures printed { IfOk result (λ output. IsPrinted text.now output.items) }
+    ensures refused { IfErr result (IsUnreadable text.now) }
+    ensures complete { (tree : plain.System) → IsSpelled text.now tree
+        → MatchResult result (λ output. output.items ≡ canonical_text tree) (λ e. e ≡ Rejection.OutOfMemory) }
+{
+    let system = read(alloc, text)?;
+    Ok(print_system(alloc, &system)?)
+}
+
+/// The system of a source text.
+fn read(alloc: Global, text: &str) -> Result<System, Rejection>
+    ensures read { IfOk result (λ system. IsRead text.now (system_of system)) }
+    ensures refused { IfErr result (IsUnreadable text.now) }
+    ensures found { (tree : plain.System) → IsSpelled text.now tree
+        → MatchResult result (λ system. bare_system (system_of system) ≡ tree) (λ e. e ≡ Rejection.OutOfMemory) }
+{
+    let tokens = lex(alloc, text)?;
+    Ok(parse(alloc, tokens.as_slice())?)
+}
+
+/// The system, where it is sound; else what is at fault: its classes first, then what stands in a class.
+fn judge<'s>(alloc: Global, system: &'s System, root: &Root) -> Result<Checked<'s>, Rejection>
+    ensures sound { OnOk result (IsSound (system_of system.now) (root_of root.now)) }
+    ensures of_it { IfOk result (λ checked. system_in (tables_of checked) ≡ system_of system.now) }
+    ensures rooted { IfOk result (λ checked. root_in (tables_of checked) ≡ root_of root.now) }
+    ensures fault { IfErr result (IsAtFault (system_of system.now) (root_of root.now)) }
+{
+    let classes = tables(alloc, system, root)?;
+    Ok(check(alloc, classes)?)
+}
