@@ -61,11 +61,9 @@ impl<'s> Scope<'s> {
             "help: use a local: declare `",
             local,
             "` under `local`, and begin with `",
-            local,
-            " := ",
-            name,
-            "`\n",
-        ])
+        ]);
+        lines.push_all(&[local, " := "]);
+        lines.push_all(&[name, "`\n"])
     }
 
     /// Adds a name that is known there and near to this one, or what is written in place of what it shows.
@@ -204,8 +202,9 @@ impl<'s> Scope<'s> {
     fn push_question_and_block(&self, lines: &mut Lines, name: &str) {
         let before = "help: ask first, and reserve it: `if attached ";
         self.push_named(lines, before, name);
+        lines.push_all(&[" then separate ", name, " as "]);
         let other = fresh_name(self.text, 1);
-        lines.push_all(&[" then separate ", name, " as ", other, " do .. end end`\n"])
+        lines.push_all(&[other, " do .. end end`\n"])
     }
 
     /// How it is asked there whether what has this tag is Void.
