@@ -137,8 +137,8 @@ fn push_at_once(origin: &RunSource<'_>, lines: &mut Lines, asked: &Asked, cause:
         && let Some(class) = origin.class_around(name)
         && begin_place(origin, lines, name)
     {
-        let of = class_name(origin, class);
-        lines.push_all(&["`", origin.written(name), "` of ", of, " is read"]);
+        lines.push_all(&["`", origin.written(name), "` of "]);
+        lines.push_all(&[class_name(origin, class), " is read"]);
         end_place(origin, lines, name)
     }
 }

@@ -8,8 +8,8 @@ use sc_tree::UnaryOperator;
 
 /// Adds the name of a routine and that of the class in which it stands.
 pub fn push_routine(origin: &RunSource<'_>, lines: &mut Lines, text: &RoutineText) {
-    let class = class_name(origin, text.class);
-    lines.push_all(&["in `", origin.written(text.name), "` of ", class, ", "])
+    lines.push_all(&["in `", origin.written(text.name), "` of "]);
+    lines.push_all(&[class_name(origin, text.class), ", "])
 }
 
 /// Adds what stands at a place of a routine where a handler failed by this cause.

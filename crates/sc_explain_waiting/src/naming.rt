@@ -170,7 +170,8 @@ pub fn push_place(origin: &RunSource<'_>, lines: &mut Lines, before: &str, part:
     let Some(Place { file, line, column }) = origin.source.place_of(part.start) else {
         return false;
     };
-    lines.push_all(&[before, file, ":"]);
+    lines.push(before);
+    lines.push_all(&[file, ":"]);
     lines.push_number(line as u64);
     lines.push(":");
     lines.push_number(column as u64);
