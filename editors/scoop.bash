@@ -2,11 +2,17 @@
 _scoop() {
     local word=${COMP_WORDS[COMP_CWORD]} before=${COMP_WORDS[COMP_CWORD - 1]} command=${COMP_WORDS[1]}
     COMPREPLY=()
+    # (bash takes `--trace=print` for three words)
+    if [ "$word" = = ]; then
+        word= before+==
+    elif [ "$before" = = ]; then
+        before=${COMP_WORDS[COMP_CWORD - 2]}=
+    fi
     if [ "$COMP_CWORD" = 1 ]; then
         mapfile -t COMPREPLY < <(compgen -W 'check run replay search print explain help --help --version' -- "$word")
         return
     fi
-    case $before in
+    case ${before%=} in
     --root | --turns | --output-limit | --workers | --states) return ;;
     --for)
         mapfile -t COMPREPLY < <(compgen -W 'stuck fails any' -- "$word")
@@ -15,6 +21,12 @@ _scoop() {
     --format)
         mapfile -t COMPREPLY < <(compgen -W 'text json' -- "$word")
         return
+        ;;
+    --trace)
+        if [ "$before" = --trace= ]; then
+            mapfile -t COMPREPLY < <(compgen -W 'all print' -- "$word")
+            return
+        fi
         ;;
     --record)
         mapfile -t COMPREPLY < <(compgen -f -- "$word")
@@ -27,7 +39,8 @@ _scoop() {
     replay:-*) mapfile -t COMPREPLY < <(compgen -W '--trace --trace=print --root --explain --no-explain --format --help' -- "$word") ;;
     search:-*) mapfile -t COMPREPLY < <(compgen -W '--for --states --record --outcomes --explain --no-explain --format --root --help' -- "$word") ;;
     print:-* | explain:-*) mapfile -t COMPREPLY < <(compgen -W '--help' -- "$word") ;;
-    explain:*) mapfile -t COMPREPLY < <(compgen -W "$("${COMP_WORDS[0]}" explain 2>/dev/null)" -- "$word") ;;
+    # (where the program would have to be built first, nobody waits for it)
+    explain:*) mapfile -t COMPREPLY < <(compgen -W "$(timeout 2 "${COMP_WORDS[0]}" explain 2>/dev/null)" -- "$word") ;;
     help:*) mapfile -t COMPREPLY < <(compgen -W 'check run replay search print explain' -- "$word") ;;
     replay:*) mapfile -t COMPREPLY < <(compgen -f -- "$word") ;;
     *) mapfile -t COMPREPLY < <(compgen -f -X '!*.e' -- "$word"; compgen -d -- "$word") ;;
