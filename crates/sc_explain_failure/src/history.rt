@@ -111,6 +111,19 @@ pub fn last_before(log: &Log, handler: HandlerNumber, end: usize) -> Option<usiz
     None
 }
 
+/// The place of the last turn of a handler in front of a place by which it has refused a request that is waited for.
+pub fn refused_before(log: &Log, handler: HandlerNumber, end: usize) -> Option<usize> {
+    for place in (0..end).rev() {
+        if log.handler_at(place) == Some(handler)
+            && let Ended::Done { is_refused: true } = turn_at(log, place)?.ended
+        {
+            let served = served_before(log, handler, place)?;
+            return if served.is_waited { Some(place) } else { None };
+        }
+    }
+    None
+}
+
 /// The request that the handler has taken last in front of a place among those that haven't ended.
 pub fn served_before(log: &Log, handler: HandlerNumber, end: usize) -> Option<Served> {
     let mut ended = 0_usize;

@@ -1,11 +1,14 @@
 //! What there was in front of a turn of a run: what is lost behind it.
 
 use crate::failure::Played;
-use crate::history::{Begun, Ended, Turn, last_before, served_before, turn_at};
+use crate::history::{
+    Begun, Ended, Served, Turn, last_before, refused_before, served_before, turn_at,
+};
 use crate::replay::Replay;
+use crate::supplier::supplier_of;
 use sc_explain_text::Lines;
 use sc_explain_waiting::{
-    Asked, RunSource, asked_by, push_attributes, push_callers, push_false_clause, push_name,
+    RunSource, asked_by, push_attributes, push_callers, push_false_clause, push_name,
     push_operation_values, push_request, push_stand,
 };
 use sc_handler::Log;
@@ -26,7 +29,7 @@ const MOST_CLIENTS: usize = 16;
 pub enum Kind {
     /// The handler has failed.
     Failure,
-    /// It has refused a request for which nobody waits.
+    /// It has refused a request for which nobody waits, or by which the one has failed that waited for it.
     Refusal,
 }
 
@@ -44,8 +47,8 @@ pub struct Moment {
     pub behind: Lines,
 }
 
-/// What there was in front of each failure of a run that has ended like this, and of each refusal for which nobody waited. Where
-/// memory is refused, the lines lack something.
+/// What there was in front of each failure of a run that has ended like this, and of each refusal for which nobody waited or by
+/// which a handler has failed. Where memory is refused, the lines lack something.
 pub fn moments_of(
     origin: &RunSource<'_>,
     lines: &mut Lines,
@@ -72,10 +75,32 @@ fn add_failure(
     handler: HandlerNumber,
 ) {
     let log = ended.log();
-    if let Some(Status::Failed(_)) = ended.status(handler)
+    if let Some(Status::Failed(cause)) = ended.status(handler)
         && let Some(place) = last_before(log, handler, log.len())
     {
-        add(alloc, lines, moments, handler, Kind::Failure, place)
+        add(alloc, lines, moments, handler, Kind::Failure, place);
+        if cause == Cause::Precondition {
+            add_needed_refusal(alloc, lines, moments, ended, handler, place)
+        }
+    }
+}
+
+/// Adds the refusal of what a handler had asked for, by which it has failed at a place.
+fn add_needed_refusal(
+    alloc: Global,
+    lines: &mut Lines,
+    moments: &mut Vec<Moment>,
+    ended: &World<'_>,
+    handler: HandlerNumber,
+    place: usize,
+) {
+    let log = ended.log();
+    if let Some(turn) = turn_at(log, place)
+        && turn.is_behind()
+        && let Some(supplier) = supplier_of(ended, handler)
+        && let Some(refused) = refused_before(log, supplier, place)
+    {
+        add(alloc, lines, moments, supplier, Kind::Refusal, refused)
     }
 }
 
@@ -201,7 +226,7 @@ impl<'o> Before<'o> {
             Kind::Refusal => {
                 let log = self.ended.log();
                 if let Some(served) = served_before(log, moment.handler, moment.place) {
-                    self.tell_refusal(&served.asked, moment)
+                    self.tell_refusal(&served, moment)
                 }
             }
             Kind::Failure => {
@@ -218,14 +243,18 @@ impl<'o> Before<'o> {
     }
 
     /// Which request is refused, and by which clause.
-    fn tell_refusal(&self, asked: &Asked, moment: &mut Moment) {
+    fn tell_refusal(&self, served: &Served, moment: &mut Moment) {
         let handler = moment.handler;
         let lines = &mut moment.behind;
         lines.push("handler ");
         push_name(self.origin, lines, self.world, handler);
         lines.push(" refused ");
-        push_request(self.origin, lines, self.world, asked);
-        lines.push(", and nobody waited for it\n");
+        push_request(self.origin, lines, self.world, &served.asked);
+        lines.push(if served.is_waited {
+            ", which waited for it\n"
+        } else {
+            ", and nobody waited for it\n"
+        });
         push_false_clause(self.origin, lines, self.world, handler)
     }
 
