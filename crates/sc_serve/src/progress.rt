@@ -67,7 +67,8 @@ impl<'e, E: Write> Tell for Progress<'e, E> {
     fn show_run(&mut self, turns: u64, handlers: usize) {
         if self.is_shown {
             self.said = Some(0);
-            let _ = write!(self.err, "\r{turns} turns, {handlers} handlers");
+            let what = if handlers == 1 { "handler" } else { "handlers" };
+            let _ = write!(self.err, "\r{turns} turns, {handlers} {what}");
             self.show("\x1b[K");
         }
     }

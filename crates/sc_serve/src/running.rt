@@ -47,7 +47,7 @@ pub fn answer_run<'a, R: Threads + Wait + Clock + Sync, F: Files, T: Tell>(
 {
     let source = match read_source(alloc, files, names) {
         Ok(source) => source,
-        Err(fault) => return answer_unread(alloc, names, fault),
+        Err(fault) => return answer_unread(alloc, names, fault, options.is_explained),
     };
     match load_text(alloc, source.text(), &options.root) {
         Ok(program) => run_loaded(rt, alloc, &program, options, &source, teller),
@@ -215,7 +215,7 @@ fn push_output_note(
     printed: u64,
 ) -> Result<(), AllocError> {
     let told = format!(in alloc;
-        "stopped by --output-limit behind {turns} turns: they have printed {printed} bytes\n"
+        "stopped by --output-limit behind {turns} turns: the handlers have printed {printed} bytes\n"
     )?;
     note.extend_from_slice(told.as_bytes())
 }

@@ -38,7 +38,7 @@ pub fn answer_search<'a, F: Files, W: Watch>(
 {
     let source = match read_source(alloc, files, names) {
         Ok(source) => source,
-        Err(fault) => return answer_unread(alloc, names, fault),
+        Err(fault) => return answer_unread(alloc, names, fault, options.is_explained),
     };
     match load_text(alloc, source.text(), &options.root) {
         Ok(program) => search_loaded(alloc, &program, options, &source, watch),

@@ -366,7 +366,7 @@ fn answer_on_files<'a, F: Files>(
 {
     let source = match read_source(alloc, files, names) {
         Ok(source) => source,
-        Err(fault) => return answer_unread(alloc, names, fault),
+        Err(fault) => return answer_unread(alloc, names, fault, explained_root(command).is_some()),
     };
     match examine(alloc, command, source.text()) {
         Ok(answer) => Ok(answer),
@@ -468,11 +468,12 @@ fn push_related(alloc: Global, lines: &mut Lines, source: &Source, related: Rela
     }
 }
 
-/// What is answered where the named files have no source text.
+/// What is answered where the named files have no source text, with which of them makes it too long where that is to be shown.
 pub fn answer_unread<'a>(
     alloc: Global,
     names: &[&'a str],
     unread: JoinFault,
+    is_explained: bool,
 ) -> Result<Answer<'a>, Fault<'a>>
     ensures refused { IfOk result (λ answer. IsRefusalOf [] too_long answer.text.items answer.exit) }
     ensures long { OnOk result (unread.fault ≡ FileFault.TooLong) }
@@ -484,7 +485,12 @@ pub fn answer_unread<'a>(
     match fault {
         FileFault::TooLong => {
             let rejection = Rejection::Text(LexFault::SourceTooLong);
-            answer_rejected(alloc, &Source::new(alloc), &rejection, Vec::new(alloc))
+            let note = if is_explained {
+                too_long_note(alloc, name_at(names, file))?
+            } else {
+                Vec::new(alloc)
+            };
+            answer_rejected(alloc, &Source::new(alloc), &rejection, note)
         }
         FileFault::OutOfMemory => Err(Fault::OutOfMemory),
         FileFault::Unreadable(_) | FileFault::NotUtf8 { offset: _ } => {
@@ -492,6 +498,18 @@ pub fn answer_unread<'a>(
             Err(Fault::CannotRead(name, fault))
         }
     }
+}
+
+/// Which file makes the source text too long, and where more is said of that.
+fn too_long_note(alloc: Global, name: &str) -> Result<Vec<u8>, AllocError> {
+    let mut lines = Lines::new(alloc);
+    lines.push_all(&[
+        "with ",
+        name,
+        " the files have more than 1,048,576 bytes together, a line feed after each\n",
+    ]);
+    lines.push("`scoop explain L5` says more\n");
+    lines.finish()
 }
 
 /// What is answered where nothing is made of the source text, with what is added on standard error.
@@ -562,7 +580,7 @@ fn answer_replay<'a, F: Files, T: Tell>(
 {
     let source = match read_source(alloc, files, names) {
         Ok(source) => source,
-        Err(fault) => return answer_unread(alloc, names, fault),
+        Err(fault) => return answer_unread(alloc, names, fault, options.is_explained),
     };
     match load_text(alloc, source.text(), &options.root) {
         Ok(program) => play_record(alloc, &program, files, options, &source, teller),
