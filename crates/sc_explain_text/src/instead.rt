@@ -9,15 +9,17 @@ pub const SIGNS: &str = "\
 ==\t===\t`=` compares, and `:=` assigns
 =>\t->\tthere are no arrows: a routine's body is `do .. end`
 !=\t<>\t`/=` says that two values differ
-:=\t`:=` assigns, as an instruction of a body, and `=` compares
-=\t`:=` assigns, and `=` compares two values, which are no comparisons themselves
+:=\t`x := e` is an instruction of a body, for a variable of this object or routine; another object's attribute is set by a procedure of its class; `=` compares
+=\t`:=` assigns, and `=` compares two values, which are no comparisons themselves. A constant is a function: `c: INTEGER do Result := 1 end`
 ++\t+=\t-=\t`i := i + 1` adds to a variable
 <<\t[\t]\tthere are no arrays and no generic classes: a list is a class of your own with an attribute `next: detachable ..`
+|..|\tthere are no intervals: a loop counts by `i := i + 1`, in `from .. until .. loop .. end`
 &&\t&\t`and then` asks the second where the first holds, and `and` asks both
 ||\t|\t`or else` asks the second where the first fails, and `or` asks both
 /*\t#\t//\ta comment begins with `--` and ends with its line
 '\t`\tthere are no characters: use an INTEGER, or a text in `print (\"..\")`
 \"\ta text stands in `print (\"..\")` alone, and is no value
+create {any}\tcreate {none}\ta `create` list names procedures alone: `create make`
 create {\t`create x` makes an object for a variable of the wanted class: declare it under `local`
 require else\tensure then\ta redefinition keeps the contract that it inherits, and writes none
 {\twhat stands together is put between words: `do .. end`, `then .. end`, `loop .. end`
