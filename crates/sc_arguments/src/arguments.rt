@@ -141,11 +141,12 @@ alone runs the object's features. A system is the classes of all its files.";
 const STATUS_HELP: &str = "\
 Exit status:
   0  done, and every handler is free
-  1  the system is refused
+  1  the system is refused, or the record
   2  an argument, a file or the output is at fault
-  3  a handler has failed
-  4  a handler is waiting or busy
-  5  memory or a thread is refused, or what the threads did doesn't agree";
+  3  a handler has failed, or does in an order that was found
+  4  a handler is waiting or busy, or waits for good in an order that was found
+  5  memory or a thread is refused, or what the threads did doesn't agree
+  6  a search is undecided: its states were used up";
 
 const CHECK_AFTER_HELP: &str = "\
 Limits:
@@ -215,10 +216,10 @@ const RUN_LONG_ABOUT: &str = "\
 Runs a system, and reports what became of each handler.
 
 The system is checked first, as by `scoop check`. The run begins with the root
-procedure and goes on turn by turn, until no handler has anything to do or the
-turns are used up, or until more is printed than may be. By several workers handlers are played at once: then the order
-of their turns is another one each time, and the record says which it was. The
-report has for each handler
+procedure and goes on turn by turn, until no handler has anything to do, the turns
+are used up, or more is printed than may be. By several workers handlers are played
+at once: then the order of their turns is another one each time, and the record says
+which it was. The report has for each handler
 
   handler NUMBER STATUS refused COUNT output BYTES
 
