@@ -29,6 +29,9 @@ use std::thread::Threads;
 /// How many turns several workers make before it is seen what they have come to.
 const TURNS_BETWEEN: u32 = 262_144;
 
+/// How many they make where there is a bound on what is printed: a turn may print 10,000 bytes and more.
+const TURNS_BETWEEN_OUTPUTS: u32 = 4_096;
+
 /// Plays the handlers of a program on so many threads, the calling one among them, until none has anything to do, so many
 /// turns are made, or the record has 1,000,000 lines. There may be 512 handlers.
 ///
@@ -149,11 +152,15 @@ fn play_in_turns<'p, P: OfProgram + Send + Sync, R: Threads + Wait + Sync, G: Ga
 /// Behind how many turns of a run several workers are to end, so that it can be seen what was printed, or what they have come to
 /// where they are to be interrupted.
 fn turns_to_see(lines: &[RecordLine], bounds: Bounds, interrupts: bool) -> u32 {
-    if !interrupts && bounds.output.is_none() {
+    let between = if bounds.output.is_some() {
+        TURNS_BETWEEN_OUTPUTS
+    } else if interrupts {
+        TURNS_BETWEEN
+    } else {
         return bounds.turns;
-    }
+    };
     let made = turns_in(lines).unwrap_or(bounds.turns);
-    bounds.turns.min(made.saturating_add(TURNS_BETWEEN))
+    bounds.turns.min(made.saturating_add(between))
 }
 
 /// Plays by several workers: what they leave, and whether the run is over.
