@@ -1,4 +1,4 @@
-use Rattle.std.proofs.Common.{◌≡◌, ◌<◌, ℕ, Some, None, ap, sym, subst, ◌∙◌}
+use Rattle.std.proofs.Common.{◌≡◌, ◌<◌, ℕ, Some, None, ap, sym, subst, ◌∙◌, arith}
 use Rattle.sc_class.proofs.Items.{some_is}
 use Rattle.sc_class.specs.ClassNames.{Root, class_named}
 use Rattle.sc_class.specs.Faults.ClassRules.{IsFaultless}
@@ -13,7 +13,8 @@ overflow_cast-result c =
     let found = root_is s root (subst (IsFaultless s) c.root.ensures.same c.root.ensures.faultless) c.class_named.result
     (c.class_named.ensures ∙ ap (class_named s) (c.deref.ensures ∙ ap (λ (r : Root). r.class) c.root.ensures.same)) in
     let same : found.0 ≡ c.in-Some.number = some_is found.0 c.in-Some.number (sym (c.declared_number.ensures found.0 found.1) ∙ c.in-Some.is) in
-    subst (λ (k : ℕ). k < 256) same found.3
+    let small : c.in-Some.number < 256 = subst (λ (k : ℕ). k < 256) same found.3 in
+    omega (arith, small)
 
 pub returns : goal.returns
 returns c =
