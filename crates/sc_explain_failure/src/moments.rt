@@ -24,6 +24,9 @@ const MOST_MOMENTS: usize = 32;
 /// How many handlers are told at most that waited.
 const MOST_CLIENTS: usize = 16;
 
+/// How many requests are told at most that were dropped behind a failure.
+const MOST_DROPPED: usize = 8;
+
 /// What a turn comes to.
 #[derive(Clone, Copy, PartialEq, Eq)]
 pub enum Kind {
@@ -323,30 +326,39 @@ impl<'o> Before<'o> {
         }
     }
 
-    /// How many requests stood behind the one that failed, and the first of them where that one had been taken before.
+    /// Which requests stood behind the one that failed.
     fn tell_dropped(&self, turn: &Turn, moment: &mut Moment) {
         let core = self.world.core();
-        let standing = core.queue_len(moment.handler);
-        let takes = matches!(turn.begun, Begun::Takes(_));
-        let count = standing.saturating_sub(takes as usize);
+        let handler = moment.handler;
+        // the one that failed was the first of them as long as it wasn't taken
+        let first = matches!(turn.begun, Begun::Takes(_)) as usize;
+        let count = core.queue_len(handler).saturating_sub(first);
         if count == 0 {
             return;
         }
         let lines = &mut moment.behind;
-        lines.push_number(count as u64);
-        lines.push(if count == 1 {
-            " request that stood behind it was dropped"
-        } else {
-            " requests that stood behind it were dropped"
-        });
-        if let Some(request) = core.first_asked(moment.handler)
-            && !takes
-        {
-            lines.push(if count == 1 { ": " } else { ": first " });
-            push_request(self.origin, lines, self.world, &asked_by(request));
+        push_count(lines, count);
+        for place in 0..count.min(MOST_DROPPED) {
+            if let Some(request) = core.asked_at(handler, place.saturating_add(first)) {
+                lines.push(if place == 0 { ": " } else { ", " });
+                push_request(self.origin, lines, self.world, &asked_by(request))
+            }
+        }
+        if count > MOST_DROPPED {
+            lines.push(" and so on");
         }
         lines.push("\n")
     }
+}
+
+/// Adds how many requests were dropped.
+fn push_count(lines: &mut Lines, count: usize) {
+    lines.push_number(count as u64);
+    lines.push(if count == 1 {
+        " request that stood behind it was dropped"
+    } else {
+        " requests that stood behind it were dropped"
+    })
 }
 
 /// Whether the turn fails by values.

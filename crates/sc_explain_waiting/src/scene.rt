@@ -104,7 +104,7 @@ impl<'o, 'r> Scene<'o, 'r> {
     /// Adds what a handler has to do.
     fn push_busy(&self, lines: &mut Lines, handler: HandlerNumber) {
         lines.push(" is busy");
-        if let Some(request) = self.world.core().first_asked(handler)
+        if let Some(request) = self.world.core().asked_at(handler, 0)
             && stand_of(self.origin, self.world, handler).is_none()
         {
             lines.push(": it is to take ");
@@ -115,7 +115,7 @@ impl<'o, 'r> Scene<'o, 'r> {
     /// Adds which requests stand at a handler that waits, if any do: whether some do.
     pub fn push_requests(&self, lines: &mut Lines, handler: HandlerNumber) -> bool {
         let count = self.world.core().queue_len(handler);
-        let Some(request) = self.world.core().first_asked(handler) else {
+        let Some(request) = self.world.core().asked_at(handler, 0) else {
             return false;
         };
         let (stand, before) = if count == 1 {

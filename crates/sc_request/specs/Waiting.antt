@@ -1,5 +1,5 @@
 -- What keeps a handler from its next step.
-use Rattle.std.specs.Prelude.{ℕ, Bool, false, not, List, [], ◌∷◌, Option, Some, None}
+use Rattle.std.specs.Prelude.{ℕ, Bool, false, not, List, [], Option, option_map, slice_get}
 use Rattle.sc_lockpass.specs.Rights.{Rights}
 use Rattle.sc_waitcond.specs.Reservations.{mark_allows}
 use Rattle.sc_region.specs.declared.job.Request.{Request}
@@ -23,7 +23,6 @@ is_put_off sessions (HasMade k) = false
 is_put_off sessions (Reserves ks mark) = not (mark_allows sessions mark)
 is_put_off sessions (Awaits k is_creation) = false
 
--- the request that is taken next
-abbrev pub first_request : List Posted → Option Request
-first_request [] = None
-first_request (p ∷ ps) = Some p.request
+-- the request at a place of the queue, from 0, which is taken next
+abbrev pub request_at : List Posted → ℕ → Option Request
+request_at ps n = option_map (λ (p : Posted). p.request) (slice_get ps n)

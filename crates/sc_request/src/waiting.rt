@@ -1,5 +1,5 @@
 //! What keeps handlers from their next step, and who holds whom, to be told to people.
-ghost use Rattle.std.specs.Prelude.{◌≡◌, length, map};
+ghost use Rattle.std.specs.Prelude.{◌≡◌, length, map, slice_get};
 ghost use Rattle.std.specs.Option.{option_map};
 ghost use Rattle.sc_handler.specs.InMemory.{posting_of};
 ghost use Rattle.sc_request.specs.Places.{awaited};
@@ -8,7 +8,7 @@ ghost use Rattle.sc_request.specs.Waiting.{is_put_off, needed_at};
 
 use crate::center::Core;
 use arrayvec::ArrayVec;
-use sc_handler::{Handler, HandlerStage};
+use sc_handler::{Handler, HandlerStage, Posting};
 use sc_lockpass::HandlerNumber;
 use sc_region::Request;
 
@@ -73,22 +73,29 @@ impl Core {
         }
     }
 
-    /// The request that a handler takes next of its queue, if one stands there.
-    pub fn first_asked(&self, handler: HandlerNumber) -> Option<&Request>
-        ensures { option_map (λ request. request.now) result ≡ waiting.first_request ((state_of self.now).handlers handler).queue }
+    /// The request at a place of the queue of a handler, from 0, which is taken next; None where fewer stand there.
+    pub fn asked_at(&self, handler: HandlerNumber, number: usize) -> Option<&Request>
+        ensures { option_map (λ request. request.now) result ≡ waiting.request_at ((state_of self.now).handlers handler).queue number }
     {
         match self.state.handlers.get(handler as usize) {
-            Some(place) => first_request(place),
+            Some(place) => request_at(place, number),
             None => None,
         }
     }
 }
 
-/// The request that a handler takes next of its queue, if one stands there.
-fn first_request(place: &Handler) -> Option<&Request>
-    ensures { option_map (λ request. request.now) result ≡ waiting.first_request (map posting_of place.now.queue) }
+/// The posting at a place of the queue, if one stands there.
+fn posting_at(place: &Handler, number: usize) -> Option<&Posting>
+    ensures { option_map (λ posting. posting.now) result ≡ slice_get place.now.queue number }
 {
-    match place.queue.front() {
+    place.queue.iter().nth(number)
+}
+
+/// The request at a place of the queue, if one stands there.
+fn request_at(place: &Handler, number: usize) -> Option<&Request>
+    ensures { option_map (λ request. request.now) result ≡ waiting.request_at (map posting_of place.now.queue) number }
+{
+    match posting_at(place, number) {
         Some(posting) => Some(&posting.request),
         None => None,
     }
