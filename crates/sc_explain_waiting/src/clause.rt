@@ -1,6 +1,6 @@
 //! What is said of a clause that is false, and which values the parts of a text had.
 
-use crate::evaluation::{Evaluation, Seen, Start, Until, stored, version_in};
+use crate::evaluation::{Evaluation, Goal, Seen, Start, stored, version_in};
 use crate::naming::push_place;
 use crate::origin::RunSource;
 use crate::waits::standing_of;
@@ -23,14 +23,7 @@ pub fn push_false_clause(
     handler: HandlerNumber,
 ) {
     let start = Start::Place(0);
-    if let Some(reached) = Evaluation::of(
-        origin,
-        lines,
-        world,
-        handler,
-        start,
-        Until::FalseClause,
-    ) {
+    if let Some(reached) = Evaluation::of(origin, lines, world, handler, start, Goal::FalseClause) {
         origin.push_false(lines, &reached)
     }
 }
@@ -59,8 +52,8 @@ pub fn push_operation_values(
     } else {
         Start::Here(answer)
     };
-    let until = Until::Place(place);
-    if let Some(reached) = Evaluation::of(origin, lines, world, handler, start, until) {
+    let goal = Goal::Place(place);
+    if let Some(reached) = Evaluation::of(origin, lines, world, handler, start, goal) {
         let is_told = origin.push_values(lines, "where ", whole, &reached);
         lines.push(if is_told { "\n" } else { "" })
     }

@@ -33,7 +33,7 @@ pub enum Start {
 
 /// How far a routine is gone through.
 #[derive(Clone, Copy)]
-pub enum Until {
+pub enum Goal {
     /// To the first clause of a precondition that is false.
     FalseClause,
     /// To the operation at this place.
@@ -74,11 +74,11 @@ impl<'r> Evaluation<'r> {
         world: &'r World<'r>,
         handler: HandlerNumber,
         start: Start,
-        until: Until,
+        goal: Goal,
     ) -> Option<Evaluation<'r>> {
         let mut evaluation = Evaluation::standing(origin.alloc, world, handler)?;
         evaluation.begin(start);
-        let is_reached = evaluation.reaches(until);
+        let is_reached = evaluation.reaches(goal);
         if evaluation.is_lacking || evaluation.values.is_lacking {
             lines.lack()
         }
@@ -140,9 +140,9 @@ impl<'r> Evaluation<'r> {
     }
 
     /// Goes through the outermost routine so far: whether it comes to there.
-    fn reaches(&mut self, until: Until) -> bool {
+    fn reaches(&mut self, goal: Goal) -> bool {
         for _operation in 0..MOST_OPERATIONS {
-            if self.is_reached(until) {
+            if self.is_reached(goal) {
                 return true;
             }
             if self.is_lacking || !self.advance() {
@@ -153,13 +153,13 @@ impl<'r> Evaluation<'r> {
     }
 
     /// Whether the routine stands where the outermost one is to come to.
-    fn is_reached(&self, until: Until) -> bool {
+    fn is_reached(&self, goal: Goal) -> bool {
         if !self.callers.is_empty() {
             return false;
         }
-        match until {
-            Until::Place(place) => self.frame.place == place,
-            Until::FalseClause => {
+        match goal {
+            Goal::Place(place) => self.frame.place == place,
+            Goal::FalseClause => {
                 matches!(
                     self.operation_at(self.frame.place),
                     Some(Operation::Demand(_))
