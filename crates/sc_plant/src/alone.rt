@@ -9,7 +9,7 @@ ghost use Rattle.sc_region.specs.declared.job.Job.{Job};
 ghost use Rattle.sc_region.specs.declared.job.Want.TheVariants as want;
 ghost use Rattle.sc_request.specs.Cores.{center_of};
 ghost use Rattle.sc_request.specs.Rooms.{HasRoomFor};
-ghost use Rattle.sc_plant.specs.declared.alone.Until.TheVariants.{Over};
+ghost use Rattle.sc_plant.specs.declared.alone.Stretch.TheVariants.{Over};
 ghost use Rattle.sc_plant.specs.Alone.{AreNew, IsBack, IsOnWay, IsPlayed};
 ghost use Rattle.sc_plant.specs.Bounded.{EndsBehind, IsBoundedRun};
 ghost use Rattle.sc_plant.specs.Left.{IsOutOfMemory, IsOver, IsStopped, SaysWhy, TellsLeft};
@@ -72,7 +72,7 @@ fn play_opened<'p, R: Wait, G: Gate, W: Watch>(
     ensures left { IfErr result TellsLeft }
     ensures memory { IfErr result IsOutOfMemory }
 {
-    let Ok((turns, _)) = play_all(rt, &mut left, Until::Over, bounds, gate, watch) else {
+    let Ok((turns, _)) = play_all(rt, &mut left, Stretch::Over, bounds, gate, watch) else {
         return Err(RunFault::OutOfMemory(Some(left)));
     };
     Ok((left, turns))
@@ -106,7 +106,7 @@ fn open_regions<'p>(alloc: Global, program: &'p Program) -> Result<Vec<Region<'p
 
 /// How far one thread plays.
 #[derive(Clone, Copy)]
-pub enum Until {
+pub enum Stretch {
     /// Until the run is over.
     Over,
     /// Until that, or until several workers would play it faster.
@@ -118,7 +118,7 @@ pub enum Until {
 pub fn play_all<R: Wait, G: Gate, W: Watch>(
     rt: &R,
     left: &mut Left<'_>,
-    until: Until,
+    stretch: Stretch,
     bounds: Bounds,
     gate: &G,
     watch: &mut W,
@@ -128,7 +128,7 @@ pub fn play_all<R: Wait, G: Gate, W: Watch>(
     ensures on { OnOk result ((p : Image) → IsOnWay p left.old → IsOnWay p left.new) }
     ensures over { IfOk result (λ over. over.1 ≡ true → IsOver over.0 (center_of left.new.core) left.new.lines.items) }
     ensures ends { IfOk result (λ over. over.1 ≡ true → EndsBehind bounds over.0 left.new.regions.items) }
-    ensures whole { until ≡ Over → IfOk result (λ over. over.1 ≡ true) }
+    ensures whole { stretch ≡ Over → IfOk result (λ over. over.1 ≡ true) }
     ensures err { OnErr result ((p : Image) → IsOnWay p left.old → IsStopped p left.new) }
 {
     let mut asked = Want::Continue;
@@ -148,7 +148,7 @@ pub fn play_all<R: Wait, G: Gate, W: Watch>(
         if let Some(made) = cut_behind(left, bounds, &mut tally) {
             return Ok((made, true));
         }
-        if matches!(until, Until::CoarseGrained)
+        if matches!(stretch, Stretch::CoarseGrained)
             && is_coarse(&mut granularity, left.lines.as_slice())
         {
             return Ok((bounds.turns, false));

@@ -6,7 +6,7 @@ ghost use Rattle.sc_request.specs.Cores.{center_of};
 ghost use Rattle.sc_plant.specs.Left.{IsOutOfMemory, IsOver, IsRun, SaysWhy, TellsLeft};
 ghost use Rattle.sc_plant.specs.Sharing.{IsOnWayIn};
 
-use crate::alone::{Until, ended, open_left, play_all, run_alone};
+use crate::alone::{Stretch, ended, open_left, play_all, run_alone};
 use crate::bounds::Bounds;
 use crate::ending::{is_over, turns_in, turns_left};
 use crate::gate::Gate;
@@ -135,7 +135,7 @@ fn play_in_turns<'p, P: OfProgram + Send + Sync, R: Threads + Wait + Sync, G: Ga
         let Ok((turns, is_over)) = play_all(
             rt,
             &mut left,
-            Until::CoarseGrained,
+            Stretch::CoarseGrained,
             bounds,
             gate,
             watch,
