@@ -5,8 +5,8 @@
 //! for whom, and which requests stand where. `specs/Steps` has the steps that a turn is made of. What each step keeps
 //! stands in `specs/Consistent`, `specs/Provided`, `specs/Served` and `specs/Returns`, and what follows from it in
 //! `specs/Laws`, carried by [`steps`]. `specs/Stands` says for which state of the machine a world stands, and
-//! `specs/Headline` and `specs/Formals` what follows of that state, carried by [`headline`].
+//! `specs/Headline` and `specs/Formals` what follows of that state, carried by [`laws`].
 #![tactic(auto)]
 
-pub mod headline;
+pub mod laws;
 pub mod steps;

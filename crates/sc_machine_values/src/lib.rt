@@ -1,4 +1,4 @@
 //! Values: what fits where in a state of the machine.
 #![tactic(auto)]
 
-pub mod headline;
+pub mod laws;
