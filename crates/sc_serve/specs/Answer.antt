@@ -192,8 +192,8 @@ IsJudged program true left report hows output exit = IsAuditedAs program left re
 abbrev pub bounds_of : RunOptions → Bounds
 bounds_of options = record { turns = options.turns; output = options.output_limit }
 
--- The same of a run that ends behind so many turns at most, and whose record has these lines. These turns are those that
--- are asked for; or fewer, where the handlers have printed more than an output limit that is asked for.
+-- The same of a run that ends behind so many turns at most, and whose record has these lines. These turns are those
+-- that are asked for; or fewer, where the handlers have printed more than an output limit that is asked for.
 abbrev pub IsTold : Image → Bounds → ℕ → Bool → List RecordLine → List ℕ → List Status → List ℕ → Exit → Type 0
 IsTold program bounds turns is_audited lines report hows output exit =
     (left : Left) × IsBoundedRun program bounds turns left × (left.lines.items ≡ lines)
