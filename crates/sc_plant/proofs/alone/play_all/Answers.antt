@@ -25,5 +25,5 @@ returns-in_err-made-clause-err g c = on-err c.from_residual.result _ (λ p way. 
 pub returns-then-is_over-clause-on : goal.returns-then-is_over-clause-on
 returns-then-is_over-clause-on g c = λ p way. c.is_over.ensures.on p (c.in_ok-made.ensures.on p (c.loop.invariant.on p way))
 
-pub returns-in-Some-clause-on : goal.returns-in-Some-clause-on
-returns-in-Some-clause-on g c = λ p way. c.cut_behind.ensures.on p (c.in_ok-made.ensures.on p (c.loop.invariant.on p way))
+pub returns-in-Some-cut_behind-clause-on : goal.returns-in-Some-cut_behind-clause-on
+returns-in-Some-cut_behind-clause-on g c = λ p way. c.cut_behind.ensures.on p (c.in_ok-made.ensures.on p (c.loop.invariant.on p way))

@@ -4,17 +4,17 @@ use Rattle.sc_plant.proofs.OnWay.{way_run}
 use Rattle.sc_plant.proofs.running.play_in_turns.Goals as goal
 
 pub play_all-requires-clause-count : goal.play_all-requires-clause-count
-play_all-requires-clause-count g c = c.ended.ensures.count ∙ c.in_ok-next.ensures.on.way.count
+play_all-requires-clause-count g c = λ κs within. c.ended.ensures.count ∙ c.in_ok-next.ensures.on.way.count
 
 pub play_all-requires-clause-version : goal.play_all-requires-clause-version
-play_all-requires-clause-version g c = c.ended.ensures.version ∙ c.in_ok-next.ensures.on.way.rights
+play_all-requires-clause-version g c = λ κs within. c.ended.ensures.version ∙ c.in_ok-next.ensures.on.way.rights
 
-pub returns-in-Some-clause-ok : goal.returns-in-Some-clause-ok
-returns-in-Some-clause-ok g c = λ p is.
+pub returns-in-Some-ended-clause-ok : goal.returns-in-Some-ended-clause-ok
+returns-in-Some-ended-clause-ok g c = λ p is.
     record {
-      run = way_run p c.in-Some.made c.ended.new.left
-          (c.ended.ensures.on p (way_of g.P.OfProgram.image c.in_ok-next.next p c.in_ok-next.ensures.on is)) c.in-Some.ensures.over;
-      ends = c.in-Some.ensures.ends;
+      run = way_run p c.in-Some-ended.made c.ended.new.left
+          (c.ended.ensures.on p (way_of g.P.OfProgram.image c.in_ok-next.next p c.in_ok-next.ensures.on is)) c.in-Some-ended.ensures.over;
+      ends = c.in-Some-ended.ensures.ends;
     }
 
 pub returns-then-is_over-clause-ok : goal.returns-then-is_over-clause-ok
