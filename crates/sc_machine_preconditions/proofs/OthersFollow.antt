@@ -28,7 +28,8 @@ use Rattle.sc_machine_requests.proofs.Unlent.{ends_the_one, stands_once}
 use Rattle.sc_machine_requests.specs.Laws.{AnswerComes, Stays, TopAwaits}
 use Rattle.sc_machine_preconditions.specs.Following.{AboveIsPure, AwaitsOf, ClauseDone, ClausesAt, FollowsPure, FrameFollows, InPrecondition, IsLost, IsQuiet, MayAsk, StackFollows, StandsByStage, WorldFollows, between_point, bound_in, objects_of}
 use Rattle.sc_machine_preconditions.specs.Turns.{OthersFollow}
-use Rattle.sc_machine_preconditions.proofs.OthersAsked.{IsToldNone, Known, Onward, asked_onward, refusal_no_failure, reply_no_failure}
+use Rattle.sc_machine_preconditions.proofs.OthersAsked.{IsToldNone, Known, Onward, refusal_no_failure, reply_no_failure}
+use Rattle.sc_machine_preconditions.proofs.OthersTarget.{asked_onward}
 use Rattle.sc_machine_preconditions.proofs.OthersLocal.{clause_done_local, clauses_local, follows_local}
 use Rattle.sc_machine_preconditions.proofs.PointsEntries.{pure_answers}
 use Rattle.sc_machine_preconditions.proofs.PointsReached.{entry_follows, pure_moves}

@@ -32,7 +32,7 @@ use Rattle.sc_machine_preconditions.specs.Following.{objects_of, bound_in, AreBo
 use Rattle.sc_machine_preconditions.specs.Following as following
 use Rattle.sc_machine_preconditions.proofs.PointsEntries.{entry_follows, entry_is_between, takes_bound}
 use Rattle.sc_machine_preconditions.proofs.OwnKept.{plain_follows}
-use Rattle.sc_machine_preconditions.proofs.OwnPlain.{IsCalm, IsEntry, plain, entered}
+use Rattle.sc_machine_preconditions.proofs.OwnCalm.{IsCalm, IsEntry, plain, entered}
 
 -- ---- a function that contracts may call reserves nothing as it is entered
 

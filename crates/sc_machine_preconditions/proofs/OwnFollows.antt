@@ -28,11 +28,12 @@ use Rattle.sc_machine_preconditions.specs.Following.{objects_of, FollowsPure, Is
 use Rattle.sc_machine_preconditions.specs.Turns.{OwnFollows}
 use Rattle.sc_machine_preconditions.proofs.PointsReached.{clause_moves, pure_moves}
 use Rattle.sc_machine_preconditions.proofs.OwnKept.{AllPlain, plain_below}
-use Rattle.sc_machine_preconditions.proofs.OwnPlain.{next_good, goes_good}
+use Rattle.sc_machine_preconditions.proofs.OwnPlain.{next_good}
+use Rattle.sc_machine_preconditions.proofs.OwnTurns.{goes_good}
 use Rattle.sc_machine_preconditions.proofs.OwnEntries.{calm_follows}
 use Rattle.sc_machine_preconditions.proofs.OwnMoves.{Follow, fails_follow}
 use Rattle.sc_machine_preconditions.proofs.OwnPure.{pure_follows}
-use Rattle.sc_machine_preconditions.proofs.OwnClauses.{clause_follows}
+use Rattle.sc_machine_preconditions.proofs.OwnWaits.{clause_follows}
 use Rattle.sc_machine_preconditions.proofs.Lists.{some_is_none}
 
 module _ (s : System) (root : Root) (pure : RoutineName → Bool) (faultless : IsFaultless s root) (well : WellFormed s)

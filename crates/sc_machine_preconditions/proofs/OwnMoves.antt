@@ -32,7 +32,8 @@ use Rattle.sc_machine_preconditions.specs.Points.{ClauseSteps, ClauseMoves, Goes
 use Rattle.sc_machine_preconditions.proofs.PointsEntries.{takes_bound}
 use Rattle.sc_machine_preconditions.proofs.OwnWorlds.{IsSame, same_put, stack_again, stack_once}
 use Rattle.sc_machine_preconditions.proofs.OwnKept.{not_awaited}
-use Rattle.sc_machine_preconditions.proofs.OwnPlain.{IsCalm, IsEntry, fails_good}
+use Rattle.sc_machine_preconditions.proofs.OwnPlain.{fails_good}
+use Rattle.sc_machine_preconditions.proofs.OwnCalm.{IsCalm, IsEntry}
 use Rattle.sc_machine_preconditions.proofs.OwnEntries.{runs_pure}
 
 -- ---- what is left

@@ -22,57 +22,23 @@ use Rattle.sc_model.specs.Objects.{Object, object_numbered, fresh_object}
 use Rattle.sc_model.specs.Invariants.{meets_invariant}
 use Rattle.sc_model.specs.Routines.{Routine, version_of, routine_named, routine_of}
 use Rattle.sc_model.specs.Steps.{Act, Prints, Until, Creates, CreatesHandler, Enters, Requests, Starts, Refuses, Opens, Leaves, Exits, Fails, Step, Goes, Does}
-use Rattle.sc_model.specs.Moves.{moves}
-use Rattle.sc_model.specs.Handlers.{Errand, Calls, Makes, Request, Answer, Reply, Failed, Refused, Origin, Called, Requested, Stage, Runs, Reserves, ReservesBlock, InCall, Awaits, Frame, Handler, World, point_of, frame_at, put, with_stack}
+use Rattle.sc_model.specs.Handlers.{Errand, Calls, Makes, Request, Answer, Reply, Failed, Refused, Origin, Called, Requested, Stage, Runs, Reserves, ReservesBlock, InCall, Awaits, Frame, Handler, World, frame_at, put, with_stack}
 use Rattle.sc_model.specs.Sessions.{standing_in, reserve, release}
 use Rattle.sc_model.specs.Answers.{finish}
 use Rattle.sc_model.specs.Failures.{fails_with}
-use Rattle.sc_model.specs.Entries.{entry, enters_bound, enters, entry_needs, block_needs, may_reserve, reserves_if}
+use Rattle.sc_model.specs.Entries.{entry, enters_bound, enters, reserves_if}
 use Rattle.sc_model.specs.Asking.{passes, send, awaits_if, request_by, is_callback, asks, request, with_handler, posts_creation, passes_or_releases, created}
 use Rattle.sc_model.specs.Preconditions.{is_creation, object_meets, counted_refusal, refuses}
 use Rattle.sc_model.specs.Exits.{is_unset_value, is_unset, is_untested, handed_as, handed_at, handed, leaves_to, exits, leaves_block}
 use Rattle.sc_model.specs.Takes.{replies, takes_kind, takes_version, takes_creation, with_new_object, takes_errand, takes, takes_next, released_if, takes_answer}
-use Rattle.sc_model.specs.Turns.{effect, settles, waits, goes_on}
+use Rattle.sc_model.specs.Turns.{effect, settles, waits}
 use Rattle.sc_machine_rights.specs.Headline.{is_awaiting}
 use Rattle.sc_refines_core.specs.Calm.{name_of}
 use Rattle.sc_refines_core.specs.Entries.{HasStarted, RefusesNone}
 use Rattle.sc_machine_rights.proofs.links.Looks.{m_put-own}
-use Rattle.sc_refines_core.proofs.CalmSteps.{moves_calm}
-use Rattle.sc_machine_preconditions.specs.Following.{AreBound}
 use Rattle.sc_machine_preconditions.proofs.OwnWorlds.{IsNoReply, IsLike, like_put, like_release, like_finish, like_passes, like_send, like_new, fallen_stack}
 use Rattle.sc_machine_preconditions.proofs.OwnKept.{IsPlain, AllPlain, plain_kept}
-
--- The routine is entered, for a call or a request.
-pub record IsEntry (s : System) (f : Frame) : Type 0 where
-  pub current : Reference
-  pub routine : Routine
-  pub origin : Origin
-  pub bindings : List Binding
-  pub name : List ℕ
-  pub is_named : routine_named s current.class name ≡ Some routine
-  pub are_bound : AreBound s routine bindings
-  pub frame_is : f ≡ entry current routine origin bindings
-
--- No frame evaluates, but the topmost one may be entered.
-pub data IsCalm (s : System) (pure : RoutineName → Bool) (a : Option Answer) : List Frame → Type 0 where
-  plain : {st : List Frame} → AllPlain pure a st → IsCalm s pure a st
-  entered : {f : Frame} {below : List Frame} → IsEntry s f → AllPlain pure a below → IsCalm s pure a (f ∷ below)
-
-pub calm_kept : (s : System) (pure : RoutineName → Bool) (a b : Option Answer) (st : List Frame) →
-    (IsNoReply a → IsNoReply b) → IsCalm s pure a st →
-    IsCalm s pure b st
-calm_kept s pure a b st n (plain z) = plain (plain_kept pure a b st n z)
-calm_kept s pure a b _ n (entered {f} {below} e z) = entered e (plain_kept pure a b below n z)
-
--- it does something else than to wait
-runs_started : (pure : RoutineName → Bool) (a : Option Answer) (f : Frame) → is_awaiting f.stage ≡ false →
-    IsPlain pure a f → HasStarted f.tasks
-runs_started pure a f e (inl i, p) = i
-runs_started pure a f e (inr i, p) = let both : true ≡ false = sym i.0 ∙ e in cc
-
-pub reply_none : (v : Option Value) (A : Type 0) → IsNoReply (Some (Reply v)) → A
-reply_none v A (inl e) = cc
-reply_none v A (inr e) = cc
+use Rattle.sc_machine_preconditions.proofs.OwnCalm.{IsCalm, plain, entered, calm_kept, runs_started, reply_none}
 
 module _ (s : System) (pure : RoutineName → Bool) (h : ℕ) where
   abbrev Good : World → Type 0
@@ -365,7 +331,7 @@ module _ (s : System) (pure : RoutineName → Bool) (h : ℕ) where
         started Exits i = i
         started (Fails why) i = i
 
-    reserves_good : (b : Bool) (ks : List ℕ) (f g : Frame) (below : List Frame) → (w.handlers h).stack ≡ g ∷ below →
+    pub reserves_good : (b : Bool) (ks : List ℕ) (f g : Frame) (below : List Frame) → (w.handlers h).stack ≡ g ∷ below →
         IsPlain pure (w.handlers h).answer g →
         IsPlain pure (w.handlers h).answer f → Plain w below → Good (reserves_if b h ks f below w)
     reserves_good true ks f g below at r q is =
@@ -374,7 +340,7 @@ module _ (s : System) (pure : RoutineName → Bool) (h : ℕ) where
         (record { stack_is = refl; no_reply = λ z. z }) (stack_good (f ∷ below) w (plain (q, is))))
     reserves_good false ks f g below at r q is = stays w (g ∷ below) at (r, is)
 
-    answer_good : (a : Answer) (k : ℕ) (gives : Option EntityType) (c : Bool) (f : Frame) (below : List Frame) →
+    pub answer_good : (a : Answer) (k : ℕ) (gives : Option EntityType) (c : Bool) (f : Frame) (below : List Frame) →
         (w.handlers h).answer ≡ Some a →
         IsPlain pure (w.handlers h).answer f → Plain w below → Good (takes_answer h a k gives c f below w)
     answer_good (Reply x) k gives c f below e g is = by c
@@ -408,36 +374,3 @@ module _ (s : System) (pure : RoutineName → Bool) (h : ℕ) where
     next_good [] at = stays w [] at tt
     next_good (r ∷ rs) at = takes_good r [] (put h (record (w.handlers h) { queue = rs }) w)
         (ap (λ (y : Handler). y.stack) (m_put-own h (record (w.handlers h) { queue = rs }) w) ∙ at) tt
-
-    -- ---- the topmost frame goes on
-
-    module _ (f : Frame) (below : List Frame) (at : (w.handlers h).stack ≡ f ∷ below)
-        (is : IsPlain pure (w.handlers h).answer f) (more : Plain w below) where
-      callback_good : (r : Request) →
-          Good (takes s h r (f ∷ below) (put h (record (w.handlers h) { callback = None }) w))
-      callback_good r =
-          let x : Handler = record (w.handlers h) { callback = None } in
-          takes_good r (f ∷ below) (put h x w) (ap (λ (y : Handler). y.stack) (m_put-own h x w) ∙ at)
-          (plain_kept pure (w.handlers h).answer ((put h x w).handlers h).answer (f ∷ below)
-          (λ n. subst (λ (y : Handler). IsNoReply y.answer) (sym (m_put-own h x w)) n) (is, more))
-
-      waits_good : (k : ℕ) (gives : Option EntityType) (c : Bool) (r : Option Request) (a : Option Answer) →
-          (w.handlers h).answer ≡ a → Good (waits s h r a k gives c f below w)
-      waits_good k gives c (Some r) a e = callback_good r
-      waits_good k gives c None (Some a) e = answer_good a k gives c f below e is more
-      waits_good k gives c None None e = stays w (f ∷ below) at (is, more)
-
-      pub goes_good : (most : ℕ) (st : Stage) → h < w.count → f.stage ≡ st → Good (goes_on most s h st f below w)
-      goes_good most Runs here e =
-          let i : HasStarted f.tasks = runs_started pure (w.handlers h).answer f (ap is_awaiting e) is in
-          settles_good most (moves s f.current (point_of f (w.handlers h).objects)) f below here at
-          (moves_calm s f.current (point_of f (w.handlers h).objects) i) i is.1 more
-      goes_good most Reserves here e = reserves_good (may_reserve (entry_needs h f w) f.mark w) (entry_needs h f w)
-          (record f { stage = Runs; reserved = entry_needs h f w }) f below at is
-          (inl (runs_started pure (w.handlers h).answer f (ap is_awaiting e) is), is.1) more
-      goes_good most ReservesBlock here e =
-          reserves_good (may_reserve (block_needs h f w) [] w) (block_needs h f w)
-          (record f { stage = Runs; blocks = block_needs h f w ∷ f.blocks }) f below at is
-          (inl (runs_started pure (w.handlers h).answer f (ap is_awaiting e) is), is.1) more
-      goes_good most (InCall gives) here e = fails_good cause.BadCode [] w
-      goes_good most (Awaits k gives c) here e = waits_good k gives c (w.handlers h).callback (w.handlers h).answer refl

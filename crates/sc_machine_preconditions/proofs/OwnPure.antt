@@ -30,46 +30,22 @@ use Rattle.sc_model.specs.Runs.{IsReached}
 use Rattle.sc_machine_rights.specs.Headline.{is_awaiting}
 use Rattle.sc_machine_rights.proofs.links.Looks.{m_put-own}
 use Rattle.sc_machine_values.specs.Fitting.{FrameFits, Linked}
-use Rattle.sc_machine_values.specs.Fitting as fitting
 use Rattle.sc_machine_values.specs.Points.{Each}
 use Rattle.sc_refines_core.specs.Calm.{name_of}
 use Rattle.sc_refines_core.specs.Entries.{HasStarted}
 use Rattle.sc_refines_core.proofs.GuardedSteps.{pure_waits_not}
 use Rattle.sc_machine_clauses.specs.Evaluating.{Answers}
 use Rattle.sc_machine_clauses.specs.Laws.{AnswersMore, TextsAreWithoutTests}
-use Rattle.sc_machine_preconditions.specs.Following.{objects_of, MayAsk, Own, AreBound, bound_in, PureAt, PureCalls, ClausesAt, IsFor, AboveIsFor, FollowsPure, is_called, IsCalledPure, IsLost, AboveIsPure, StandsByStage, InPrecondition, FrameFollows, StackFollows}
+use Rattle.sc_machine_preconditions.specs.Following.{objects_of, MayAsk, Own, AreBound, bound_in, PureAt, PureCalls, ClausesAt, IsFor, AboveIsFor, FollowsPure, IsLost, AboveIsPure, StandsByStage, InPrecondition, FrameFollows, StackFollows}
 use Rattle.sc_machine_preconditions.specs.Points.{ClauseMoves, GoesOn, KeepsActuals, HasRun, IsThisCall, PureActs, PureSteps, PureMoves}
 use Rattle.sc_machine_preconditions.proofs.PointsEntries.{clause_goes_on, pure_calls_more, pure_goes_on, pure_answers}
 use Rattle.sc_machine_preconditions.proofs.OwnWorlds.{IsNoReply, none_released}
 use Rattle.sc_machine_preconditions.proofs.OwnKept.{IsAlike, AllPlain, below_kept, not_awaited, plain_below, plain_kept}
-use Rattle.sc_machine_preconditions.proofs.OwnPlain.{plain, finish_good, release_good, stack_good, refuses_good}
+use Rattle.sc_machine_preconditions.proofs.OwnPlain.{finish_good, release_good, stack_good, refuses_good}
+use Rattle.sc_machine_preconditions.proofs.OwnCalm.{plain}
 use Rattle.sc_machine_preconditions.proofs.OwnEntries.{entry_follows_there}
 use Rattle.sc_machine_preconditions.proofs.OwnMoves.{Follow, Before, moved_in, at_stage, either_follow, fails_follow, stack_follows, same_stack, stands_before, moved_stack, moved_alone, enters_follow, entry_for, entry_pure, entered_so, calls_there}
-use Rattle.sc_machine_preconditions.proofs.Lists.{first_of}
-
--- ---- the frame below a routine that its own handler called
-
-not_called : (c : Calling) (r : Request) (A : Type 0) → Called c ≡ Requested r → A
-not_called c r A e = cc
-
-not_requested : (f : Frame) (pure : RoutineName → Bool) (r : Request) → f.origin ≡ Requested r → IsCalledPure pure f → ⊥
-not_requested f pure r e (called, is) = by f.origin e called
-  where
-    by : (o : Origin) → o ≡ Requested r → is_called o ≡ true → ⊥
-    by (Called c) e i = not_called c r ⊥ e
-    by (Requested q) e i = cc
-
-pub in_call : (s : System) (h : ℕ) (f g : Frame) (more : List Frame) (c : Calling) → f.origin ≡ Called c →
-    Linked s h (f ∷ g ∷ more) →
-    (t : Option EntityType) × (g.stage ≡ InCall t)
-in_call s h f g more c origin_is linked = by f (g ∷ more) refl refl linked
-  where
-    by : (f' : Frame) (st : List Frame) → f' ≡ f → st ≡ g ∷ more → Linked s h (f' ∷ st) → (t : Option EntityType)
-        × (g.stage ≡ InCall t)
-    by f' st i j (fitting.alone {r = q} is gives rest) =
-        not_called c q _ (sym origin_is ∙ ap (λ (k : Frame). k.origin) (sym i) ∙ is)
-    by f' _ i j (fitting.called {g = k} {below = rest} {t} is calls gives linked) =
-        (t, ap (λ (k : Frame). k.stage) (sym (first_of j)) ∙ calls)
+use Rattle.sc_machine_preconditions.proofs.OwnCalled.{not_requested, in_call, started}
 
 module _ (without_tests : TextsAreWithoutTests) (clauses_moved : ClauseMoves) (pures_moved : PureMoves)
     (answers_more : AnswersMore)
@@ -392,28 +368,13 @@ module _ (without_tests : TextsAreWithoutTests) (clauses_moved : ClauseMoves) (p
 
   -- ---- its move
 
-  started : (a : Act) (p : Point) → (a ≡ Until) ⊎ (a ≡ Starts) → Before s pure w h f (Does a p) → HasStarted p.tasks
-  started a p e b = by e
-    where
-      tested : Before s pure w h f (Does Until p) → HasStarted p.tasks
-      tested (inl i) = i
-      tested (inr (asked, quiet, env, m)) = absurd m
-
-      begun : Before s pure w h f (Does Starts p) → HasStarted p.tasks
-      begun (inl i) = i
-      begun (inr (asked, quiet, env, m)) = m.1
-
-      by : (a ≡ Until) ⊎ (a ≡ Starts) → HasStarted p.tasks
-      by (inl i) = tested (subst (λ (a : Act). Before s pure w h f (Does a p)) i b)
-      by (inr i) = begun (subst (λ (a : Act). Before s pure w h f (Does a p)) i b)
-
   acts_on : (a : Act) (p : Point) → PureActs s pure O f.current f.routine (bound_in f) a p →
       Before s pure w h f (Does a p) →
       Follow s pure h (effect most s h a (frame_at f p) below (moved_in w h f below p))
   acts_on (Prints text) p m b = absurd m
-  acts_on Until p m b = runs_on p m.1 m.0 (started Until p (inl refl) b)
+  acts_on Until p m b = runs_on p m.1 m.0 (started s pure w h f Until p (inl refl) b)
   acts_on Creates p m b = absurd m
-  acts_on Starts p m b = runs_on p m.1 m.0 (started Starts p (inr refl) b)
+  acts_on Starts p m b = runs_on p m.1 m.0 (started s pure w h f Starts p (inr refl) b)
   acts_on (CreatesHandler class procedure us t passing) p m b = absurd m
   acts_on (Enters c o x us gives) p m b = calls_on c o x us gives p m b (objects_same p m.5)
   acts_on (Requests o x us gives passing) p m b = absurd m

@@ -1,11 +1,11 @@
 -- The body of a routine leaves its actuals as they are: they stay the first names that are known.
-use Rattle.std.proofs.Common.{ℕ, suc, ◌+◌, ◌≡◌, Bool, true, false, List, [], ◌∷◌, ◌++◌, Option, Some, None, refl, sym, ap, subst, ◌∙◌, arith}
-use Rattle.std.specs.Prelude.{length, take, map, bytes_eq, cond, nat_lt, slice_get}
+use Rattle.std.proofs.Common.{ℕ, ◌+◌, ◌≡◌, Bool, true, false, List, [], ◌∷◌, ◌++◌, Option, Some, None, refl, sym, ap, subst, ◌∙◌}
+use Rattle.std.specs.Prelude.{length, take, map, cond, nat_lt, slice_get}
 use Rattle.std.proofs.lemmas.List.{append_assoc}
 use Rattle.sc_tree.specs.declared.expression.UnaryOperator.TheVariants as unary
 use Rattle.sc_tree.specs.declared.expression.BinaryOperator.{BinaryOperator}
 use Rattle.sc_tree.specs.Plain as tree
-use Rattle.sc_tree.specs.Plain.{System, Clause, Declaration, DeclaredType, FeatureKind, Head, Name, Variable, Named, ResultVariable, Exprs, no_exprs, expr_then, Instr, Instrs, no_instrs, instr_then, Branches, no_branches, branch_then}
+use Rattle.sc_tree.specs.Plain.{System, Clause, DeclaredType, FeatureKind, Head, Name, Variable, Named, ResultVariable, Exprs, no_exprs, expr_then, Instr, Instrs, no_instrs, instr_then, Branches, no_branches, branch_then}
 use Rattle.sc_tree.specs.Properties.{is_print}
 use Rattle.sc_class.specs.declared.identity.ClassId.{ClassId}
 use Rattle.sc_class.specs.declared.identity.ClassId.TheVariants as class
@@ -13,102 +13,30 @@ use Rattle.sc_class.specs.Tables.Features.{DeclaredFeature, feature_named}
 use Rattle.sc_proctype.specs.declared.tag.Tag.{Tag}
 use Rattle.sc_proctype.specs.declared.tag.Tag.TheVariants as tag
 use Rattle.sc_proctype.specs.declared.entity_type.EntityType.{EntityType}
-use Rattle.sc_rules.specs.declared.position.Role.{Role}
 use Rattle.sc_rules.specs.declared.position.Role.TheVariants as role
 use Rattle.sc_rules.specs.CallRules.{count}
-use Rattle.sc_rules.specs.Names.{Entity, assignee_of_feature, assignee_of_kind, assignee_of_result, assignee_or, assignee_type, current, entity_named, given_type, is_local, reserved, test_type, to_local, unassignable}
-use Rattle.sc_rules.specs.Types.{declared_type}
+use Rattle.sc_rules.specs.Names.{Entity, assignee_of_feature, assignee_of_kind, assignee_of_result, assignee_or, assignee_type, current, entity_named, given_type, is_local, test_type, to_local, unassignable}
 use Rattle.sc_model.specs.Creations.{assigned_at, creates, creates_as, creates_at, creates_object}
 use Rattle.sc_model.specs.declared.cause.Cause.{Cause}
 use Rattle.sc_model.specs.declared.cause.Cause.TheVariants as cause
-use Rattle.sc_model.specs.Environments.{Binding, assigned_to, bind, binding_named, formals_bound, handler_named, is_formal, known_of, locals_bound, scope_of, with_binding}
+use Rattle.sc_model.specs.Environments.{Binding, assigned_to, bind, binding_named, handler_named, locals_bound, scope_of}
 use Rattle.sc_model.specs.Expressions.{begins_feature, begins_kind, begins_name, decided_by, evals_right, evaluate, gives_found, reads_own, reads_result}
 use Rattle.sc_model.specs.Instructions.{actuals_of, assigns, begins, begins_routine, chooses, chooses_other, ends_loop, opens, prints, procedure_of, tests}
 use Rattle.sc_model.specs.Invariants.{meets_invariant}
 use Rattle.sc_model.specs.Limits.{max_objects}
-use Rattle.sc_model.specs.Moves.{performs, step, step_at}
-use Rattle.sc_model.specs.Objects.{Object, attributes_of, fresh_object}
+use Rattle.sc_model.specs.Moves.{performs}
+use Rattle.sc_model.specs.Objects.{attributes_of, fresh_object}
 use Rattle.sc_model.specs.ObjectTests.{binds, binds_if, is_tested}
 use Rattle.sc_model.specs.Olds.{olds_in}
 use Rattle.sc_model.specs.Operators.{is_short}
-use Rattle.sc_model.specs.Routines.{Routine, place_in}
+use Rattle.sc_model.specs.Routines.{place_in}
 use Rattle.sc_model.specs.Steps.{Prints, Until, Creates, CreatesHandler, Enters, Requests, Starts, Refuses, Opens, Leaves, Exits, Fails, Point, Step, Goes, Does, fails, forgets, gives, popped, reads_as, reads_attribute}
 use Rattle.sc_model.specs.Tasks.{Task, Do, In, Declare, Forget, Eval, ApplyUnary, EvalRight, ApplyBinary, Conclude, Bind, CallUnqualified, CallQualified, AssignTo, Print, Choose, Repeat, EndLoop, Checked, Require, Required, KeepOld, Ensured, CreateBy, Open, Leave, checks, evals, head_evals}
 use Rattle.sc_model.specs.Values.{Reference, Value, Integer, Boolean, Void, Attached, Operand}
 use Rattle.sc_machine_values.specs.Points.{Each}
-use Rattle.sc_machine_clauses.specs.Evaluating.{Reaches, begins as at_first, goes, tests as tested, enters, requests}
 use Rattle.sc_machine_clauses.specs.Laws.{StaysInContract, StepOfContract, StepsInContract}
 use Rattle.sc_machine_clauses.specs.Texts.{IsOfContract}
-use Rattle.sc_machine_preconditions.specs.Following.{AreBound}
-
--- ---- the actuals are formals
-
-abbrev pub AreFormals : List Binding → Type 0
-AreFormals bs = Each (λ (b : Binding). is_formal b.role ≡ true) bs
-
-formals_are : (s : System) (all : List Declaration) (i : ℕ) (ds : List Declaration) (vs : List Value)
-    (bs : List Binding) → formals_bound s all i ds vs ≡ Some bs → AreFormals bs
-formals_are s all i [] [] bs e = let none : [] ≡ bs = cc in subst AreFormals none tt
-formals_are s all i [] (v ∷ vs) bs e = cc
-formals_are s all i (d ∷ ds) [] bs e = cc
-formals_are s all i (d ∷ ds) (v ∷ vs) bs e =
-    by (declared_type s all d.declared_type) (formals_bound s all (i + 1) ds vs)
-    (λ cs j. formals_are s all (i + 1) ds vs cs j) e
-  where
-    by : (o : Option EntityType) (rest : Option (List Binding)) →
-        ((cs : List Binding) → rest ≡ Some cs → AreFormals cs) →
-        with_binding o d.name.text i v rest ≡ Some bs → AreFormals bs
-    by None rest others e = cc
-    by (Some t) None others e = cc
-    by (Some t) (Some cs) others e =
-        let same : bind d.name.text (reserved i t) role.Formal v ∷ cs ≡ bs = cc in
-        subst AreFormals same (refl, others cs refl)
-
-pub bound_formals : (s : System) (r : Routine) (bs : List Binding) → AreBound s r bs → AreFormals bs
-bound_formals s r bs (vs, e) = formals_are s r.text.formals 0 r.text.formals vs bs e
-
--- so many, and more, are taken of two lists
-take_past : {A : Type 0} (xs ys : List A) (m : ℕ) → take (length xs + m) (xs ++ ys) ≡ xs ++ take m ys
-take_past [] ys m = ap (λ (n : ℕ). take n ys) (let e : 0 + m ≡ m = omega arith in e)
-take_past (x ∷ xs) ys m =
-    ap (λ (n : ℕ). take n (x ∷ xs ++ ys)) (let e : suc (length xs) + m ≡ suc (length xs + m) = omega arith in e)
-    ∙ ap (λ zs. x ∷ zs) (take_past xs ys m)
-
-pub take_these : {A : Type 0} (xs ys : List A) → take (length xs) (xs ++ ys) ≡ xs
-take_these [] ys = refl
-take_these (x ∷ xs) ys = ap (λ zs. x ∷ zs) (take_these xs ys)
-
-length_past : {A : Type 0} (xs ys : List A) → length (xs ++ ys) ≡ length xs + length ys
-length_past [] ys = let e : length ys ≡ 0 + length ys = omega arith in e
-length_past (x ∷ xs) ys = ap suc (length_past xs ys)
-    ∙ (let e : suc (length xs + length ys) ≡ suc (length xs) + length ys = omega arith in e)
-
--- a formal is no local
-formal_not_local : (r : Role) → is_formal r ≡ true → is_local r ≡ true → ⊥
-formal_not_local role.Formal e i = cc
-formal_not_local role.Local e i = cc
-formal_not_local role.Test e i = cc
-formal_not_local role.Block e i = cc
-
--- Where a local is assigned, the formals before it stay.
-assigned_behind : (x : List ℕ) (v : Value) (e : Entity) (cs more : List Binding) → AreFormals cs →
-    entity_named x (scope_of (cs ++ more)) ≡ Some e → is_local e.role ≡ true →
-    (ms : List Binding) × (assigned_to x v (cs ++ more) ≡ cs ++ ms)
-assigned_behind x v e [] more f i l = (assigned_to x v more, refl)
-assigned_behind x v e (b ∷ cs) more f i l = by (bytes_eq b.name x) refl (λ i. assigned_behind x v e cs more f.1 i l) i
-  where
-    by : (c : Bool) → bytes_eq b.name x ≡ c →
-        (entity_named x (scope_of (cs ++ more)) ≡ Some e → (ms : List Binding)
-        × (assigned_to x v (cs ++ more) ≡ cs ++ ms)) →
-        cond c (Some (known_of b)) (entity_named x (scope_of (cs ++ more))) ≡ Some e →
-        (ms : List Binding) × (cond c (record b { value = v } ∷ cs ++ more) (b ∷ assigned_to x v (cs ++ more))
-        ≡ b ∷ cs ++ ms)
-    by true j others i =
-        let same : known_of b ≡ e = cc in
-        absurd (formal_not_local b.role f.0 (ap (λ (e : Entity). is_local e.role) same ∙ l))
-    by false j others i = let z = others i in (z.0, ap (λ ms. b ∷ ms) z.1)
-
--- ---- steps
+use Rattle.sc_machine_preconditions.proofs.PointsFormals.{AreFormals, take_past, length_past, assigned_behind}
 
 module _ (contract : StepOfContract) (s : System) (me : Reference) (bs : List Binding) (formal : AreFormals bs) where
   -- these are the first names
@@ -424,7 +352,7 @@ module _ (contract : StepOfContract) (s : System) (me : Reference) (bs : List Bi
       by (Does Leaves q) y = tt
       by (Does Exits q) y = tt
 
-  performs_firm : (t : Task) (vs : List Operand) (p : Point) → p.values ≡ vs → IsBehind t → Has p.environment →
+  pub performs_firm : (t : Task) (vs : List Operand) (p : Point) → p.values ≡ vs → IsBehind t → Has p.environment →
       Left p.tasks → Firm (performs s me t vs p)
   performs_firm (Do no_instrs) vs p e o h l = (h, l)
   performs_firm (Do (instr_then i is)) vs p e o h l = begins_firm i (record p { tasks = Do is ∷ p.tasks }) h (tt, l)
@@ -470,28 +398,3 @@ module _ (contract : StepOfContract) (s : System) (me : Reference) (bs : List Bi
   performs_firm (EndLoop until body) (u ∷ vs) p e o h l =
       ends_loop_firm u.value until body (record p { values = vs }) h l
   performs_firm Checked (u ∷ vs) p e o h l = tests_firm cause.Check u.value (record p { values = vs }) h l
-
-  step_firm : (p : Point) → Has p.environment → Left p.tasks → Firm (step s me p)
-  step_firm p h l = by p.tasks refl
-    where
-      by : (ts : List Task) → p.tasks ≡ ts → Firm (step_at s me ts p)
-      by [] e = tt
-      by (t ∷ rest) e = let l : Left (t ∷ rest) = subst Left e l in
-          performs_firm t p.values (record p { tasks = rest }) refl l.0 h l.1
-
-  -- ---- evaluations
-
-  module _ (M : ℕ → Type 0) (O : ℕ → List Object) where
-    pub after_firm : (p : Point) → Has p.environment × Left p.tasks → (x : Step) → step s me p ≡ x → Firm x
-    after_firm p z x e = subst Firm e (step_firm p z.0 z.1)
-
-    -- So it is of all that the evaluation reaches.
-    pub reaches_firm : (p q : Point) → Has p.environment × Left p.tasks → Reaches s M O me p q →
-        Has q.environment × Left q.tasks
-    reaches_firm p _ z at_first = z
-    reaches_firm p r z (goes {q} before e) = after_firm q (reaches_firm p q z before) (Goes r) e
-    reaches_firm p r z (tested {q} before e) = after_firm q (reaches_firm p q z before) (Does Until r) e
-    reaches_firm p _ z (enters {o = a} {q} {r} {c} {x} {us} {t} {v} before e answers) =
-        after_firm q (reaches_firm p q z before) (Does (Enters c a x us (Some t)) r) e
-    reaches_firm p _ z (requests {o = a} {q} {r} {x} {us} {t} {passing} {v} before e answers) =
-        after_firm q (reaches_firm p q z before) (Does (Requests a x us (Some t) passing) r) e

@@ -38,7 +38,9 @@ use Rattle.sc_machine_clauses.specs.Texts.{IsOfContract}
 use Rattle.sc_machine_preconditions.specs.Following.{AreBound, HasDone, IsAt, Own, PureAt, PureCalls, behind_body, body_tasks, start_of}
 use Rattle.sc_machine_preconditions.specs.Following as at
 use Rattle.sc_machine_preconditions.specs.Points.{HasRun, IsThisCall, PureSteps}
-use Rattle.sc_machine_preconditions.proofs.PointsBound.{Has, Left, after_firm, bound_formals, reaches_firm, take_these}
+use Rattle.sc_machine_preconditions.proofs.PointsBound.{Has, Left}
+use Rattle.sc_machine_preconditions.proofs.PointsEvaluated.{after_firm, reaches_firm}
+use Rattle.sc_machine_preconditions.proofs.PointsFormals.{bound_formals, take_these}
 use Rattle.sc_machine_preconditions.proofs.PointsEntries.{bound_length, takes_bound}
 use Rattle.sc_machine_preconditions.proofs.PointsFunctions.{gives_value, none_at_text, result_there}
 use Rattle.sc_machine_preconditions.proofs.PointsSteps.{Stepped, step_within}
