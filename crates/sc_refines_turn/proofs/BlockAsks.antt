@@ -34,8 +34,9 @@ use Rattle.sc_refines_turn.specs.Reserving.{BlocksAsk, MayOpen}
 use Rattle.sc_refines_turn.proofs.TurnAsks.{asked_is, told_by}
 use Rattle.sc_refines_turn.proofs.SilentOperations.{meets}
 use Rattle.sc_refines_turn.proofs.PassedOperations.{act_same, state_same}
-use Rattle.sc_refines_turn.proofs.Quiet.{opens_here}
-use Rattle.sc_refines_turn.proofs.StageChanges.{opens_is, values_taken}
+use Rattle.sc_refines_turn.proofs.QuietSteps.{opens_here}
+use Rattle.sc_refines_turn.proofs.StageChanges.{values_taken}
+use Rattle.sc_refines_turn.proofs.SeenRequests.{opens_is}
 
 -- ---- what is seen
 

@@ -57,7 +57,7 @@ use Rattle.sc_refines_turn.specs.Acting.{AreWhole, Comes, Meets, RoutinesEnd, Ta
 use Rattle.sc_refines_turn.proofs.SilentOperations.{meets}
 use Rattle.sc_refines_turn.proofs.MetInvariants.{object_meets_same, still_settles}
 use Rattle.sc_refines_turn.proofs.PassedOperations.{act_same, state_same, stays, turn_is}
-use Rattle.sc_refines_turn.proofs.Quiet.{exits_here}
+use Rattle.sc_refines_turn.proofs.QuietSteps.{exits_here}
 use Rattle.sc_refines_turn.proofs.ShownSteps.{exits_is}
 use Rattle.sc_refines_turn.proofs.ProgramRoutines.{CodeAt, code_at, frames_still}
 

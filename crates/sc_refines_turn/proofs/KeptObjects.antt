@@ -1,6 +1,6 @@
 -- What steps of a routine leave of the objects of its handler: attributes get values, and a creation adds an object.
-use Rattle.std.proofs.Common.{◌≡◌, ◌≤◌, ◌<◌, ℕ, ℤ, zero, suc, ◌+◌, ◌-◌, List, [], ◌∷◌, ◌++◌, Option, Some, None, Ok, Err, Bool, true, false, refl, sym, ap, ◌∙◌, subst, arith, length-append}
-use Rattle.std.specs.Prelude.{bytes_eq, if◌then◌else◌, slice_get, slice_set, ◌==◌, length, nat_lt}
+use Rattle.std.proofs.Common.{◌≡◌, ℕ, ℤ, ◌+◌, List, [], ◌∷◌, ◌++◌, Option, Some, None, Ok, Err, Bool, true, false}
+use Rattle.std.specs.Prelude.{if◌then◌else◌, slice_get, ◌==◌, length, nat_lt}
 use Rattle.sc_formula.specs.declared.arithmetic.ArithmeticFault.TheVariants as fault
 use Rattle.sc_formula.specs.declared.arithmetic.ArithmeticOperator.{ArithmeticOperator}
 use Rattle.sc_formula.specs.declared.comparison.Comparison.{Comparison}
@@ -10,7 +10,7 @@ use Rattle.sc_tree.specs.declared.expression.UnaryOperator.{UnaryOperator}
 use Rattle.sc_tree.specs.declared.expression.UnaryOperator.TheVariants as unary
 use Rattle.sc_tree.specs.declared.expression.BinaryOperator.{BinaryOperator}
 use Rattle.sc_tree.specs.Plain as tree
-use Rattle.sc_tree.specs.Plain.{System, FeatureKind, DeclaredType, Clause, Head, Name, Variable, Named, ResultVariable, CreationCall, Exprs, no_exprs, expr_then, Instr, Instrs, no_instrs, instr_then, Branches, no_branches, branch_then}
+use Rattle.sc_tree.specs.Plain.{System, FeatureKind, DeclaredType, Clause, Name, Variable, Named, ResultVariable, Exprs, no_exprs, expr_then, Instr, Instrs, Branches, no_branches, branch_then}
 use Rattle.sc_class.specs.declared.identity.ClassId.{ClassId}
 use Rattle.sc_class.specs.declared.identity.ClassId.TheVariants as class
 use Rattle.sc_tree.specs.Properties.{is_print}
@@ -18,28 +18,23 @@ use Rattle.sc_class.specs.Tables.Features.{DeclaredFeature, feature_named}
 use Rattle.sc_proctype.specs.declared.tag.Tag.{Tag}
 use Rattle.sc_proctype.specs.declared.tag.Tag.TheVariants as tag
 use Rattle.sc_proctype.specs.declared.entity_type.EntityType.{EntityType}
-use Rattle.sc_rules.specs.Names.{Assignee, unknown_assignee, unassignable, to_local, to_attribute, assignee_type, Signature, signature_of, current, given_type, test_type}
+use Rattle.sc_rules.specs.Names.{Assignee, unknown_assignee, unassignable, to_local, to_attribute, assignee_type, Signature, signature_of, current, given_type}
 use Rattle.sc_model.specs.declared.cause.Cause.{Cause}
 use Rattle.sc_model.specs.declared.cause.Cause.TheVariants as cause
 use Rattle.sc_model.specs.Values.{Reference, Value, Integer, Boolean, Void, Attached, Operand}
 use Rattle.sc_model.specs.Environments.{Binding, assigned_to, binding_named, handler_named}
-use Rattle.sc_model.specs.Objects.{Object, object_numbered, attributes_in, attributes_of, fresh_object, with_attributes, with_object}
+use Rattle.sc_model.specs.Objects.{Object, object_numbered, attributes_of, fresh_object, with_attributes}
 use Rattle.sc_model.specs.Invariants.{meets_invariant}
-use Rattle.sc_model.specs.Operators.{arithmetic_of, comparison_of, connective_of, identity_of, is_short}
+use Rattle.sc_model.specs.Operators.{arithmetic_of, comparison_of, connective_of, identity_of}
 use Rattle.sc_model.specs.Routines.{place_in, version_of}
 use Rattle.sc_model.specs.Limits.{max_objects}
-use Rattle.sc_model.specs.Tasks.{Task, Do, In, Declare, Forget, Eval, ApplyUnary, EvalRight, ApplyBinary, Conclude, Bind, CallUnqualified, CallQualified, AssignTo, Print, Choose, Repeat, EndLoop, Checked, Require, Required, KeepOld, Ensured, CreateBy, Open, Leave}
-use Rattle.sc_model.specs.Steps.{Point, Act, Creates, Fails, Step, Goes, Does, fails, gives, reads_as, reads_attribute, popped, forgets}
+use Rattle.sc_model.specs.Tasks.{Task, AssignTo, CreateBy}
+use Rattle.sc_model.specs.Steps.{Point, Creates, Fails, Step, Goes, Does, fails, gives, reads_as, reads_attribute, forgets}
 use Rattle.sc_model.specs.Calls.{given_by, passes_rights, enters_unqualified, calls_own, calls_unqualified, calls_kind, calls_version, requests, calls_object, calls_on, calls_qualified}
 use Rattle.sc_model.specs.Creations.{creates_object, creates_here, creates_at, creates_as, creates, assigned_at}
 use Rattle.sc_model.specs.ObjectTests.{is_tested, binds_if, binds}
-use Rattle.sc_model.specs.Expressions.{gives_outcome, gives_truth, apply_unary, apply_to_integers, apply_to_booleans, is_same_object, apply_binary, applies, decided_by, evals_right, concludes, gives_found, reads_result, reads_own, begins_kind, begins_feature, begins_name, evaluate}
+use Rattle.sc_model.specs.Expressions.{gives_outcome, gives_truth, apply_unary, apply_to_integers, apply_to_booleans, is_same_object, apply_binary, applies, evals_right, concludes, gives_found, reads_result, reads_own, begins_kind, begins_feature, begins_name, evaluate}
 use Rattle.sc_model.specs.Instructions.{assigns, prints, chooses_other, chooses, ends_loop, tests, required, opens, begins_routine, begins}
-use Rattle.sc_model.specs.Sizes.{size}
-use Rattle.sc_model.specs.Moves.{performs_on, performs, step_at, step, then_go, first_visible, moves}
-use Rattle.sc_acts.proofs.Options.{none_some, some_same}
-use Rattle.sc_refines_turn.specs.Halves.{AreComplete, IsComplete}
-use Rattle.sc_refines_turn.proofs.Slots.{set_many}
 
 -- The next task of the point is a creation.
 pub record CreatesNext (p : Point) : Type 0 where
@@ -64,7 +59,7 @@ Moved P Q (Does Creates p) = Q p.objects
 Moved P Q (Does (Fails cause.Invariant) p) = Q p.objects
 Moved P Q (Does a p) = P p.objects
 
-loosen : (P Q : List Object → Type 0) (start : Point) (st : Step) → Keeps P Q start st → Moved P Q st
+pub loosen : (P Q : List Object → Type 0) (start : Point) (st : Step) → Keeps P Q start st → Moved P Q st
 loosen P Q start (Goes p) h = h
 loosen P Q start (Does (Fails cause.TooManyObjects) p) h = h.0
 loosen P Q start (Does a p) h = h
@@ -98,7 +93,7 @@ module _ (P Q : List Object → Type 0) (s : System) (weaker : (os : List Object
     truth_kept None p h = h
     truth_kept (Some b) p h = h
 
-    unary_kept : (op : UnaryOperator) (v : Value) (p : Point) → P p.objects → Keeps P Q start (apply_unary op v p)
+    pub unary_kept : (op : UnaryOperator) (v : Value) (p : Point) → P p.objects → Keeps P Q start (apply_unary op v p)
     unary_kept unary.Not (Boolean b) p h = h
     unary_kept unary.Plus (Integer z) p h = h
     unary_kept unary.Minus (Integer z) p h = outcome_kept (opposite_of z) p h
@@ -140,16 +135,16 @@ module _ (P Q : List Object → Type 0) (s : System) (weaker : (os : List Object
     binary_kept op Void (Integer b) p h = h
     binary_kept op Void (Boolean b) p h = h
 
-    applies_kept : (op : BinaryOperator) (v : Value) (vs : List Operand) (p : Point) → P p.objects → Keeps P Q start (applies op v vs p)
+    pub applies_kept : (op : BinaryOperator) (v : Value) (vs : List Operand) (p : Point) → P p.objects → Keeps P Q start (applies op v vs p)
     applies_kept op v [] p h = h
     applies_kept op v (u ∷ vs) p h = binary_kept op u.value v (record p { values = vs }) h
 
-    right_kept : (d : Option Bool) (short : Bool) (op : BinaryOperator) (i : ℕ) (e : tree.Expr) (u : Operand) (p : Point) → P p.objects → Keeps P Q start (evals_right d short op i e u p)
+    pub right_kept : (d : Option Bool) (short : Bool) (op : BinaryOperator) (i : ℕ) (e : tree.Expr) (u : Operand) (p : Point) → P p.objects → Keeps P Q start (evals_right d short op i e u p)
     right_kept (Some b) short op i e u p h = h
     right_kept None true op i e u p h = h
     right_kept None false op i e u p h = h
 
-    concludes_kept : (v : Value) (p : Point) → P p.objects → Keeps P Q start (concludes v p)
+    pub concludes_kept : (v : Value) (p : Point) → P p.objects → Keeps P Q start (concludes v p)
     concludes_kept (Boolean b) p h = h
     concludes_kept (Integer z) p h = h
     concludes_kept Void p h = h
@@ -161,7 +156,7 @@ module _ (P Q : List Object → Type 0) (s : System) (weaker : (os : List Object
     binds_if_kept true x v t p h = h
     binds_if_kept false x v t p h = h
 
-    binds_kept : (me : ℕ) (d : Option DeclaredType) (x : List ℕ) (v : Value) (t : Option EntityType) (p : Point) → P p.objects → Keeps P Q start (binds s me d x v t p)
+    pub binds_kept : (me : ℕ) (d : Option DeclaredType) (x : List ℕ) (v : Value) (t : Option EntityType) (p : Point) → P p.objects → Keeps P Q start (binds s me d x v t p)
     binds_kept me d x v None p h = h
     binds_kept me d x v (Some t) p h = binds_if_kept (is_tested s me (handler_named p.environment) v d t) x v t p h
 
@@ -175,7 +170,7 @@ module _ (P Q : List Object → Type 0) (s : System) (weaker : (os : List Object
     own_kept me x None us p h = h
     own_kept me x (Some f) us p h = enters_kept me x us (given_by (signature_of s (current (place_in s p.text)) f).gives) p h
 
-    unqualified_kept : (me : Reference) (x : List ℕ) (us : Option (List Operand × List Operand)) (p : Point) → P p.objects → Keeps P Q start (calls_unqualified s me x us p)
+    pub unqualified_kept : (me : Reference) (x : List ℕ) (us : Option (List Operand × List Operand)) (p : Point) → P p.objects → Keeps P Q start (calls_unqualified s me x us p)
     unqualified_kept me x None p h = h
     unqualified_kept me x (Some (us, vs)) p h = own_kept me x (feature_named s (class.Declared p.text.class) x) us (record p { values = vs }) h
 
@@ -210,7 +205,7 @@ module _ (P Q : List Object → Type 0) (s : System) (weaker : (os : List Object
     on_value_kept me x (Attached r) t None us p h = h
     on_value_kept me x (Attached r) t (Some f) us p h = object_kept me r t x us (signature_of s t f) (given_by (signature_of s t f).gives) p h
 
-    qualified_kept : (me : Reference) (x : List ℕ) (us : Option (List Operand × List Operand)) (p : Point) → P p.objects → Keeps P Q start (calls_qualified s me x us p)
+    pub qualified_kept : (me : Reference) (x : List ℕ) (us : Option (List Operand × List Operand)) (p : Point) → P p.objects → Keeps P Q start (calls_qualified s me x us p)
     qualified_kept me x None p h = h
     qualified_kept me x (Some (us, [])) p h = h
     qualified_kept me x (Some (us, v ∷ vs)) p h = on_value_kept me x v.value v.type (feature_named s v.type.class x) us (record p { values = vs }) h
@@ -246,7 +241,7 @@ module _ (P Q : List Object → Type 0) (s : System) (weaker : (os : List Object
     creates_as_kept me call None us p next h = h
     creates_as_kept me call (Some t) us p next h = creates_at_kept me call t t.tag t.class us p next h
 
-    creates_kept : (me : Reference) (x : Variable) (call : Option (List ℕ)) (us : Option (List Operand × List Operand)) (p : Point) → CreatesNext start → P p.objects → Keeps P Q start (creates s me x call us p)
+    pub creates_kept : (me : Reference) (x : Variable) (call : Option (List ℕ)) (us : Option (List Operand × List Operand)) (p : Point) → CreatesNext start → P p.objects → Keeps P Q start (creates s me x call us p)
     creates_kept me x call None p next h = h
     creates_kept me x call (Some (us, vs)) p next h = creates_as_kept me call (assignee_type (assigned_at s x p)) us (record p { tasks = AssignTo x ∷ p.tasks; values = vs }) next h
 
@@ -279,7 +274,7 @@ module _ (P Q : List Object → Type 0) (s : System) (weaker : (os : List Object
     begins_name_kept me x (Some b) i es p h = reads_as_kept b.type b.value b.type p h
     begins_name_kept me x None i es p h = begins_feature_kept me x (feature_named s (class.Declared p.text.class) x) i es p h
 
-    evaluate_kept : (me : Reference) (i : ℕ) (e : tree.Expr) (p : Point) → P p.objects → Keeps P Q start (evaluate s me i e p)
+    pub evaluate_kept : (me : Reference) (i : ℕ) (e : tree.Expr) (p : Point) → P p.objects → Keeps P Q start (evaluate s me i e p)
     evaluate_kept me i (tree.Integer q z) p h = h
     evaluate_kept me i (tree.Boolean q b) p h = h
     evaluate_kept me i (tree.Void q) p h = h
@@ -296,7 +291,7 @@ module _ (P Q : List Object → Type 0) (s : System) (weaker : (os : List Object
 
     -- ---- instructions
 
-    assigns_kept : (me : Reference) (x : Variable) (a : Assignee) (v : Value) (p : Point) → P p.objects → Keeps P Q start (assigns me x a v p)
+    pub assigns_kept : (me : Reference) (x : Variable) (a : Assignee) (v : Value) (p : Point) → P p.objects → Keeps P Q start (assigns me x a v p)
     assigns_kept me (Named x) (to_local t) v p h = h
     assigns_kept me (Named x) (to_attribute t) v p h = assigned me.number x.text v p.objects h
     assigns_kept me (ResultVariable q) (to_local (Some t)) v p h = h
@@ -307,7 +302,7 @@ module _ (P Q : List Object → Type 0) (s : System) (weaker : (os : List Object
     assigns_kept me (ResultVariable q) (to_local None) v p h = h
     assigns_kept me (ResultVariable q) (to_attribute t) v p h = h
 
-    prints_kept : (v : Value) (p : Point) → P p.objects → Keeps P Q start (prints v p)
+    pub prints_kept : (v : Value) (p : Point) → P p.objects → Keeps P Q start (prints v p)
     prints_kept (Integer z) p h = h
     prints_kept (Boolean b) p h = h
     prints_kept Void p h = h
@@ -317,35 +312,35 @@ module _ (P Q : List Object → Type 0) (s : System) (weaker : (os : List Object
     other_kept depth no_branches other p h = h
     other_kept depth (branch_then e b bs) other p h = h
 
-    chooses_kept : (depth : ℕ) (v : Value) (body : Instrs) (bs : Branches) (other : Instrs) (p : Point) → P p.objects → Keeps P Q start (chooses depth v body bs other p)
+    pub chooses_kept : (depth : ℕ) (v : Value) (body : Instrs) (bs : Branches) (other : Instrs) (p : Point) → P p.objects → Keeps P Q start (chooses depth v body bs other p)
     chooses_kept depth (Boolean true) body bs other p h = h
     chooses_kept depth (Boolean false) body bs other p h = other_kept depth bs other (forgets depth p) h
     chooses_kept depth (Integer z) body bs other p h = h
     chooses_kept depth Void body bs other p h = h
     chooses_kept depth (Attached r) body bs other p h = h
 
-    ends_loop_kept : (v : Value) (e : tree.Expr) (body : Instrs) (p : Point) → P p.objects → Keeps P Q start (ends_loop v e body p)
+    pub ends_loop_kept : (v : Value) (e : tree.Expr) (body : Instrs) (p : Point) → P p.objects → Keeps P Q start (ends_loop v e body p)
     ends_loop_kept (Boolean true) e body p h = h
     ends_loop_kept (Boolean false) e body p h = h
     ends_loop_kept (Integer z) e body p h = h
     ends_loop_kept Void e body p h = h
     ends_loop_kept (Attached r) e body p h = h
 
-    tests_kept : (why : Cause) (v : Value) (p : Point) → Keeps P Q start (fails why p) → P p.objects → Keeps P Q start (tests why v p)
+    pub tests_kept : (why : Cause) (v : Value) (p : Point) → Keeps P Q start (fails why p) → P p.objects → Keeps P Q start (tests why v p)
     tests_kept why (Boolean true) p f h = h
     tests_kept why (Boolean false) p f h = f
     tests_kept why (Integer z) p f h = h
     tests_kept why Void p f h = h
     tests_kept why (Attached r) p f h = h
 
-    required_kept : (k : Clause) (v : Value) (p : Point) → P p.objects → Keeps P Q start (required k v p)
+    pub required_kept : (k : Clause) (v : Value) (p : Point) → P p.objects → Keeps P Q start (required k v p)
     required_kept k (Boolean true) p h = h
     required_kept k (Boolean false) p h = h
     required_kept k (Integer z) p h = h
     required_kept k Void p h = h
     required_kept k (Attached r) p h = h
 
-    opens_kept : (xs : List Name) (body : Instrs) (us : Option (List Operand × List Operand)) (p : Point) → P p.objects → Keeps P Q start (opens xs body us p)
+    pub opens_kept : (xs : List Name) (body : Instrs) (us : Option (List Operand × List Operand)) (p : Point) → P p.objects → Keeps P Q start (opens xs body us p)
     opens_kept xs body None p h = h
     opens_kept xs body (Some (us, vs)) p h = h
 
@@ -355,7 +350,7 @@ module _ (P Q : List Object → Type 0) (s : System) (weaker : (os : List Object
     routine_kept true x (expr_then e (expr_then f es)) p h = h
     routine_kept false x es p h = h
 
-    begins_kept : (i : Instr) (p : Point) → P p.objects → Keeps P Q start (begins i p)
+    pub begins_kept : (i : Instr) (p : Point) → P p.objects → Keeps P Q start (begins i p)
     begins_kept (tree.Assign q x e) p h = h
     begins_kept (tree.PrintText q text) p h = h
     begins_kept (tree.CallRoutine q tree.no_target x es) p h = routine_kept (is_print x.text) x.text es p h
@@ -365,164 +360,3 @@ module _ (P Q : List Object → Type 0) (s : System) (weaker : (os : List Object
     begins_kept (tree.Loop q initial e body) p h = h
     begins_kept (tree.Check q ks) p h = h
     begins_kept (tree.Block q ds body) p h = h
-
-    -- ---- tasks
-
-    on_kept : (me : Reference) (t : Task) (u : Operand) (p : Point) → P p.objects → Keeps P Q start (performs_on s me t u p)
-    on_kept me (ApplyUnary op) u p h = unary_kept op u.value p h
-    on_kept me (EvalRight op i right) u p h = right_kept (decided_by op u.value) (is_short op) op i right u p h
-    on_kept me (ApplyBinary op) u p h = applies_kept op u.value p.values p h
-    on_kept me Conclude u p h = concludes_kept u.value p h
-    on_kept me (Bind d x) u p h = binds_kept me.handler d x u.value (test_type (place_in s p.text) d (Some u.type)) p h
-    on_kept me (AssignTo x) u p h = assigns_kept me x (assigned_at s x p) u.value p h
-    on_kept me Print u p h = prints_kept u.value p h
-    on_kept me (Choose depth body bs other) u p h = chooses_kept depth u.value body bs other p h
-    on_kept me (EndLoop until body) u p h = ends_loop_kept u.value until body p h
-    on_kept me Checked u p h = tests_kept cause.Check u.value p h h
-    on_kept me (Required k) u p h = required_kept k u.value p h
-    on_kept me KeepOld u p h = h
-    on_kept me Ensured u p h = tests_kept cause.Postcondition u.value p h h
-    on_kept me (Do b) u p h = h
-    on_kept me (In t) u p h = h
-    on_kept me (Declare l) u p h = h
-    on_kept me (Forget d) u p h = h
-    on_kept me (Eval i right) u p h = h
-    on_kept me (CallUnqualified x n) u p h = h
-    on_kept me (CallQualified x n) u p h = h
-    on_kept me (Repeat until b) u p h = h
-    on_kept me (Require ks) u p h = h
-    on_kept me (CreateBy x k n) u p h = h
-    on_kept me (Open xs b) u p h = h
-    on_kept me (Leave d) u p h = h
-
-    -- one task, where p.tasks is what is left behind it
-    performs_kept : (me : Reference) (t : Task) (vs : List Operand) (p : Point) → start.tasks ≡ t ∷ p.tasks → P p.objects → Keeps P Q start (performs s me t vs p)
-    performs_kept me (Do no_instrs) vs p e h = h
-    performs_kept me (Do (instr_then i is)) vs p e h =
-        begins_kept i (record p { tasks = Do is ∷ p.tasks }) h
-    performs_kept me (In text) vs p e h = h
-    performs_kept me (Declare locals) vs p e h = h
-    performs_kept me (Forget depth) vs p e h = h
-    performs_kept me (Eval i a) vs p e h = evaluate_kept me i a p h
-    performs_kept me (CallUnqualified x n) vs p e h = unqualified_kept me x (popped n [] vs) p h
-    performs_kept me (CallQualified x n) vs p e h = qualified_kept me x (popped n [] vs) p h
-    performs_kept me (Repeat until body) vs p e h = h
-    performs_kept me (Require []) vs p e h = h
-    performs_kept me (Require (k ∷ ks)) vs p e h = h
-    performs_kept me (CreateBy x k n) vs p e h =
-        creates_kept me x k (popped n [] vs) p (record { variable = x; procedure = k; count = n; rest = p.tasks; tasks = e }) h
-    performs_kept me (Open xs body) vs p e h = opens_kept xs body (popped (length xs) [] vs) p h
-    performs_kept me (Leave depth) vs p e h = h
-    performs_kept me (ApplyUnary op) [] p e h = h
-    performs_kept me (EvalRight op i right) [] p e h = h
-    performs_kept me (ApplyBinary op) [] p e h = h
-    performs_kept me Conclude [] p e h = h
-    performs_kept me (Bind d x) [] p e h = h
-    performs_kept me (AssignTo x) [] p e h = h
-    performs_kept me Print [] p e h = h
-    performs_kept me (Choose depth body bs other) [] p e h = h
-    performs_kept me (EndLoop until body) [] p e h = h
-    performs_kept me Checked [] p e h = h
-    performs_kept me (Required k) [] p e h = h
-    performs_kept me KeepOld [] p e h = h
-    performs_kept me Ensured [] p e h = h
-    performs_kept me (ApplyUnary op) (u ∷ vs) p e h = on_kept me (ApplyUnary op) u (record p { values = vs }) h
-    performs_kept me (EvalRight op i right) (u ∷ vs) p e h = on_kept me (EvalRight op i right) u (record p { values = vs }) h
-    performs_kept me (ApplyBinary op) (u ∷ vs) p e h = on_kept me (ApplyBinary op) u (record p { values = vs }) h
-    performs_kept me Conclude (u ∷ vs) p e h = on_kept me Conclude u (record p { values = vs }) h
-    performs_kept me (Bind d x) (u ∷ vs) p e h = on_kept me (Bind d x) u (record p { values = vs }) h
-    performs_kept me (AssignTo x) (u ∷ vs) p e h = on_kept me (AssignTo x) u (record p { values = vs }) h
-    performs_kept me Print (u ∷ vs) p e h = on_kept me Print u (record p { values = vs }) h
-    performs_kept me (Choose depth body bs other) (u ∷ vs) p e h = on_kept me (Choose depth body bs other) u (record p { values = vs }) h
-    performs_kept me (EndLoop until body) (u ∷ vs) p e h = on_kept me (EndLoop until body) u (record p { values = vs }) h
-    performs_kept me Checked (u ∷ vs) p e h = on_kept me Checked u (record p { values = vs }) h
-    performs_kept me (Required k) (u ∷ vs) p e h = on_kept me (Required k) u (record p { values = vs }) h
-    performs_kept me KeepOld (u ∷ vs) p e h = on_kept me KeepOld u (record p { values = vs }) h
-    performs_kept me Ensured (u ∷ vs) p e h = on_kept me Ensured u (record p { values = vs }) h
-
-    step_at_kept : (me : Reference) (ts : List Task) → start.tasks ≡ ts → P start.objects → Keeps P Q start (step_at s me ts start)
-    step_at_kept me [] e h = h
-    step_at_kept me (t ∷ ts) e h = performs_kept me t start.values (record start { tasks = ts }) e h
-
-    pub step_kept : (me : Reference) → P start.objects → Keeps P Q start (step s me start)
-    step_kept me h = step_at_kept me start.tasks refl h
-
-  then_kept : (st : Step) (go : Point → Step) → Moved P Q st → ((p : Point) → P p.objects → Moved P Q (go p)) → Moved P Q (then_go st go)
-  then_kept (Goes p) go h on = on p h
-  then_kept (Does a p) go h on = h
-
-  visible_kept : (n : ℕ) (me : Reference) (p : Point) → P p.objects → Moved P Q (first_visible n s me p)
-  visible_kept zero me p h = h
-  visible_kept (suc n) me p h = then_kept (step s me p) (first_visible n s me) (loosen P Q p (step s me p) (step_kept p me h)) (λ q i. visible_kept n me q i)
-
-  pub moves_kept : (me : Reference) (p : Point) → P p.objects → Moved P Q (moves s me p)
-  moves_kept me p h = visible_kept (suc (size p.tasks)) me p h
-
--- ---- how many objects there are
-
-length_assigned : (x : List ℕ) (v : Value) (bs : List Binding) → length (assigned_to x v bs) ≡ length bs
-length_assigned x v [] = refl
-length_assigned x v (b ∷ bs) = by (bytes_eq b.name x) (length_assigned x v bs)
-  where
-    by : (c : Bool) → length (assigned_to x v bs) ≡ length bs → length (if c then record b { value = v } ∷ bs else b ∷ assigned_to x v bs) ≡ length (b ∷ bs)
-    by true rest = refl
-    by false rest = ap (λ n. suc n) rest
-
-with_many : (n : ℕ) (bs : List Binding) (os : List Object) → length (with_attributes n bs os) ≡ length os
-with_many n bs os = by (object_numbered n os)
-  where
-    by : (o : Option Object) → length (with_object (n - 1) bs os o) ≡ length os
-    by None = refl
-    by (Some o) = set_many os (n - 1) (record o { attributes = bs })
-
--- There are no fewer objects where a routine has come to a visible step, and more where one was created without a procedure.
-pub count_kept : (n : ℕ) (s : System) (me : Reference) (p : Point) → n ≤ length p.objects → Moved (λ os. n ≤ length os) (λ os. n < length os) (moves s me p)
-count_kept n s me p l =
-    moves_kept (λ os. n ≤ length os) (λ os. n < length os) s (λ os h. omega (arith, h)) (λ k x v os h. subst (λ m. n ≤ m) (sym (with_many k (assigned_to x v (attributes_of k os)) os)) h)
-    (λ k os h. let e = length-append os (fresh_object s k ∷ []) in omega (arith, h, e)) me p l
-
--- ---- attributes
-
-module _ (s : System) where
-  complete_set : (os : List Object) (k : ℕ) (o : Object) → IsComplete s o → AreComplete s os → AreComplete s (slice_set os k o)
-  complete_set [] k o h a = tt
-  complete_set (q ∷ os) zero o h a = (h, a.1)
-  complete_set (q ∷ os) (suc k) o h a = (a.0, complete_set os k o h a.1)
-
-  complete_got : (os : List Object) (k : ℕ) (o : Object) → slice_get os k ≡ Some o → AreComplete s os → IsComplete s o
-  complete_got [] k o e a = none_some o e
-  complete_got (q ∷ os) zero o e a = subst (IsComplete s) (some_same q o e) a.0
-  complete_got (q ∷ os) (suc k) o e a = complete_got os k o e a.1
-
-  pub complete_numbered : (n : ℕ) (os : List Object) (o : Object) → object_numbered n os ≡ Some o → AreComplete s os → IsComplete s o
-  complete_numbered n os o e a = by (n == 0) e
-    where
-      by : (b : Bool) → (if b then None else slice_get os (n - 1)) ≡ Some o → IsComplete s o
-      by true e = none_some o e
-      by false e = complete_got os (n - 1) o e a
-
-  complete_assigned : (n : ℕ) (x : List ℕ) (v : Value) (os : List Object) → AreComplete s os → AreComplete s (with_attributes n (assigned_to x v (attributes_of n os)) os)
-  complete_assigned n x v os a = by (object_numbered n os) refl
-    where
-      by : (o : Option Object) → object_numbered n os ≡ o → AreComplete s (with_object (n - 1) (assigned_to x v (attributes_in o)) os o)
-      by None e = a
-      by (Some o) e =
-          complete_set os (n - 1) (record o { attributes = assigned_to x v o.attributes }) (length_assigned x v o.attributes ∙ complete_numbered n os o e a) a
-
-  complete_more : (k : ℕ) (os : List Object) → AreComplete s os → AreComplete s (os ++ fresh_object s k ∷ [])
-  complete_more k [] a = (refl, tt)
-  complete_more k (o ∷ os) a = (a.0, complete_more k os a.1)
-
-  -- Each object has as many attributes as its class where a routine has come to a visible step, if each had before.
-  pub complete_kept : (me : Reference) (p : Point) → AreComplete s p.objects → Moved (AreComplete s) (AreComplete s) (moves s me p)
-  complete_kept me p a = moves_kept (AreComplete s) (AreComplete s) s (λ os h. h) complete_assigned complete_more me p a
-
-pub moved_same : (P : List Object → Type 0) (a : Act) (p : Point) → Moved P P (Does a p) → P p.objects
-moved_same P Creates p h = h
-moved_same P (Fails cause.Invariant) p h = h
-moved_same P a p h = h
-
--- A routine that fails for too many objects is creating one.
-pub creates_next : (s : System) (me : Reference) (p q : Point) → step s me p ≡ Does (Fails cause.TooManyObjects) q → CreatesNext p
-creates_next s me p q e =
-    (subst (Keeps (λ os. Unit {0}) (λ os. Unit {0}) p) e (step_kept (λ os. Unit {0}) (λ os. Unit {0}) s (λ os h. tt) (λ n x v os h. tt) (λ k os h. tt) p me tt)).1

@@ -4,11 +4,13 @@ pub mod SilentOperations
 pub mod ShownSteps
 pub mod PassedOperations
 pub mod Quiet
+pub mod QuietSteps
 pub mod MetInvariants
 pub mod Exits
 pub mod Slots
 pub mod Refusals
 pub mod WaitedClauses
+pub mod SeenRequests
 pub mod StageChanges
 pub mod Entries
 pub mod Calls
@@ -22,8 +24,10 @@ pub mod Reservations
 pub mod CallAsks
 pub mod BlockAsks
 pub mod Attributes
+pub mod TakenAttributes
 pub mod TakenRequests
 pub mod Creators
+pub mod MadeOperations
 pub mod Turns
 pub mod Versions
 pub mod JobTurns
@@ -31,7 +35,11 @@ pub mod ToldOperations
 pub mod ValueRoom
 pub mod Formulas
 pub mod KeptObjects
+pub mod KeptMoves
 pub mod CreationRoom
+pub mod FreeStores
 pub mod SoundStores
+pub mod PlacedFrames
+pub mod PlacedOperations
 pub mod PlacedTurns
 pub mod Placed

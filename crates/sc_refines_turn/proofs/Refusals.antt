@@ -5,7 +5,6 @@ use Rattle.std.specs.List.{cons_option, list_any}
 use Rattle.std.specs.Option.{option_map, option_and_then}
 use Rattle.sc_tree.specs.Plain.{System, Clause}
 use Rattle.sc_waitcond.specs.Conditions as conditions
-use Rattle.sc_waitcond.specs.declared.condition.EntryVerdict.TheVariants as verdict
 use Rattle.sc_model.specs.declared.cause.Cause.TheVariants as cause
 use Rattle.sc_model.specs.Environments.{Binding, binding_named, is_formal, scope_of}
 use Rattle.sc_model.specs.Handlers.{Origin, Called, Requested, frame_at}
@@ -49,7 +48,8 @@ use Rattle.sc_refines_turn.specs.Acting.{AreWhole, CallsAreRefused, Comes, IsNot
 use Rattle.sc_refines_turn.proofs.SilentOperations.{meets}
 use Rattle.sc_refines_turn.proofs.Exits.{meets_same, origin_same, region_failed, region_left}
 use Rattle.sc_refines_turn.proofs.PassedOperations.{act_same, state_same, stays, turn_is}
-use Rattle.sc_refines_turn.proofs.Quiet.{IsLike, refuses_here}
+use Rattle.sc_refines_turn.proofs.Quiet.{IsLike}
+use Rattle.sc_refines_turn.proofs.QuietSteps.{refuses_here}
 
 -- ---- the step
 

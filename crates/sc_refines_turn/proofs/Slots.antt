@@ -1,21 +1,19 @@
 -- Operations of flat code leave as many slots as there were.
-use Rattle.std.proofs.Common.{◌≡◌, ℕ, zero, suc, ◌+◌, ℤ, List, [], ◌∷◌, Option, Some, None, Ok, Err, Bool, true, false, length, refl, sym, ap, ◌∙◌, subst}
+use Rattle.std.proofs.Common.{◌≡◌, ℕ, zero, suc, ◌+◌, List, [], ◌∷◌, Option, Some, None, Bool, true, false, length, refl, ap, ◌∙◌, subst}
 use Rattle.std.specs.Prelude.{is_some, nat_lt, slice_get, slice_set, ◌==◌, if◌then◌else◌}
-use Rattle.sc_formula.specs.declared.arithmetic.ArithmeticFault.TheVariants as fault
 use Rattle.sc_tree.specs.Plain as tree
 use Rattle.sc_tree.specs.Plain.{System, FeatureKind}
 use Rattle.sc_class.specs.Tables.Features.{DeclaredFeature}
 use Rattle.sc_tree.specs.declared.expression.BinaryOperator.{BinaryOperator}
 use Rattle.sc_model.specs.declared.cause.Cause.{Cause}
-use Rattle.sc_model.specs.declared.cause.Cause.TheVariants as cause
 use Rattle.sc_model.specs.Environments.{Binding, binding_named}
 use Rattle.sc_model.specs.Expressions.{decided_by}
 use Rattle.sc_model.specs.Invariants.{meets_invariant}
 use Rattle.sc_model.specs.Limits.{max_objects}
-use Rattle.sc_model.specs.Objects.{Object, attributes_of, fresh_object, object_numbered}
+use Rattle.sc_model.specs.Objects.{Object, fresh_object, object_numbered}
 use Rattle.sc_model.specs.Routines.{version_of}
 use Rattle.sc_model.specs.Values.{Reference, Value, Integer, Boolean, Void, Attached}
-use Rattle.sc_code.specs.Machine.{Act, Code, Evaluated, Faults, Gives, Hop, State, Goes, Does, applies, binary_value, binds_if, calls_feature, calls_kind, calls_object, calls_on, calls_routine, calls_version, concludes, creates, creates_handler, creates_here, creates_object, decides, demands, does_with, ends_loop, expects, found, has_room, hop, hop_at, hop_of, hop_on, hop_popped, hops, into, is_tested, opens, popped, prints, push, pushes, read, reads_attribute, replaces, requests, skips, skips_if_false, stores, then_hop, unary_value, written}
+use Rattle.sc_code.specs.Machine.{Act, Code, Evaluated, Faults, Gives, Hop, State, Goes, Does, applies, binary_value, binds_if, calls_feature, calls_kind, calls_object, calls_on, calls_routine, calls_version, concludes, creates, creates_handler, creates_object, decides, demands, does_with, ends_loop, expects, found, has_room, hop, hop_at, hop_of, hop_on, hop_popped, hops, into, is_tested, opens, popped, prints, push, pushes, read, reads_attribute, replaces, requests, skips, skips_if_false, stores, then_hop, unary_value, written}
 use Rattle.sc_code.specs.Operations as op
 use Rattle.sc_code.specs.Operations.{CallSite, CreationSite, Operation}
 

@@ -1,18 +1,16 @@
 -- What a turn makes of a store, and what it asks, where the operation that it came to was told.
 use Rattle.std.proofs.Common.{◌≡◌, ◌≤◌, ◌<◌, ℕ, zero, suc, ◌+◌, Bool, true, false, not, List, [], ◌∷◌, Option, Some, None, length, drop, refl, sym, ap, ◌∙◌, subst, arith}
-use Rattle.std.specs.Prelude.{◌||◌, ◌&&◌, nat_lt, slice_get, slice_set, if◌then◌else◌}
+use Rattle.std.specs.Prelude.{◌||◌, ◌&&◌, nat_lt, slice_set, if◌then◌else◌}
 use Rattle.sc_code.specs.declared.program.Image.{Image}
 use Rattle.sc_code.specs.RequestRoom.{FitsRequests}
 use Rattle.sc_region.specs.declared.frame.Stage.TheVariants as stage
-use Rattle.sc_region.specs.declared.value.Reference.{Reference}
 use Rattle.sc_region.specs.declared.value.Value.{Value}
 use Rattle.sc_region.specs.Frames.{PlainActivation, PlainFrame, top_activation}
-use Rattle.sc_region.specs.Stores.{PlainStore, next_reference}
+use Rattle.sc_region.specs.Stores.{PlainStore}
 use Rattle.sc_acts.specs.declared.act.Act.{Act}
 use Rattle.sc_acts.specs.declared.act.Act.TheVariants as act
 use Rattle.sc_acts.specs.declared.act.Calling.{Calling}
 use Rattle.sc_acts.specs.declared.act.Calling.TheVariants as calling
-use Rattle.sc_interp.specs.declared.hops.Hop.TheVariants as hop
 use Rattle.sc_acts.specs.Creating.{has_room, with_reference, without_last}
 use Rattle.sc_region.specs.Calls.{last_values, taken, on_top, past, top_frame}
 use Rattle.sc_acts.specs.Entering.{Has, HasCall, has_operands, operands_of}
@@ -21,7 +19,7 @@ use Rattle.sc_region_turns.specs.RegionHalves.{IsRegionOf}
 use Rattle.sc_region_turns.specs.RegionSteps.{names_of}
 use Rattle.sc_region_turns.specs.RegionTurns.{turn}
 use Rattle.sc_acts.specs.Tables.{name_at}
-use Rattle.sc_interp.specs.Told.{HasName, HasProcedure, IsReady, IsReadyAt, IsTold, NamesCall, NamesCreation}
+use Rattle.sc_interp.specs.Told.{HasName, HasProcedure, IsReady, IsReadyAt, NamesCall, NamesCreation}
 use Rattle.sc_interp.proofs.GoingOn.{less_is, more_is}
 use Rattle.sc_acts.proofs.Options.{none_some, some_same}
 use Rattle.sc_acts.specs.Acting.{acted}
@@ -29,13 +27,12 @@ use Rattle.sc_acts.specs.Blocks as blocks
 use Rattle.sc_acts.specs.Blocks.{heads_in, may_open, opened_with}
 use Rattle.sc_acts.specs.CreatingHandlers as creating
 use Rattle.sc_acts.specs.CreatingHandlers.{created_as, creation_by, creation_in, creation_of, creation_with, may_create}
-use Rattle.sc_acts.specs.CreatingObjects.{created_with}
 use Rattle.sc_acts.specs.Operands.{has_actuals, has_call}
 use Rattle.sc_acts.specs.Requesting as requesting
 use Rattle.sc_acts.specs.Requesting.{call_of, request_by, request_in, request_of, sent}
 use Rattle.sc_refines_turn.specs.Acting as acting
 use Rattle.sc_refines_turn.specs.Acting.{Comes}
-use Rattle.sc_refines_turn.specs.Told.{ComesTold, ToldBlocksBegin, ToldCallsAreMade, ToldHandlersAreCreated, ToldObjectsAreCreated, ToldObjectsAreCreatedBy, ToldRequestsAreMade, Turns}
+use Rattle.sc_refines_turn.specs.Told.{ToldBlocksBegin, ToldCallsAreMade, ToldHandlersAreCreated, ToldObjectsAreCreated, ToldObjectsAreCreatedBy, ToldRequestsAreMade, Turns}
 use Rattle.sc_refines_turn.specs.Wanting.{IsNumbered, IsProcedure, MayCreate, MayRequest}
 use Rattle.sc_refines_turn.proofs.Calls.{calls_are_made}
 use Rattle.sc_refines_turn.proofs.Creations.{objects_are_created}

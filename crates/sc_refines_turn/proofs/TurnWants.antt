@@ -1,8 +1,8 @@
 -- What turns of a handler ask of the core.
-use Rattle.std.proofs.Common.{◌≡◌, ℕ, zero, suc, ◌+◌, ◌-◌, Bool, true, false, List, [], ◌∷◌, ◌++◌, Option, Some, None, is_some, length, map, reverse, refl, sym, ap, ◌∙◌, subst, arith}
+use Rattle.std.proofs.Common.{◌≡◌, ℕ, zero, suc, ◌-◌, Bool, true, false, List, [], ◌∷◌, ◌++◌, Option, Some, None, is_some, length, map, reverse, refl, sym, ap, ◌∙◌, subst, arith}
 use Rattle.std.proofs.lemmas.List.{reverse-append}
 use Rattle.std.proofs.lemmas.Slice.Eq.{bytes_eq-Decides}
-use Rattle.std.specs.Prelude.{◌||◌, ◌&&◌, bytes_eq, slice_get, if◌then◌else◌}
+use Rattle.std.specs.Prelude.{◌||◌, bytes_eq, slice_get, if◌then◌else◌}
 use Rattle.std.specs.Option.{option_map}
 use Rattle.sc_tree.specs.Plain.{System}
 use Rattle.sc_model.specs.declared.cause.Cause.{Cause}
@@ -21,7 +21,6 @@ use Rattle.sc_code.specs.Machine as flat
 use Rattle.sc_code.specs.Machine.{State}
 use Rattle.sc_code.specs.Programs.{pool_of}
 use Rattle.sc_code.specs.Stands.{Seen}
-use Rattle.sc_code.specs.RequestRoom.{AreDistinct}
 use Rattle.sc_region.specs.declared.job.Errand.TheVariants as errand
 use Rattle.sc_region.specs.declared.job.Request.{Request}
 use Rattle.sc_region.specs.declared.job.Want.{Want}
@@ -30,7 +29,7 @@ use Rattle.sc_region.specs.declared.value.Reference.{Reference}
 use Rattle.sc_region.specs.declared.value.Value.{Value}
 use Rattle.sc_region.specs.declared.value.Value.TheVariants.{Integer, Boolean, Void, Attached}
 use Rattle.sc_region.specs.Classes as at
-use Rattle.sc_region.specs.Frames.{PlainActivation, frame_with, top_activation}
+use Rattle.sc_region.specs.Frames.{frame_with, top_activation}
 use Rattle.sc_region.specs.Objects as objects
 use Rattle.sc_region.specs.Stores as store
 use Rattle.sc_region.specs.Stores.{PlainStore, left}
@@ -44,9 +43,8 @@ use Rattle.sc_acts.specs.Exiting.{asks_exiting, exited, returned}
 use Rattle.sc_region_turns.specs.Laws.{ProgramsServe}
 use Rattle.sc_interp.specs.Objects.{objects_in}
 use Rattle.sc_acts.specs.Refusing.{asks_refusing, is_waited_for, refused, refused_as, waiting}
-use Rattle.sc_region_turns.specs.RegionHalves.{IsRegionOf, calling_of, origin_of, requested}
-use Rattle.sc_region_turns.specs.RegionSteps.{IsProgramFor, names_of, next_want, number_among, numbering_by}
-use Rattle.sc_region_turns.specs.RegionTurns.{Half, turn}
+use Rattle.sc_region_turns.specs.RegionHalves.{origin_of, requested}
+use Rattle.sc_region_turns.specs.RegionSteps.{names_of, number_among, numbering_by}
 use Rattle.sc_interp.specs.Standing.{actuals}
 use Rattle.sc_acts.specs.Tables.{formals_at, name_at}
 use Rattle.sc_acts.specs.Turning.{unless_failed}
@@ -55,17 +53,16 @@ use Rattle.sc_acts.proofs.Options.{some_same}
 use Rattle.sc_acts.specs.Blocks.{asks_leaving, asks_left, innermost}
 use Rattle.sc_acts.specs.CreatingHandlers.{asks_creating, creation_by, creation_in, creation_with, may_create}
 use Rattle.sc_acts.specs.CreatingHandlers as creating
-use Rattle.sc_acts.specs.Operands.{has_call}
-use Rattle.sc_acts.specs.Requesting.{asks_requesting, asks_sending, call_of, request_by, request_of}
-use Rattle.sc_refines_turn.specs.Acting.{AreWhole, Comes, Meets}
+use Rattle.sc_acts.specs.Requesting.{asks_requesting, asks_sending, call_of, request_by}
 use Rattle.sc_refines_turn.specs.Wanting.{BlockEndsAsk, CreationsAsk, DistinctNamesHaveNumbers, IsNumbered, IsProcedure, MayCreate, MayRequest, RefusalsAsk, RequestsAsk, RoutineEndsAsk}
 use Rattle.sc_refines_turn.proofs.TurnAsks.{asked_is, told_by}
 use Rattle.sc_refines_turn.proofs.SilentOperations.{meets}
-use Rattle.sc_refines_turn.proofs.Exits.{Ending, ending, meets_same, origin_same}
+use Rattle.sc_refines_turn.proofs.Exits.{ending, meets_same, origin_same}
 use Rattle.sc_refines_turn.proofs.PassedOperations.{act_same, stays}
-use Rattle.sc_refines_turn.proofs.Refusals.{Refusal, refusal, verdict_is}
+use Rattle.sc_refines_turn.proofs.Refusals.{refusal, verdict_is}
 use Rattle.sc_refines_turn.proofs.ShownSteps.{leaves_is}
-use Rattle.sc_refines_turn.proofs.StageChanges.{creates_handler_is, requests_is, same_blocks, values_taken}
+use Rattle.sc_refines_turn.proofs.StageChanges.{same_blocks, values_taken}
+use Rattle.sc_refines_turn.proofs.SeenRequests.{creates_handler_is, requests_is}
 
 -- ---- values
 

@@ -1,5 +1,5 @@
 -- Clauses of preconditions that are false and waited for.
-use Rattle.std.proofs.Common.{◌≡◌, ℕ, ◌+◌, Bool, true, List, [], ◌∷◌, ◌++◌, Some, length, reverse, refl, sym, ap, ◌∙◌, subst, length-append}
+use Rattle.std.proofs.Common.{◌≡◌, ℕ, ◌+◌, true, [], ◌∷◌, length, reverse, refl, sym, ap, ◌∙◌, subst, length-append}
 use Rattle.std.proofs.lemmas.List.{length-map}
 use Rattle.std.specs.Option.{option_map, option_and_then}
 use Rattle.std.specs.Prelude.{if◌then◌else◌, slice_get}
@@ -11,28 +11,23 @@ use Rattle.sc_model.specs.Routines.{routine_of}
 use Rattle.sc_model.specs.Steps as model
 use Rattle.sc_model.specs.Steps.{Point}
 use Rattle.sc_model.specs.Tasks.{tasks_of}
-use Rattle.sc_model.specs.Values as values
 use Rattle.sc_model.specs.Values.{Operand}
 use Rattle.sc_code.specs.Lowered.{Beginning, run_of}
-use Rattle.sc_code.specs.Machine as flat
 use Rattle.sc_code.specs.Machine.{State}
-use Rattle.sc_code.specs.Stands.{Run, Stands, state_at, values_in}
+use Rattle.sc_code.specs.Stands.{Run, Stands, values_in}
 use Rattle.sc_code.proofs.TypingRoutines.{routines_stand}
-use Rattle.sc_region.specs.Frames.{PlainActivation, PlainFrame, frame_with, top_activation}
+use Rattle.sc_region.specs.Frames.{frame_with, top_activation}
 use Rattle.sc_region.specs.Stores.{PlainStore}
 use Rattle.sc_acts.specs.declared.act.Act.TheVariants as act
-use Rattle.sc_interp.specs.declared.hops.Hop.{Hop}
 use Rattle.sc_interp.specs.declared.hops.Hop.TheVariants as hop
 use Rattle.sc_interp.specs.Hopping.{state_in}
 use Rattle.sc_region_turns.specs.Laws.{ProgramsServe}
-use Rattle.sc_interp.specs.Objects.{objects_in}
 use Rattle.sc_acts.specs.Refusing.{is_waited_for, refused, refused_as, waiting}
-use Rattle.sc_region_turns.specs.RegionHalves.{IsRegionOf, AreFrames, IsFrame, StandsIn}
+use Rattle.sc_region_turns.specs.RegionHalves.{IsRegionOf, IsFrame, StandsIn}
 use Rattle.sc_region_turns.specs.RegionSteps.{IsProgramFor}
 use Rattle.sc_region_turns.specs.RegionTurns.{Half, false_clause, turn, waits_again}
 use Rattle.sc_acts.specs.Tables.{formals_at}
-use Rattle.sc_interp.specs.Standing.{state_of, without}
-use Rattle.sc_region.specs.Calls.{on_top, top_frame}
+use Rattle.sc_region.specs.Calls.{on_top}
 use Rattle.sc_interp.specs.Values.{reference_of, values_of}
 use Rattle.sc_refines_turn.specs.Acting.{Comes, Meets}
 use Rattle.sc_refines_turn.specs.Waiting.{IsInContract, IsVersion, IsWaitedFor, RefusesInContract, RoutinesWait}

@@ -1,7 +1,6 @@
 -- What turns of a handler ask of the core.
 use Rattle.std.specs.Prelude.{◌≡◌, ℕ, Bool, true, List, Option, Some, None, slice_get}
 use Rattle.sc_tree.specs.Plain.{System}
-use Rattle.sc_code.specs.declared.program.Image.{Image}
 use Rattle.sc_code.specs.RequestRoom.{AreDistinct}
 use Rattle.sc_region.specs.declared.job.Want.{Want}
 use Rattle.sc_region.specs.declared.value.Reference.{Reference}
