@@ -8,7 +8,10 @@ pub mod Plain
 pub mod TakenRequests
 pub mod TakenAnswers
 pub mod Others
+pub mod CoreTests
+pub mod HalfTurns
 pub mod Turns
+pub mod VisibleWants
 pub mod Wants
 pub mod OtherHandlers
 pub mod FrameOrder
