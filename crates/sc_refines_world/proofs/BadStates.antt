@@ -4,31 +4,30 @@ use Rattle.std.proofs.lemmas.List.Elements.{All-nil}
 use Rattle.std.specs.Prelude.{pos, map, Contains, if◌then◌else◌}
 use Rattle.sc_text.specs.declared.token.Span.{Span}
 use Rattle.sc_tree.specs.Plain as tree
-use Rattle.sc_tree.specs.Plain.{Class, Clause, Declaration, Name, System, no_instrs}
+use Rattle.sc_tree.specs.Plain.{Class, Clause, Declaration, System}
 use Rattle.sc_class.specs.declared.identity.ClassId.TheVariants as class
 use Rattle.sc_proctype.specs.declared.entity_type.EntityType.{EntityType}
-use Rattle.sc_proctype.specs.declared.tag.Tag.{Tag}
 use Rattle.sc_proctype.specs.declared.tag.Tag.TheVariants as tag
 use Rattle.sc_formula.specs.Formula as formula
 use Rattle.sc_rules.specs.Names.{Entity, RoutineName, entity, locals_known}
 use Rattle.sc_rules.specs.Types.{declared_type}
 use Rattle.sc_rules.specs.declared.position.Role.{Role}
 use Rattle.sc_rules.specs.declared.position.Role.TheVariants as role
-use Rattle.sc_lockpass.specs.Rights.{Rights, unreserved}
+use Rattle.sc_lockpass.specs.Rights.{unreserved}
 use Rattle.sc_model.specs.declared.cause.Cause.{Cause}
 use Rattle.sc_model.specs.declared.cause.Cause.TheVariants as cause
 use Rattle.sc_model.specs.Chains.{WaitsFor, waits}
 use Rattle.sc_model.specs.Clauses.{Comes, Holds, after, begun}
 use Rattle.sc_model.specs.Environments.{Binding, bind, known_of}
 use Rattle.sc_model.specs.Fits.{Fits, IsUnset}
-use Rattle.sc_model.specs.Handlers.{Awaits, Called, Calls, Failed, Frame, Handler, InCall, Origin, Reply, Request, Requested, Runs, Stage, World, frame_at, new_handler, point_of}
+use Rattle.sc_model.specs.Handlers.{Awaits, Called, Failed, Frame, Handler, InCall, Reply, Requested, Runs, World, frame_at, new_handler, point_of}
 use Rattle.sc_model.specs.Invariants.{MeetsInvariant}
 use Rattle.sc_model.specs.Objects.{Object, fresh_object}
-use Rattle.sc_model.specs.Routines.{Routine, Text}
+use Rattle.sc_model.specs.Routines.{Routine}
 use Rattle.sc_model.specs.Steps.{Point, Unqualified}
 use Rattle.sc_model.specs.Tasks.{Print, Require}
 use Rattle.sc_model.specs.Turns.{turn}
-use Rattle.sc_model.specs.Values.{Attached, Boolean, Integer, Reference, Void}
+use Rattle.sc_model.specs.Values.{Attached, Boolean, Integer, Void}
 use Rattle.sc_machine_rights.specs.Headline.{topmost}
 use Rattle.sc_machine_values.specs.Fitting.{IsThere, is_due, is_made}
 use Rattle.sc_machine_values.specs.Places.{StandsAs, attribute, no_names}
@@ -39,69 +38,7 @@ use Rattle.sc_machine_values.specs.Typed.{IsTyped, Known}
 use Rattle.sc_refines_world.specs.Moving.{HasRequestAt}
 use Rattle.sc_refines_world.specs.Refining.{HasHeadline}
 use Rattle.sc_refines_world.specs.Texts.{IsBehindFormals, IsTypedByRules, KnowsItsText}
-
--- ---- states
-
--- two handlers, and who holds whom
-abbrev pub two : Handler → Handler → Rights → World
-two x y r = record { count = 2; handlers = λ k. if k == 0 then x else (if k == 1 then y else new_handler); rights = r }
-
--- the first of these, beside a new one that nobody holds
-abbrev pub alone : Handler → World
-alone x = two x new_handler unreserved
-
-abbrev pub object_of : ℕ → List Binding → Object
-object_of k bs = record { class = k; attributes = bs }
-
--- the first object of the handler, of the first class
-abbrev pub first_of : ℕ → Reference
-first_of h = record { handler = h; number = 1; class = 0 }
-
-abbrev pub type_of : Tag → EntityType
-type_of t = record { attached = true; tag = t; class = class.Any }
-
-abbrev pub text : Text
-text = record { class = 0; formals = []; result = None }
-
--- a routine that does nothing
-abbrev pub routine : Routine
-routine = record { name = []; text = text; locals = []; body = no_instrs; contract = text; require = []; ensure = [] }
-
--- it runs on the first object of its handler
-abbrev pub frame : Origin → Stage → Frame
-frame o how = record {
-  current = first_of 0;
-  routine = routine;
-  origin = o;
-  stage = how;
-  text = text;
-  environment = [];
-  result = None;
-  olds = [];
-  tasks = [];
-  values = [];
-  reserved = [];
-  blocks = [];
-  mark = [];
-}
-
--- a call of the first object of the handler by another one
-abbrev pub request : ℕ → ℕ → Bool → Request
-request p h is_waited =
-    record { poster = Some p; target = first_of h; errand = Calls []; actuals = []; is_waited = is_waited; passed = None }
-
--- one of a list of one
-pub first : {A : Type 0} (x : A) → Contains (x ∷ []) x
-first x = (0, omega arith, refl)
-
-pub none-of-none : {A : Type 0} (x : A) → Contains [] x → ⊥
-none-of-none x is = omega (arith, is.1)
-
-pub apart : true ≡ false → ⊥
-apart e = cc
-
-pub none-is-some : {A : Type 0} {x : A} → None ≡ Some x → ⊥
-none-is-some e = cc
+use Rattle.sc_refines_world.proofs.SmallStates.{two, alone, object_of, first_of, type_of, routine, frame, request, first, none-of-none, apart, none-is-some}
 
 -- ---- failures that are excluded
 

@@ -21,7 +21,8 @@ use Rattle.sc_machine_preconditions.specs.Starting.{IsVerdict}
 use Rattle.sc_refines_world.specs.Moving as moving
 use Rattle.sc_refines_world.specs.Moving.{AsksForNone, Begins, BeginsWithOne, ComesTo, FramesMove, IsEntered, IsTaken, call, end, fall, go_on, refuse, return, stay, take_callback, take_next}
 use Rattle.sc_refines_world.specs.Refining.{ComeUnderRight}
-use Rattle.sc_refines_world.proofs.BadStates.{alone, apart, falsity, first, first_of, frame, none-is-some, none-of-none, request, routine, two}
+use Rattle.sc_refines_world.proofs.BadStates.{falsity}
+use Rattle.sc_refines_world.proofs.SmallStates.{alone, apart, first, first_of, frame, none-is-some, none-of-none, request, routine, two}
 
 -- ---- what is posted
 

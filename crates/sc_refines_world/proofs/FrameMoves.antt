@@ -1,160 +1,44 @@
 -- How the frames and requests of a handler change in its turn.
 use Rattle.std.proofs.Common.{ℕ, ◌≡◌, ◌≢◌, ◌⊎◌, ◌<◌, ◌==◌, ◌&&◌, ◌||◌, not, Bool, true, false, List, [], ◌∷◌, ◌++◌, Option, Some, None, refl, sym, ap, subst, ◌∙◌, inl, arith}
-use Rattle.std.proofs.lemmas.Bool.{eq-eqb, eqb-true, ne_eqb}
-use Rattle.std.specs.Prelude.{if◌then◌else◌, is_some, length, nat_lt}
-use Rattle.std.specs.List.{list_any}
+use Rattle.std.specs.Prelude.{is_some, length, nat_lt}
 use Rattle.std.specs.Option.{option_and_then, option_map}
 use Rattle.sc_tree.specs.Plain as tree
 use Rattle.sc_tree.specs.Plain.{System, Clause, FeatureKind}
 use Rattle.sc_class.specs.Tables.Features.{DeclaredFeature}
 use Rattle.sc_proctype.specs.declared.entity_type.EntityType.{EntityType}
 use Rattle.sc_rules.specs.Types.{declared_type}
-use Rattle.sc_lockpass.specs.Passing.{Passed}
-use Rattle.sc_lockpass.specs.Rights.{held, is_among, is_handler}
-use Rattle.sc_waitcond.specs.Reservations.{ends_session, mark_of, reserve_fails}
+use Rattle.sc_lockpass.specs.Rights.{held}
+use Rattle.sc_waitcond.specs.Reservations.{mark_of, reserve_fails}
 use Rattle.sc_waitcond.specs.declared.condition.EntryVerdict.{EntryVerdict}
 use Rattle.sc_waitcond.specs.declared.condition.EntryVerdict.TheVariants as verdict
-use Rattle.sc_waitcond.specs.declared.session.Release.{Release}
 use Rattle.sc_waitcond.specs.declared.session.Release.TheVariants as release_at
 use Rattle.sc_model.specs.declared.cause.Cause.{Cause}
 use Rattle.sc_model.specs.declared.cause.Cause.TheVariants as cause
-use Rattle.sc_model.specs.Answers.{answer_to, answered, finish, return_rights}
-use Rattle.sc_model.specs.Asking.{asks, awaits_if, created, is_callback, passes, passes_or_releases, placed, posts_creation, request, request_by, send, with_handler}
-use Rattle.sc_model.specs.Entries.{block_needs, enters, enters_bound, entry, entry_needs, may_reserve, reserves_if}
+use Rattle.sc_model.specs.Answers.{finish}
+use Rattle.sc_model.specs.Asking.{asks, awaits_if, created, is_callback, passes_or_releases, posts_creation, request, request_by, send, with_handler}
+use Rattle.sc_model.specs.Entries.{enters, enters_bound, entry, reserves_if}
 use Rattle.sc_model.specs.Environments.{Binding, binding_named, formals_bound}
 use Rattle.sc_model.specs.Exits.{exits, handed, handed_as, is_unset, is_unset_value, is_untested, leaves_block, leaves_to}
-use Rattle.sc_model.specs.Failures.{fails_with, fallen, is_waited_by, requests_at, told}
-use Rattle.sc_model.specs.Handlers.{Answer, Awaits, Called, Calls, Errand, Failed, Frame, Handler, InCall, Makes, Origin, Refused, Reply, Request, Requested, Reserves, ReservesBlock, Runs, Stage, World, frame_at, new_handler, point_of, put, with_stack}
+use Rattle.sc_model.specs.Failures.{fails_with}
+use Rattle.sc_model.specs.Handlers.{Answer, Called, Calls, Errand, Failed, Frame, Handler, InCall, Makes, Origin, Refused, Reply, Request, Requested, Reserves, ReservesBlock, World, frame_at, put, with_stack}
 use Rattle.sc_model.specs.Invariants.{meets_invariant}
 use Rattle.sc_model.specs.Limits.{max_frames, max_queue}
-use Rattle.sc_model.specs.Moves.{moves}
 use Rattle.sc_model.specs.Objects.{Object, fresh_object, object_numbered}
 use Rattle.sc_model.specs.Preconditions.{correctness_fails, counted_refusal, false_clause, is_creation, object_meets, refuses, verdict_on}
 use Rattle.sc_model.specs.Routines.{Routine, routine_named, routine_of, version_of}
-use Rattle.sc_model.specs.Sessions.{release, session_ended, standing_in}
-use Rattle.sc_model.specs.Steps.{Act, Calling, Creates, CreatesHandler, Does, Enters, Exits, Fails, Goes, Leaves, Opens, Point, Prints, Refuses, Requests, Starts, Step, Until}
+use Rattle.sc_model.specs.Sessions.{release, standing_in}
+use Rattle.sc_model.specs.Steps.{Act, Calling, Creates, CreatesHandler, Enters, Exits, Fails, Leaves, Opens, Point, Prints, Refuses, Requests, Starts, Until}
 use Rattle.sc_model.specs.Takes.{released_if, replies, takes, takes_answer, takes_creation, takes_errand, takes_kind, takes_next, takes_version, with_new_object}
 use Rattle.sc_model.specs.Tasks.{Declare, Do, Forget, In, Task, ensures, keeps_olds, requires, tasks_of}
 use Rattle.sc_model.specs.Olds.{olds_of_clauses}
-use Rattle.sc_model.specs.Turns.{effect, goes_on, settles, turn_with, waits}
+use Rattle.sc_model.specs.Turns.{effect}
 use Rattle.sc_model.specs.Values.{Attached, Operand, Reference, Value, operand, values_of}
-use Rattle.sc_machine_rights.proofs.links.Looks.{m_put-off}
 use Rattle.sc_machine_values.specs.Places.{called_name}
 use Rattle.sc_refines_core.specs.Entries.{HasStarted}
 use Rattle.sc_machine_preconditions.specs.Starting.{IsVerdict}
 use Rattle.sc_refines_world.specs.Moving as moving
-use Rattle.sc_refines_world.specs.Moving.{Acts, AsksForNone, ComesTo, Falls, FramesMove, GoesOn, IsCall, IsTaken, RequestsStay, call, end, fall, go_on, is_plain, refuse, return, stay, take_callback, take_next}
-
--- ---- what stays of a handler
-
--- its frames and requests, and whether it has failed
-record Alike (x y : Handler) : Type 0 where
-  stack : y.stack ≡ x.stack
-  queue : y.queue ≡ x.queue
-  callback : y.callback ≡ x.callback
-  failure : y.failure ≡ x.failure
-
-alike_again : {x y z : Handler} → Alike x y → Alike y z → Alike x z
-alike_again a b = record { stack = b.stack ∙ a.stack; queue = b.queue ∙ a.queue; callback = b.callback ∙ a.callback; failure = b.failure ∙ a.failure }
-
-alike_same : (x : Handler) → Alike x x
-alike_same x = record { stack = refl; queue = refl; callback = refl; failure = refl }
-
-alike_to : (x y : Handler) → y ≡ x → Alike x y
-alike_to x y e = subst (Alike x) (sym e) (alike_same x)
-
-ended_like : (b : Bool) (x : Handler) → Alike x (session_ended b x)
-ended_like true x = record { stack = refl; queue = refl; callback = refl; failure = refl }
-ended_like false x = alike_same x
-
-counted_like : (b : Bool) (x : Handler) → Alike x (counted_refusal b x)
-counted_like true x = alike_same x
-counted_like false x = record { stack = refl; queue = refl; callback = refl; failure = refl }
-
-rest_same : (x : Handler) → RequestsStay x x
-rest_same x = record { queue_stays = refl; callback_stays = refl; failure_stays = refl }
-
-rest_alike : {x y z : Handler} → RequestsStay x y → Alike y z → RequestsStay x z
-rest_alike r a = record { queue_stays = a.queue ∙ r.queue_stays; callback_stays = a.callback ∙ r.callback_stays; failure_stays = a.failure ∙ r.failure_stays }
-
-module _ (h : ℕ) where
-  put_own : (x : Handler) (v : World) → (put h x v).handlers h ≡ x
-  put_own x v = ap (λ (b : Bool). if b then x else v.handlers h) (eq-eqb h h refl)
-
-  put_like : (j : ℕ) (x : Handler) (v : World) → Alike (v.handlers j) x → Alike (v.handlers h) ((put j x v).handlers h)
-  put_like j x v a = by (h == j) refl
-    where
-      by : (b : Bool) → (h == j) ≡ b → Alike (v.handlers h) (if b then x else v.handlers h)
-      by true e = subst (λ k. Alike (v.handlers k) x) (sym (eqb-true h j e)) a
-      by false e = alike_same (v.handlers h)
-
-  release_like : (how : Release) (ks : List ℕ) (v : World) → Alike (v.handlers h) ((release how ks v).handlers h)
-  release_like how ks v = ended_like (ends_session how && is_among h ks) (v.handlers h)
-
-  rights_like : (p : Option Passed) (v : World) → Alike (v.handlers h) ((return_rights p v).handlers h)
-  rights_like None v = alike_same (v.handlers h)
-  rights_like (Some p) v = record { stack = refl; queue = refl; callback = refl; failure = refl }
-
-  answer_like : (b : Bool) (p : Option ℕ) (a : Answer) (v : World) → Alike (v.handlers h) ((answer_to b p a v).handlers h)
-  answer_like true (Some p) a v = put_like p (answered a (v.handlers p)) v (record { stack = refl; queue = refl; callback = refl; failure = refl })
-  answer_like true None a v = alike_same (v.handlers h)
-  answer_like false p a v = alike_same (v.handlers h)
-
-  finish_like : (r : Request) (a : Answer) (v : World) → Alike (v.handlers h) ((finish r a v).handlers h)
-  finish_like r a v = alike_again (rights_like r.passed v) (answer_like r.is_waited r.poster a (return_rights r.passed v))
-
-  passes_like : (b : Bool) (j : ℕ) (v : World) → Alike (v.handlers h) ((passes b h j v).handlers h)
-  passes_like true j v = alike_same (v.handlers h)
-  passes_like false j v = alike_same (v.handlers h)
-
-  -- a request goes to another handler, and so does a creation
-  send_like : (b : Bool) (j : ℕ) (q : Request) (v : World) → h ≢ j → Alike (v.handlers h) ((send b j q v).handlers h)
-  send_like b j q v ne = alike_to (v.handlers h) ((send b j q v).handlers h) (m_put-off j (placed b q (v.handlers j)) v h ne)
-
-  new_like : (j : ℕ) (v : World) → h ≢ j → Alike (v.handlers h) ((with_handler j h v).handlers h)
-  new_like j v ne = alike_to (v.handlers h) ((with_handler j h v).handlers h) (ap (λ (b : Bool). if b then new_handler else v.handlers h) (ne_eqb h j ne))
-
-  stack_own : (st : List Frame) (v : World) → ((with_stack h st v).handlers h).stack ≡ st
-  stack_own st v = ap (λ (x : Handler). x.stack) (put_own (record (v.handlers h) { stack = st }) v)
-
-  -- the handler is put, and nothing else of it has changed but its objects, frames and answer
-  rest_put : (x y : Handler) (v : World) → RequestsStay x y → RequestsStay x ((put h y v).handlers h)
-  rest_put x y v r = subst (RequestsStay x) (sym (put_own y v)) r
-
-  rest_stack : {x : Handler} (st : List Frame) (v : World) → RequestsStay x (v.handlers h) → RequestsStay x ((with_stack h st v).handlers h)
-  rest_stack {x} st v r = rest_put x (record (v.handlers h) { stack = st }) v
-      (record { queue_stays = r.queue_stays; callback_stays = r.callback_stays; failure_stays = r.failure_stays })
-
-  -- ---- a failure
-
-  fails_falls : (x : Handler) → x.failure ≡ None → (why : Cause) (taken : List Request) (v : World) → Falls x ((fails_with h why taken v).handlers h)
-  fails_falls x stood why taken v =
-      let a = ended_like (ends_session release_at.Failure && is_handler h (v.rights.queue h)) (fallen why (v.handlers h)) in
-      subst (Falls x) (sym own)
-      (record { stood = stood; has_failed = ap is_some a.failure; stack_is = a.stack; queue_is = a.queue; callback_is = a.callback })
-    where
-      own : (fails_with h why taken v).handlers h ≡ session_ended (ends_session release_at.Failure && is_handler h (v.rights.queue h)) (fallen why (v.handlers h))
-      own = ap (λ (b : Bool). session_ended (ends_session release_at.Failure && is_handler h (v.rights.queue h))
-          (if b then fallen why (v.handlers h) else told (list_any (is_waited_by h) (taken ++ requests_at (v.handlers h))) (v.handlers h))) (eq-eqb h h refl)
-
--- what comes is one of two
-either : (P : World → Type 0) (b : Bool) (x y : World) → P x → P y → P (if b then x else y)
-either P true x y t u = t
-either P false x y t u = u
-
--- what an answer or a result leaves of the frame to which it is handed
-record IsHanded (f g : Frame) : Type 0 where
-  tasks : g.tasks ≡ f.tasks
-  current : g.current ≡ f.current
-  routine : g.routine ≡ f.routine
-  origin : g.origin ≡ f.origin
-  text : g.text ≡ f.text
-  environment : g.environment ≡ f.environment
-
-handed_same : (gives : Option EntityType) (v : Option Value) (f : Frame) → IsHanded f (handed_as gives v f)
-handed_same (Some t) (Some v) f = record { tasks = refl; current = refl; routine = refl; origin = refl; text = refl; environment = refl }
-handed_same (Some t) None f = record { tasks = refl; current = refl; routine = refl; origin = refl; text = refl; environment = refl }
-handed_same None v f = record { tasks = refl; current = refl; routine = refl; origin = refl; text = refl; environment = refl }
+use Rattle.sc_refines_world.specs.Moving.{Acts, AsksForNone, ComesTo, FramesMove, GoesOn, IsTaken, RequestsStay, call, end, fall, go_on, is_plain, refuse, return, stay, take_callback, take_next}
+use Rattle.sc_refines_world.proofs.StayingRequests.{Alike, alike_again, alike_same, alike_to, counted_like, rest_same, rest_alike, put_own, put_like, release_like, finish_like, passes_like, send_like, new_like, stack_own, rest_put, rest_stack, fails_falls, either, IsHanded, handed_same}
 
 -- Where the move of the frame, which stands on these, has come to, what has started is what had, or it is the verdict's.
 abbrev pub Starting : System → World → ℕ → Frame → List Frame → Type 0
@@ -173,7 +57,7 @@ module _ (most : ℕ) (s : System) (h : ℕ) (w : World) (lives : (w.handlers h)
   abbrev K : World → Type 0
   K v = RequestsStay (w.handlers h) (v.handlers h)
 
-  fails_move : (why : Cause) (taken : List Request) (v : World) → T (fails_with h why taken v)
+  pub fails_move : (why : Cause) (taken : List Request) (v : World) → T (fails_with h why taken v)
   fails_move why taken v = fall (fails_falls h (w.handlers h) lives why taken v)
 
   -- ---- a request is taken
@@ -241,7 +125,7 @@ module _ (most : ℕ) (s : System) (h : ℕ) (w : World) (lives : (w.handlers h)
         by (Calls x) asks = either T (r.target.handler == h) _ _
             (version_moves x asks (object_numbered r.target.number (v.handlers h).objects) (version_of s r.target.class x) refl) (fails_move cause.ForeignObject (r ∷ []) v)
 
-  next_moves : (rs : List Request) → (w.handlers h).stack ≡ [] → (w.handlers h).queue ≡ rs → T (takes_next s h rs w)
+  pub next_moves : (rs : List Request) → (w.handlers h).stack ≡ [] → (w.handlers h).queue ≡ rs → T (takes_next s h rs w)
   next_moves [] at e = stay refl (rest_same (w.handlers h))
   next_moves (r ∷ rs) at e =
       let x : Handler = record (w.handlers h) { queue = rs } in
@@ -254,7 +138,7 @@ module _ (most : ℕ) (s : System) (h : ℕ) (w : World) (lives : (w.handlers h)
 
   module _ (f : Frame) (below : List Frame) (at : (w.handlers h).stack ≡ f ∷ below) where
     -- it does, with the same left to do
-    same_left : (g : Frame) → IsHanded f g → ComesTo s w h f below g
+    pub same_left : (g : Frame) → IsHanded f g → ComesTo s w h f below g
     same_left g z = record {
       current_stays = z.current;
       routine_stays = z.routine;
@@ -263,7 +147,7 @@ module _ (most : ℕ) (s : System) (h : ℕ) (w : World) (lives : (w.handlers h)
       starts_by_verdict = λ some started. inl (subst HasStarted z.tasks started);
     }
 
-    callback_moves : (r : Request) → (w.handlers h).callback ≡ Some r → T (takes s h r (f ∷ below) (put h (record (w.handlers h) { callback = None }) w))
+    pub callback_moves : (r : Request) → (w.handlers h).callback ≡ Some r → T (takes s h r (f ∷ below) (put h (record (w.handlers h) { callback = None }) w))
     callback_moves r e =
         let x : Handler = record (w.handlers h) { callback = None } in
         let own : (put h x w).handlers h ≡ x = put_own h x w in
@@ -271,7 +155,7 @@ module _ (most : ℕ) (s : System) (h : ℕ) (w : World) (lives : (w.handlers h)
         (λ y queue callback failure taken. take_callback e (callback ∙ ap (λ (y : Handler). y.callback) own) (queue ∙ ap (λ (y : Handler). y.queue) own)
         (failure ∙ ap (λ (y : Handler). y.failure) own) (subst (λ st. IsTaken s r st y.stack) (sym at) taken))
 
-    answer_moves : (a : Answer) (k : ℕ) (t : Option EntityType) (c : Bool) → T (takes_answer h a k t c f below w)
+    pub answer_moves : (a : Answer) (k : ℕ) (t : Option EntityType) (c : Bool) → T (takes_answer h a k t c f below w)
     answer_moves Failed k t c = fails_move cause.SupplierFailed [] w
     answer_moves Refused k t c = fails_move cause.Precondition [] w
     answer_moves (Reply v) k t c = by c
@@ -291,7 +175,7 @@ module _ (most : ℕ) (s : System) (h : ℕ) (w : World) (lives : (w.handlers h)
             go_on at (a.stack ∙ stack_is) (same_left (handed_as t v f) (handed_same t v f)) (rest_alike rest a)
         by false = go_on at stack_is (same_left (handed_as t v f) (handed_same t v f)) rest
 
-    reserve_moves : (b : Bool) (ks : List ℕ) (g : Frame) → ComesTo s w h f below g → T (reserves_if b h ks g below w)
+    pub reserve_moves : (b : Bool) (ks : List ℕ) (g : Frame) → ComesTo s w h f below g → T (reserves_if b h ks g below w)
     reserve_moves false ks g c = stay refl (rest_same (w.handlers h))
     reserve_moves true ks g c =
         either T (reserve_fails (standing_in w) w.rights ks) _ _ (fails_move cause.SupplierFailed [] w)
@@ -481,7 +365,7 @@ module _ (most : ℕ) (s : System) (h : ℕ) (w : World) (lives : (w.handlers h)
       goes_there : (a : Act) → Acts s w h f a p → is_plain a ≡ true → T moved
       goes_there a move plain = go_on at moved_stack (at_point a move plain (frame_at f p) there) moved_rest
 
-      act_moves : (a : Act) → Acts s w h f a p → T (effect most s h a (frame_at f p) below moved)
+      pub act_moves : (a : Act) → Acts s w h f a p → T (effect most s h a (frame_at f p) below moved)
       act_moves (Prints text) move =
           let x : Handler = record (moved.handlers h) { output = (moved.handlers h).output ++ text } in
           go_on at (ap (λ (y : Handler). y.stack) (put_own h x moved) ∙ moved_stack) (at_point (Prints text) move refl (frame_at f p) there)
@@ -507,30 +391,3 @@ module _ (most : ℕ) (s : System) (h : ℕ) (w : World) (lives : (w.handlers h)
       act_moves Leaves move = block_moves move f.blocks
       act_moves Exits move = exits_moves move
       act_moves (Fails why) move = fails_move why [] moved
-
-    step_moves : Starting s w h f below → AsksAnother s w h f → h < w.count → (x : Step) → moves s f.current (point_of f (w.handlers h).objects) ≡ x → T (settles most s h x f below w)
-    step_moves starting another here (Goes p) move = stay refl (rest_same (w.handlers h))
-    step_moves starting another here (Does a p) move = act_moves starting another here p a move
-
-    waits_moves : (k : ℕ) (t : Option EntityType) (c : Bool) (q : Option Request) (a : Option Answer) → (w.handlers h).callback ≡ q → T (waits s h q a k t c f below w)
-    waits_moves k t c (Some r) a e = callback_moves r e
-    waits_moves k t c None (Some a) e = answer_moves a k t c
-    waits_moves k t c None None e = stay refl (rest_same (w.handlers h))
-
-    stage_moves : (x : Stage) → f.stage ≡ x → (f.stage ≡ Runs → Starting s w h f below × AsksAnother s w h f) → h < w.count → T (goes_on most s h x f below w)
-    stage_moves Runs e running here = step_moves (running e).0 (running e).1 here (moves s f.current (point_of f (w.handlers h).objects)) refl
-    stage_moves Reserves e running here = reserve_moves (may_reserve (entry_needs h f w) f.mark w) (entry_needs h f w) (record f { stage = Runs; reserved = entry_needs h f w })
-        (same_left (record f { stage = Runs; reserved = entry_needs h f w })
-        (record { tasks = refl; current = refl; routine = refl; origin = refl; text = refl; environment = refl }))
-    stage_moves ReservesBlock e running here = reserve_moves (may_reserve (block_needs h f w) [] w) (block_needs h f w) (record f { stage = Runs; blocks = block_needs h f w ∷ f.blocks })
-        (same_left (record f { stage = Runs; blocks = block_needs h f w ∷ f.blocks })
-        (record { tasks = refl; current = refl; routine = refl; origin = refl; text = refl; environment = refl }))
-    stage_moves (InCall t) e running here = fails_move cause.BadCode [] w
-    stage_moves (Awaits k t c) e running here = waits_moves k t c (w.handlers h).callback (w.handlers h).answer refl
-
-pub turn_moves : (most : ℕ) (s : System) (h : ℕ) (w : World) → h < w.count →
-    ((f : Frame) (below : List Frame) → (w.handlers h).failure ≡ None → (w.handlers h).stack ≡ f ∷ below → f.stage ≡ Runs → Starting s w h f below × AsksAnother s w h f) →
-    (why : Option Cause) → (w.handlers h).failure ≡ why → (fs : List Frame) → (w.handlers h).stack ≡ fs → FramesMove s w h (w.handlers h) ((turn_with most s h why fs w).handlers h)
-turn_moves most s h w here running (Some why) i fs e = stay refl (rest_same (w.handlers h))
-turn_moves most s h w here running None i [] e = next_moves most s h w i (w.handlers h).queue e refl
-turn_moves most s h w here running None i (f ∷ below) e = stage_moves most s h w i f below e f.stage refl (λ r. running f below i e r) here

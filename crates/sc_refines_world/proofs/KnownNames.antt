@@ -31,7 +31,9 @@ use Rattle.sc_refines_world.proofs.ReachedMoves.{reached_turns_move}
 use Rattle.sc_refines_world.proofs.Creations.{created_begin}
 use Rattle.sc_refines_world.proofs.ReachedStates.{in_each, reached_fits}
 use Rattle.sc_refines_world.proofs.Scopes as scopes
-use Rattle.sc_refines_world.proofs.Scopes.{AreOf, Knows, entry_knows, moves_leave, routine_is}
+use Rattle.sc_refines_world.proofs.MoveScopes.{moves_leave}
+use Rattle.sc_refines_world.proofs.TaskTexts.{AreOf, routine_is}
+use Rattle.sc_refines_world.proofs.KnownFormals.{Knows, entry_knows}
 
 -- ---- a frame
 

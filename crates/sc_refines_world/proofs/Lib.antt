@@ -7,6 +7,7 @@ mod Contracts
 pub mod RoundTurns
 mod Headlined
 mod IdleWorlds
+mod TurnHalves
 mod TurnNeeds
 mod RequestNames
 pub mod Opening
@@ -23,10 +24,16 @@ mod ReachedMoves
 mod Ownership
 mod Exact
 mod Molds
+mod StayingRequests
 mod FrameMoves
+mod TurnMoves
 mod Creations
+mod KnownFormals
+mod TaskTexts
 mod Scopes
+mod MoveScopes
 mod KnownNames
+mod LeftStores
 mod Acted
 mod Frames
 mod Growth
@@ -34,6 +41,7 @@ mod Turned
 mod AwaitedRequests
 mod Worlds
 mod OneRun
+pub mod SmallStates
 pub mod BadStates
 mod BadTurns
 mod Worked

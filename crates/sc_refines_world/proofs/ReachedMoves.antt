@@ -32,7 +32,8 @@ use Rattle.sc_refines_core.proofs.Unstarted.{each_stands}
 use Rattle.sc_machine_requests.proofs.Turned as kept
 use Rattle.sc_machine_preconditions.specs.Starting.{IsVerdict}
 use Rattle.sc_refines_world.specs.Moving.{FramesMove, TurnsMoveRequests, is_plain}
-use Rattle.sc_refines_world.proofs.FrameMoves.{AsksAnother, turn_moves}
+use Rattle.sc_refines_world.proofs.FrameMoves.{AsksAnother}
+use Rattle.sc_refines_world.proofs.TurnMoves.{turn_moves}
 use Rattle.sc_refines_world.proofs.ReachedStates.{reached_fits}
 
 -- where a clause of a precondition is left a routine has not started

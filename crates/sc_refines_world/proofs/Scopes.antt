@@ -1,8 +1,6 @@
 -- What silent and visible steps leave of the names of a routine: its formals first, then its locals and others.
-use Rattle.std.proofs.Common.{arith, ◌≡◌, ◌≤◌, ◌+◌, ◌∙◌, ℕ, zero, suc, ℤ, List, [], ◌∷◌, ◌++◌, Option, Some, None, Ok, Err, Bool, true, false, take, refl, subst, sym, ap}
-use Rattle.std.specs.Prelude.{Contains, map, if◌then◌else◌, length, nat_lt, ◌==◌, slice_get}
-use Rattle.std.specs.List.{cons_option}
-use Rattle.std.specs.Option.{option_map}
+use Rattle.std.proofs.Common.{◌≡◌, ◌≤◌, ◌+◌, ◌∙◌, ℕ, ℤ, List, [], ◌∷◌, ◌++◌, Option, Some, None, Ok, Err, Bool, true, false, refl, subst, sym}
+use Rattle.std.specs.Prelude.{map, if◌then◌else◌, length, nat_lt, ◌==◌, slice_get}
 use Rattle.sc_formula.specs.declared.arithmetic.ArithmeticFault.TheVariants as fault
 use Rattle.sc_formula.specs.declared.arithmetic.ArithmeticOperator.{ArithmeticOperator}
 use Rattle.sc_formula.specs.declared.comparison.Comparison.{Comparison}
@@ -12,7 +10,7 @@ use Rattle.sc_tree.specs.declared.expression.UnaryOperator.{UnaryOperator}
 use Rattle.sc_tree.specs.declared.expression.UnaryOperator.TheVariants as unary
 use Rattle.sc_tree.specs.declared.expression.BinaryOperator.{BinaryOperator}
 use Rattle.sc_tree.specs.Plain as tree
-use Rattle.sc_tree.specs.Plain.{System, Declaration, FeatureKind, DeclaredType, Clause, CreationCall, Head, Name, Variable, Named, ResultVariable, Exprs, no_exprs, expr_then, Instr, Instrs, no_instrs, instr_then, Branches, no_branches, branch_then}
+use Rattle.sc_tree.specs.Plain.{System, Declaration, FeatureKind, DeclaredType, Clause, Head, Name, Variable, Named, ResultVariable, Exprs, no_exprs, expr_then, Instr, Instrs, no_instrs, instr_then, Branches, no_branches, branch_then}
 use Rattle.sc_tree.specs.Properties.{is_print}
 use Rattle.sc_class.specs.declared.identity.ClassId.{ClassId}
 use Rattle.sc_class.specs.declared.identity.ClassId.TheVariants as class
@@ -21,227 +19,29 @@ use Rattle.sc_proctype.specs.declared.tag.Tag.{Tag}
 use Rattle.sc_proctype.specs.declared.tag.Tag.TheVariants as tag
 use Rattle.sc_proctype.specs.declared.entity_type.EntityType.{EntityType}
 use Rattle.sc_rules.specs.CallRules.{count}
-use Rattle.sc_rules.specs.declared.position.Role.{Role}
 use Rattle.sc_rules.specs.declared.position.Role.TheVariants as role
-use Rattle.sc_rules.specs.Types.{declared_type}
-use Rattle.sc_rules.specs.Names.{Entities, Entity, entity, block_type, blocks, formal_entities, formals_known, is_local, locals_known, reserved, Assignee, to_local, to_attribute, assignee_type, Signature, signature_of, current, given_type, test_type}
+use Rattle.sc_rules.specs.Names.{Assignee, to_local, to_attribute, assignee_type, Signature, signature_of, current, given_type, test_type}
 use Rattle.sc_model.specs.declared.cause.Cause.{Cause}
 use Rattle.sc_model.specs.declared.cause.Cause.TheVariants as cause
-use Rattle.sc_model.specs.Values.{Reference, Value, Integer, Boolean, Void, Attached, Operand, default_of}
-use Rattle.sc_model.specs.Environments.{Binding, assigned_to, bind, binding_named, block_bound, formals_bound, handler_named, is_formal, known_of, locals_bound, name_bound, scope_of, with_binding}
+use Rattle.sc_model.specs.Values.{Reference, Value, Integer, Boolean, Void, Attached, Operand}
+use Rattle.sc_model.specs.Environments.{Binding, assigned_to, bind, binding_named, handler_named, locals_bound}
 use Rattle.sc_model.specs.Objects.{Object, object_numbered, attributes_of, fresh_object}
 use Rattle.sc_model.specs.Invariants.{meets_invariant}
 use Rattle.sc_model.specs.Operators.{arithmetic_of, comparison_of, connective_of, identity_of, is_short}
-use Rattle.sc_model.specs.Routines.{Routine, Text, place_in, version_of}
-use Rattle.sc_model.specs.Olds.{olds_in, olds_of_clauses}
+use Rattle.sc_model.specs.Routines.{Routine, place_in, version_of}
+use Rattle.sc_model.specs.Olds.{olds_in}
 use Rattle.sc_model.specs.Limits.{max_objects}
-use Rattle.sc_model.specs.Tasks.{Task, Do, In, Declare, Forget, Eval, ApplyUnary, EvalRight, ApplyBinary, Conclude, Bind, CallUnqualified, CallQualified, AssignTo, Print, Choose, Repeat, EndLoop, Checked, Require, Required, KeepOld, Ensured, CreateBy, Open, Leave, evals, head_evals, checks, requires, keeps_olds, ensures, tasks_of}
+use Rattle.sc_model.specs.Tasks.{Task, Do, In, Declare, Forget, Eval, ApplyUnary, EvalRight, ApplyBinary, Conclude, Bind, CallUnqualified, CallQualified, AssignTo, Print, Choose, Repeat, EndLoop, Checked, Require, Required, KeepOld, Ensured, CreateBy, Open, Leave}
 use Rattle.sc_model.specs.Steps.{Does, Fails, Goes, Point, Step, fails, gives, reads_as, reads_attribute, popped, forgets}
 use Rattle.sc_model.specs.Calls.{given_by, passes_rights, enters_unqualified, calls_own, calls_unqualified, calls_kind, calls_version, requests, calls_object, calls_on, calls_qualified}
 use Rattle.sc_model.specs.Creations.{creates_object, creates_here, creates_at, creates_as, creates, assigned_at}
 use Rattle.sc_model.specs.ObjectTests.{is_tested, binds_if, binds}
 use Rattle.sc_model.specs.Expressions.{gives_outcome, gives_truth, apply_unary, apply_to_integers, apply_to_booleans, is_same_object, apply_binary, applies, decided_by, evals_right, concludes, gives_found, reads_result, reads_own, begins_kind, begins_feature, begins_name, evaluate}
 use Rattle.sc_model.specs.Instructions.{assigns, prints, chooses_other, chooses, ends_loop, tests, required, opens, actuals_of, procedure_of, begins_routine, begins}
-use Rattle.sc_model.specs.Moves.{first_visible, moves, performs, step, step_at, then_go}
-use Rattle.sc_model.specs.Sizes.{size}
-use Rattle.sc_machine_values.specs.Points.{Each}
+use Rattle.sc_model.specs.Moves.{performs, step_at}
 use Rattle.sc_machine_values.proofs.Assigned.{scope_assigned}
-use Rattle.sc_machine_values.proofs.Lists.{each_append}
-use Rattle.sc_refines_world.specs.Texts.{IsBehindFormals}
-
--- ---- names
-
-abbrev All : System → Routine → Entities → Type 0
-All s r n = Each (IsBehindFormals s r) n
-
--- the formals of the routine, and others behind them
-pub record Knows (s : System) (r : Routine) (bs : List Binding) : Type 0 where
-  pub others : Entities
-  pub names_are : scope_of bs ≡ formals_known s r.text.formals ++ others
-  pub others_are : All s r others
-
--- what is neither a formal nor a local
-neither : (s : System) (r : Routine) (x : List ℕ) (t : Option EntityType) (as' : Role) → is_formal as' ≡ false → is_local as' ≡ false → IsBehindFormals s r (entity x t as')
-neither s r x t as' e i = record { is_no_formal = e; local_is_declared = λ l. absurd (no_both i l) }
-  where
-    no_both : {b : Bool} → b ≡ false → b ≡ true → ⊥
-    no_both e i = cc
-
-append_more : {A : Type 0} (xs ys zs : List A) → (xs ++ ys) ++ zs ≡ xs ++ (ys ++ zs)
-append_more [] ys zs = refl
-append_more (x ∷ xs) ys zs = ap (λ l. x ∷ l) (append_more xs ys zs)
-
-scope_more : (bs cs : List Binding) → scope_of (bs ++ cs) ≡ scope_of bs ++ scope_of cs
-scope_more [] cs = refl
-scope_more (b ∷ bs) cs = ap (λ n. known_of b ∷ n) (scope_more bs cs)
-
-known_more : (s : System) (r : Routine) (bs cs : List Binding) → Knows s r bs → All s r (scope_of cs) → Knows s r (bs ++ cs)
-known_more s r bs cs k more = record {
-  others = k.others ++ scope_of cs;
-  names_are = scope_more bs cs ∙ ap (λ n. n ++ scope_of cs) k.names_are ∙ append_more (formals_known s r.text.formals) k.others (scope_of cs);
-  others_are = each_append (IsBehindFormals s r) k.others (scope_of cs) k.others_are more;
-}
-
--- ---- fewer names
-
-each_take : {A : Type 0} (P : A → Type 0) (d : ℕ) (xs : List A) → Each P xs → Each P (take d xs)
-each_take P zero xs all = tt
-each_take P (suc d) [] all = tt
-each_take P (suc d) (x ∷ xs) all = (all.0, each_take P d xs all.1)
-
-record Taken (A : Type 0) (P : A → Type 0) (d : ℕ) (xs ys : List A) : Type 0 where
-  rest : List A
-  is : take d (xs ++ ys) ≡ xs ++ rest
-  all : Each P rest
-
-taken : {A : Type 0} (P : A → Type 0) (d : ℕ) (xs ys : List A) → length xs ≤ d → Each P ys → Taken A P d xs ys
-taken P d [] ys l all = record { rest = take d ys; is = refl; all = each_take P d ys all }
-taken P zero (x ∷ xs) ys l all = absurd (omega (arith, l))
-taken P (suc d) (x ∷ xs) ys l all = let t = taken P d xs ys (omega (arith, l)) all in record { rest = t.rest; is = ap (λ n. x ∷ n) t.is; all = t.all }
-
-scope_take : (d : ℕ) (bs : List Binding) → scope_of (take d bs) ≡ take d (scope_of bs)
-scope_take zero bs = refl
-scope_take (suc d) [] = refl
-scope_take (suc d) (b ∷ bs) = ap (λ n. known_of b ∷ n) (scope_take d bs)
-
-formals_many : (s : System) (all : List Declaration) (i : ℕ) (ds : List Declaration) → length (formal_entities s all i ds) ≡ length ds
-formals_many s all i [] = refl
-formals_many s all i (d ∷ ds) = ap suc (formals_many s all (i + 1) ds)
-
-known_less : (s : System) (r : Routine) (d : ℕ) (bs : List Binding) → length r.text.formals ≤ d → Knows s r bs → Knows s r (take d bs)
-known_less s r d bs l k =
-    let many = formals_many s r.text.formals 0 r.text.formals in
-    let t = taken (IsBehindFormals s r) d (formals_known s r.text.formals) k.others (omega (arith, l, many)) k.others_are in
-    record { others = t.rest; names_are = scope_take d bs ∙ ap (take d) k.names_are ∙ t.is; others_are = t.all }
-
-length_more : {A : Type 0} (xs ys : List A) → length xs ≤ length (xs ++ ys)
-length_more [] ys = omega arith
-length_more (x ∷ xs) ys = let l = length_more xs ys in omega (arith, l)
-
-scope_many : (bs : List Binding) → length (scope_of bs) ≡ length bs
-scope_many [] = refl
-scope_many (b ∷ bs) = ap suc (scope_many bs)
-
--- there are as many names as formals, or more
-known_many : (s : System) (r : Routine) (bs : List Binding) → Knows s r bs → length r.text.formals ≤ length bs
-known_many s r bs k =
-    let all = scope_many bs in
-    let these = ap length k.names_are in
-    let formals = formals_many s r.text.formals 0 r.text.formals in
-    let more = length_more (formals_known s r.text.formals) k.others in
-    omega (arith, all, these, formals, more)
-
--- ---- more names
-
-locals_others : (s : System) (r : Routine) (ds : List Declaration) →
-    ((e : Entity) → Contains (locals_known s r.text.formals ds) e → Contains (locals_known s r.text.formals r.locals) e) → All s r (scope_of (locals_bound s r.text.formals ds))
-locals_others s r [] within = tt
-locals_others s r (d ∷ ds) within = by (declared_type s r.text.formals d.declared_type) refl (locals_others s r ds (λ e i. within e (later e i)))
-  where
-    first : Entity
-    first = entity d.name.text (declared_type s r.text.formals d.declared_type) role.Local
-
-    later : (e : Entity) → Contains (locals_known s r.text.formals ds) e → Contains (first ∷ locals_known s r.text.formals ds) e
-    later e (i, l, is) = (suc i, omega (arith, l), is)
-
-    by : (o : Option EntityType) → declared_type s r.text.formals d.declared_type ≡ o → All s r (scope_of (locals_bound s r.text.formals ds)) →
-        All s r (scope_of (cons_option (option_map (λ (t : EntityType). bind d.name.text t role.Local (default_of t.class)) o) (locals_bound s r.text.formals ds)))
-    by None is rest = rest
-    by (Some t) is rest = (
-      record {
-        is_no_formal = refl;
-        local_is_declared = λ l. subst (λ o. Contains (locals_known s r.text.formals r.locals) (entity d.name.text o role.Local)) is (within first (zero, omega arith, refl));
-      },
-      rest,
-    )
-
-block_known : (s : System) (r : Routine) (xs : List Name) (us : List Operand) (bs : List Binding) → Knows s r bs → Knows s r (block_bound xs us bs)
-block_known s r [] us bs k = k
-block_known s r (x ∷ xs) [] bs k = k
-block_known s r (x ∷ xs) (u ∷ us) bs k =
-    block_known s r xs us (bs ++ name_bound x (block_type (blocks (scope_of bs)) (Some u.type)) u.value)
-    (known_more s r bs (name_bound x (block_type (blocks (scope_of bs)) (Some u.type)) u.value) k (by (block_type (blocks (scope_of bs)) (Some u.type))))
-  where
-    by : (o : Option EntityType) → All s r (scope_of (name_bound x o u.value))
-    by None = tt
-    by (Some t) = (neither s r x.text (Some t) role.Block refl refl, tt)
-
--- an entry knows its formals
-formals_there : (s : System) (all : List Declaration) (i : ℕ) (ds : List Declaration) (vs : List Value) (bs : List Binding) → formals_bound s all i ds vs ≡ Some bs →
-    scope_of bs ≡ formal_entities s all i ds
-formals_there s all i [] [] bs e = let is : [] ≡ bs = cc in ap scope_of (sym is)
-formals_there s all i [] (v ∷ vs) bs e = cc
-formals_there s all i (d ∷ ds) [] bs e = cc
-formals_there s all i (d ∷ ds) (v ∷ vs) bs e =
-    by (declared_type s all d.declared_type) (formals_bound s all (i + 1) ds vs) refl (λ cs. formals_there s all (i + 1) ds vs cs) e
-  where
-    by : (o : Option EntityType) (b : Option (List Binding)) → declared_type s all d.declared_type ≡ o → ((cs : List Binding) → b ≡ Some cs → scope_of cs ≡ formal_entities s all (i + 1) ds) →
-        with_binding o d.name.text i v b ≡ Some bs → scope_of bs ≡ formal_entities s all i (d ∷ ds)
-    by (Some t) (Some cs) is rest e =
-        let these : bind d.name.text (reserved i t) role.Formal v ∷ cs ≡ bs = cc in
-        ap scope_of (sym these) ∙ ap (λ n. entity d.name.text (Some (reserved i t)) role.Formal ∷ n) (rest cs refl)
-        ∙ ap (λ o. entity d.name.text (option_map (reserved i) o) role.Formal ∷ formal_entities s all (i + 1) ds) (sym is)
-    by (Some t) None is rest e = cc
-    by None (Some cs) is rest e = cc
-    by None None is rest e = cc
-
-nil_more : {A : Type 0} (xs : List A) → xs ≡ xs ++ []
-nil_more [] = refl
-nil_more (x ∷ xs) = ap (λ l. x ∷ l) (nil_more xs)
-
-pub entry_knows : (s : System) (r : Routine) (vs : List Value) (bs : List Binding) → formals_bound s r.text.formals 0 r.text.formals vs ≡ Some bs → Knows s r bs
-entry_knows s r vs bs e =
-    record { others = []; names_are = formals_there s r.text.formals 0 r.text.formals vs bs e ∙ nil_more (formals_known s r.text.formals); others_are = tt }
-
--- ---- tasks
-
--- In this text the task declares the locals of the routine alone, and forgets none of its formals.
-abbrev pub IsOf : Routine → Text → Task → Type 0
-IsOf r t (Declare ls) = (t.formals ≡ r.text.formals) × (ls ≡ r.locals)
-IsOf r t (Forget depth) = length r.text.formals ≤ depth
-IsOf r t (Choose depth body bs other) = length r.text.formals ≤ depth
-IsOf r t (Leave depth) = length r.text.formals ≤ depth
-IsOf r t task = Unit {0}
-
-abbrev pub text_behind : Text → Task → Text
-text_behind t (In u) = u
-text_behind t task = t
-
--- so does each of these
-abbrev pub AreOf : Routine → Text → List Task → Type 0
-AreOf r t [] = Unit {0}
-AreOf r t (x ∷ ts) = IsOf r t x × AreOf r (text_behind t x) ts
-
-module _ (r : Routine) (t : Text) where
-  evals_then : (i : ℕ) (es : Exprs) (c : Task) (ts : List Task) → AreOf r t (c ∷ ts) → AreOf r t ((evals i es ++ c ∷ []) ++ ts)
-  evals_then i no_exprs c ts l = l
-  evals_then i (expr_then e es) c ts l = (tt, evals_then (i + olds_in e) es c ts l)
-
-  heads_then : (ds : List Head) (c : Task) (ts : List Task) → AreOf r t (c ∷ ts) → AreOf r t ((head_evals ds ++ c ∷ []) ++ ts)
-  heads_then [] c ts l = l
-  heads_then (d ∷ ds) c ts l = (tt, heads_then ds c ts l)
-
-  checks_then : (ks : List Clause) (ts : List Task) → AreOf r t ts → AreOf r t (checks ks ++ ts)
-  checks_then [] ts l = l
-  checks_then (k ∷ ks) ts l = (tt, (tt, checks_then ks ts l))
-
-  olds_then : (es : List tree.Expr) (ts : List Task) → AreOf r t ts → AreOf r t (keeps_olds es ++ ts)
-  olds_then [] ts l = l
-  olds_then (e ∷ es) ts l = (tt, (tt, olds_then es ts l))
-
-  requires_then : (ks : List Clause) (es : List tree.Expr) (ts : List Task) → AreOf r t ts → AreOf r t ((requires ks ++ keeps_olds es) ++ ts)
-  requires_then [] es ts l = olds_then es ts l
-  requires_then (k ∷ ks) es ts l = (tt, olds_then es ts l)
-
-  ensures_are : (i : ℕ) (ks : List Clause) → AreOf r t (ensures i ks)
-  ensures_are i [] = tt
-  ensures_are i (k ∷ ks) = (tt, (tt, ensures_are (i + olds_in k.condition) ks))
-
--- all of the routine
-pub routine_is : (r : Routine) (t : Text) → AreOf r t (tasks_of r)
-routine_is r t = requires_then r t r.require (olds_of_clauses r.ensure)
-    (In r.text ∷ Declare r.locals ∷ Do r.body ∷ Forget (length r.text.formals) ∷ In r.contract ∷ ensures 0 r.ensure)
-    (tt, ((refl, refl), (tt, (omega arith, (tt, ensures_are r r.contract 0 r.ensure)))))
+use Rattle.sc_refines_world.proofs.KnownFormals.{Knows, neither, known_more, known_less, known_many, locals_others, block_known}
+use Rattle.sc_refines_world.proofs.TaskTexts.{IsOf, text_behind, AreOf, evals_then, heads_then, checks_then}
 
 -- ---- steps
 
@@ -587,18 +387,7 @@ module _ (s : System) (me : Reference) (routine : Routine) where
   performs_l Checked (u ∷ vs) p k o l = tests_l cause.Check u.value (record p { values = vs }) (k, l)
   performs_l t [] p k o l = tt
 
-  step_at_l : (ts : List Task) (p : Point) → p.tasks ≡ ts → Left p → Leaves (step_at s me ts p)
+  pub step_at_l : (ts : List Task) (p : Point) → p.tasks ≡ ts → Left p → Leaves (step_at s me ts p)
   step_at_l [] p e l = l
   step_at_l (t ∷ ts) p e l =
       let are : AreOf routine p.text (t ∷ ts) = subst (AreOf routine p.text) e l.1 in performs_l t p.values (record p { tasks = ts }) l.0 are.0 are.1
-
-  then_l : (x : Step) (go : Point → Step) → ((q : Point) → Left q → Leaves (go q)) → Leaves x → Leaves (then_go x go)
-  then_l (Goes q) go more l = more q l
-  then_l (Does a q) go more l = l
-
-  visible_l : (n : ℕ) (p : Point) → Left p → Leaves (first_visible n s me p)
-  visible_l zero p l = l
-  visible_l (suc n) p l = then_l (step s me p) (first_visible n s me) (λ q m. visible_l n q m) (step_at_l p.tasks p refl l)
-
-  pub moves_leave : (p : Point) → Left p → Leaves (moves s me p)
-  moves_leave p l = visible_l (suc (size p.tasks)) p l

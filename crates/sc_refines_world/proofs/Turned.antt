@@ -39,7 +39,8 @@ use Rattle.sc_refines_turn.specs.Wanting.{DistinctNamesHaveNumbers}
 use Rattle.sc_refines_turn.proofs.SilentOperations.{runs_in}
 use Rattle.sc_refines_turn.proofs.Unique.{hop_shown, one_visible}
 use Rattle.sc_refines_world.specs.Functional.{AreExact, FirstTurnsAreFunctional, FirstTurnsKeepExact, IsGiven}
-use Rattle.sc_refines_world.proofs.Acted.{Left, done_tells}
+use Rattle.sc_refines_world.proofs.Acted.{done_tells}
+use Rattle.sc_refines_world.proofs.LeftStores.{Left}
 use Rattle.sc_refines_world.proofs.Back.{objects_same}
 use Rattle.sc_refines_world.proofs.Exact.{Grown, exact_grown, exact_shapes}
 use Rattle.sc_refines_world.proofs.Frames.{frames_same, molds_many}

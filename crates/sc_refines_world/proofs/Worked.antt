@@ -17,7 +17,8 @@ use Rattle.sc_model.specs.Values.{Value}
 use Rattle.sc_refines_world.specs.Moving as moving
 use Rattle.sc_refines_world.specs.Moving.{FramesMove, take_next}
 use Rattle.sc_refines_world.specs.Texts.{IsBehindFormals, KnowsItsText}
-use Rattle.sc_refines_world.proofs.BadStates.{alone, broken, frame, request, routine, text}
+use Rattle.sc_refines_world.proofs.BadStates.{broken}
+use Rattle.sc_refines_world.proofs.SmallStates.{alone, frame, request, routine, text}
 
 -- ---- a request is done at once
 
