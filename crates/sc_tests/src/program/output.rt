@@ -50,12 +50,11 @@ fn expect_cut<'a, R: Abort + Threads + Wait + Clock + Sync + AllocGlobal>(
             kind: failure.kind,
         };
         let taken = printed.get(..calls).unwrap_or("");
-        let wanted = if calls > printed.len() {
-            (status, printed, "")
+        if calls > printed.len() {
+            expect(rt, call, (status, printed, ""))?;
         } else {
-            (failure.status, taken, failure.told)
-        };
-        expect(rt, call, wanted)?;
+            expect(rt, call, (failure.status, taken, failure.told))?;
+        }
     }
     Ok(())
 }
