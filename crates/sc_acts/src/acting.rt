@@ -5,7 +5,7 @@ ghost use Rattle.sc_acts.specs.Acting.{acted, asks_acting};
 ghost use Rattle.sc_acts.specs.Turning.{unless_failed};
 
 use crate::act::Act;
-use crate::blocks::{leave, open};
+use crate::blocks::open;
 use crate::creating::create_object;
 use crate::creating_handlers::create_handler;
 use crate::entering::enter;
@@ -14,6 +14,7 @@ use crate::printing::{print_boolean, print_integer, print_text};
 use crate::refusing::refuse;
 use crate::requesting::request;
 use crate::steps::{end_round, start, unless_failed};
+use sc_leaving::leave;
 use sc_lockpass::HandlerNumber;
 use sc_region::{Store, Want};
 use std::alloc::AllocError;

@@ -1,16 +1,15 @@
-//! Separate blocks.
-ghost use Rattle.std.specs.Prelude.{◌≡◌, ◌<◌, ◌≤◌, ◌+◌, [], ◌++◌, IfSome, IfNone, Some, length};
+//! The beginning of a separate block.
+ghost use Rattle.std.specs.Prelude.{◌≡◌, ◌<◌, ◌≤◌, ◌+◌, [], ◌++◌, Some, length};
 ghost use Rattle.std.specs.List.{cons_option};
 ghost use Rattle.std.specs.Option.{option_map};
 ghost use Rattle.sc_region.specs.Frames.{PlainActivation, activation_of, top_activation};
 ghost use Rattle.sc_acts.specs.Entering.{handler_of};
 ghost use Rattle.sc_region.specs.Calls.{on_top};
-ghost use Rattle.sc_acts.specs.Blocks.{asks_leaving, asks_opening, block_left, closing, handlers_of, heads_in, heads_of, innermost, innermost_in, may_open, opened, opening, written};
+ghost use Rattle.sc_acts.specs.Blocks.{asks_opening, handlers_of, heads_in, heads_of, may_open, opened, opening, written};
 
 use crate::operands::{has_actuals, last_values};
-use crate::stages::misfit;
-use crate::steps::go_past;
 use arrayvec::ArrayVec;
+use sc_leaving::{go_past, misfit};
 use sc_lockpass::HandlerNumber;
 use sc_region::{Activation, Stage, Store, Value, Want};
 
@@ -126,45 +125,6 @@ pub fn open(store: &mut Store<'_>, first: usize, count: usize, asked: &mut Want)
             open_top(store, first, heads.as_slice());
             *asked = Want::Reserve(handlers_of(heads.as_slice()));
         }
-        None => misfit(store, asked),
-    }
-}
-
-// ---- a block ends
-
-/// The innermost block, if there is one, is open no more; what it newly reserved is told.
-fn close_on(activation: &mut Activation) -> Option<ArrayVec<HandlerNumber, 16>>
-    ensures reserved { option_map (λ handlers. handlers.items) result ≡ innermost (activation_of activation.old).blocks }
-    ensures closed { IfSome result (λ handlers. activation_of activation.new ≡ closing (activation_of activation.old)) }
-    ensures same { IfNone result (activation_of activation.new ≡ activation_of activation.old) }
-{
-    let reserved = activation.blocks.pop()?;
-    go_past(activation, 0);
-    Some(reserved)
-}
-
-/// The same of the topmost routine.
-fn close_top(store: &mut Store<'_>) -> Option<ArrayVec<HandlerNumber, 16>>
-    ensures reserved { option_map (λ handlers. handlers.items) result ≡ innermost_in (top_activation store.old.frames) }
-    ensures closed { IfSome result (λ handlers. store.new ≡ on_top closing store.old) }
-    ensures same { IfNone result (store.new ≡ store.old) }
-{
-    match store.top_mut() {
-        Some(activation) => close_on(activation),
-        None => None,
-    }
-}
-
-/// The innermost separate block ends: F16 where none is open. What it newly reserved is released.
-///
-/// It stays a call, as `request` does.
-#[inline(never)]
-pub fn leave(store: &mut Store<'_>, asked: &mut Want)
-    ensures store { store.new ≡ block_left store.old }
-    ensures want { asked.new ≡ asks_leaving (top_activation store.old.frames) }
-{
-    match close_top(store) {
-        Some(handlers) => *asked = Want::Release(handlers),
         None => misfit(store, asked),
     }
 }

@@ -7,8 +7,8 @@ ghost use Rattle.sc_acts.specs.CreatingHandlers.{asks_creating, creating, creati
 
 use crate::act::RemoteCreation;
 use crate::operands::{has_actuals, last_values};
-use crate::stages::{await_if, misfit};
-use crate::steps::go_past;
+use crate::stages::await_if;
+use sc_leaving::{go_past, misfit};
 use sc_lockpass::HandlerNumber;
 use sc_region::{Activation, Reference, Store, Value, Want};
 

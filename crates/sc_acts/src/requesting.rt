@@ -7,9 +7,9 @@ ghost use Rattle.sc_acts.specs.Requesting.{asks_requesting, asks_sending, asks_s
 
 use crate::act::RemoteCall;
 use crate::operands::{add_last_values, has_call};
-use crate::stages::{await_if, misfit};
-use crate::steps::go_past;
+use crate::stages::await_if;
 use arrayvec::ArrayVec;
+use sc_leaving::{go_past, misfit};
 use sc_lockpass::HandlerNumber;
 use sc_region::{Activation, Errand, Request, Store, Want};
 

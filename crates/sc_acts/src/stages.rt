@@ -1,14 +1,10 @@
-//! How the topmost routine goes on: it waits for an answer, or its handler fails.
+//! How the topmost routine goes on that waits for an answer.
 ghost use Rattle.std.specs.Prelude.{◌≡◌};
-ghost use Rattle.sc_model.specs.declared.cause.Cause.TheVariants as cause;
 ghost use Rattle.sc_region.specs.Frames.{activation_of};
-ghost use Rattle.sc_region.specs.Stores.{failed};
-ghost use Rattle.sc_region.specs.declared.job.Want.TheVariants as want;
 ghost use Rattle.sc_acts.specs.Requesting.{awaiting_if};
 
 use sc_lockpass::HandlerNumber;
-use sc_model::Cause;
-use sc_region::{Activation, Stage, Store, Want};
+use sc_region::{Activation, Stage};
 
 /// Where `waits` is True, the routine waits for the answer of the supplier, which gives a value or none, perhaps to a
 /// creation.
@@ -28,16 +24,4 @@ pub fn await_if(
             is_creation,
         };
     }
-}
-
-/// No case fits: the store ends in F16, and that is asked.
-///
-/// It stays a call, as `request` does.
-#[inline(never)]
-pub fn misfit(store: &mut Store<'_>, asked: &mut Want)
-    ensures store { store.new ≡ failed cause.BadCode store.old }
-    ensures want { asked.new ≡ want.Fail cause.BadCode }
-{
-    store.fail(Cause::BadCode);
-    *asked = Want::Fail(Cause::BadCode);
 }

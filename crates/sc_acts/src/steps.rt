@@ -5,16 +5,9 @@ ghost use Rattle.sc_region.specs.declared.job.Want.TheVariants as want;
 ghost use Rattle.sc_region.specs.Calls.{on_top, past};
 ghost use Rattle.sc_acts.specs.Turning.{back, round_ended, unless_failed};
 
+use sc_leaving::go_past;
 use sc_model::Cause;
 use sc_region::{Activation, Operands, Store, Want};
-
-/// So many operands go, and the next operation comes.
-pub fn go_past(activation: &mut Activation, count: usize)
-    ensures { activation_of activation.new ≡ past count (activation_of activation.old) }
-{
-    activation.operands.drop_last(count);
-    activation.place = activation.place.saturating_add(1);
-}
 
 /// The same of the topmost routine.
 pub fn pass(store: &mut Store<'_>, count: usize)
