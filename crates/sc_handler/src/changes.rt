@@ -6,7 +6,7 @@ ghost use Rattle.sc_handler.specs.InMemory.{answer_of, cleared, handler_with, po
 
 use crate::handler::{Answer, Handler, HandlerStage, Posting};
 use crate::postings::{append, stand_over, take_all, take_first, write_first};
-use sc_lockpass::Passed;
+use sc_lockpass::{Passed, post};
 use sc_model::Cause;
 use sc_region::Request;
 use sc_waitcond::Mark;
@@ -98,11 +98,7 @@ impl Handler {
         ensures out { self.new.out ≡ self.old.out }
     {
         write_first(&mut node, request, is_waited, passed);
-        if is_callback {
-            self.callback = node;
-        } else {
-            append(&mut self.queue, &mut node);
-        }
+        post(is_callback, node, &mut self.queue, &mut self.callback);
     }
 
     /// Fails: it has no frames, and nothing that it is asked for.

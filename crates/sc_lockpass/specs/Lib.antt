@@ -1,5 +1,6 @@
 pub mod Versions
 pub mod Rights
 pub mod Passing
+pub mod Posting
 pub mod Tables
 pub mod Laws

@@ -1,6 +1,7 @@
 //! Who holds which handler, and how these rights are passed with a request and return with its answer.
 //!
-//! `specs/Rights` and `specs/Passing` are the definitions, on maps from handlers to a handler or nobody.
+//! `specs/Rights` and `specs/Passing` are the definitions, on maps from handlers to a handler or nobody. `specs/Posting` says
+//! where what is asked of a handler stands.
 #![tactic(auto)]
 
 mod handler_number;
@@ -8,11 +9,13 @@ mod handler_set;
 mod holders;
 pub mod laws;
 mod passed;
+mod posting;
 mod rights;
 mod same;
 mod version;
 
 pub use handler_number::HandlerNumber;
 pub use passed::Passed;
+pub use posting::post;
 pub use rights::Rights;
 pub use version::Version;
