@@ -19,8 +19,8 @@ use Rattle.sc_machine_rights.specs.Steps.{IsTold, answered, waits_for}
 use Rattle.sc_machine_rights.proofs.MachineFrames.{contains_cases, contains_first, contains_later, contains_none}
 use Rattle.sc_machine_rights.proofs.Waits.{true_false}
 use Rattle.sc_machine_rights.proofs.links.Reached.{reached_stands}
-use Rattle.sc_machine_requests.proofs.StandingRequests.{begun_in, standing, standing_is, this_if}
-use Rattle.sc_machine_requests.proofs.Tops.{reply_same}
+use Rattle.sc_machine_contracts.proofs.StandingRequests.{begun_in, standing, standing_is, this_if}
+use Rattle.sc_machine_contracts.proofs.Tops.{reply_same}
 use Rattle.sc_refines_world.specs.Moving.{HasRequestAt, WaitersHaveRequests}
 
 none_some : {X A : Type 0} (x : X) → None ≡ Some x → A

@@ -5,10 +5,10 @@ use Rattle.sc_machine_rights.proofs.Posts.{posted_under_right}
 use Rattle.sc_machine_rights.proofs.links.Held.{reached_formals_are_held, reached_names_are_held}
 use Rattle.sc_machine_rights.proofs.links.Reached.{reached_stands}
 use Rattle.sc_machine_values.proofs.AwaitedEnds.{each_non_separate_is_own, each_value_fits}
-use Rattle.sc_machine_requests.proofs.Tops.{beyond_is_unused}
-use Rattle.sc_machine_requests.proofs.Turned.{answers_come}
-use Rattle.sc_machine_preconditions.proofs.Starts.{bodies_start_where_they_hold}
-use Rattle.sc_machine_invariants.specs.Reached.{SettledMeetWhereReached}
+use Rattle.sc_machine_contracts.proofs.Tops.{beyond_is_unused}
+use Rattle.sc_machine_contracts.proofs.Turned.{answers_come}
+use Rattle.sc_machine_contracts.proofs.Starts.{bodies_start_where_they_hold}
+use Rattle.sc_machine_contracts.specs.SettledObjects.{SettledMeetWhereReached}
 use Rattle.sc_refines_world.specs.Refining.{MachineHasHeadline}
 use Rattle.sc_refines_world.proofs.ReachedMoves.{reached_turns_move}
 use Rattle.sc_refines_world.proofs.Ownership.{reached_frames_run_on_own, reached_no_turn_is_excluded, reached_objects_are_of_classes, reached_references_lead, reached_requests_stand_at_targets}

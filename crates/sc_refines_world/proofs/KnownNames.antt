@@ -19,8 +19,8 @@ use Rattle.sc_model.specs.Steps.{Act, Creates, CreatesHandler, Does, Enters, Exi
 use Rattle.sc_model.specs.Tasks.{Task, tasks_of}
 use Rattle.sc_model.specs.Turns.{turn}
 use Rattle.sc_model.specs.Values.{Reference, Value, values_of}
-use Rattle.sc_machine_requests.specs.Laws.{Stays}
-use Rattle.sc_machine_requests.proofs.Turned.{others_stay}
+use Rattle.sc_machine_contracts.specs.RequestLaws.{Stays}
+use Rattle.sc_machine_contracts.proofs.Turned.{others_stay}
 use Rattle.sc_machine_values.specs.Fitting.{FrameFits}
 use Rattle.sc_machine_values.specs.Points.{Each}
 use Rattle.sc_machine_values.proofs.Lists.{each_in}

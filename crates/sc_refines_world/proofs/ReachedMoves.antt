@@ -29,8 +29,8 @@ use Rattle.sc_refines_core.specs.Clauses as clauses
 use Rattle.sc_refines_core.specs.Entries.{HasStarted}
 use Rattle.sc_refines_core.proofs.Clausal.{clauses_call_pure}
 use Rattle.sc_refines_core.proofs.Unstarted.{each_stands}
-use Rattle.sc_machine_requests.proofs.Turned as kept
-use Rattle.sc_machine_preconditions.specs.Starting.{IsVerdict}
+use Rattle.sc_machine_contracts.proofs.Turned as kept
+use Rattle.sc_machine_contracts.specs.Starting.{IsVerdict}
 use Rattle.sc_refines_world.specs.Moving.{FramesMove, TurnsMoveRequests, is_plain}
 use Rattle.sc_refines_world.proofs.FrameMoves.{AsksAnother}
 use Rattle.sc_refines_world.proofs.TurnMoves.{turn_moves}

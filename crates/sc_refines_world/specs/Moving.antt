@@ -19,8 +19,8 @@ use Rattle.sc_model.specs.Values.{Operand, Reference, Value, values_of}
 use Rattle.sc_machine_rights.specs.Headline.{AwaitsAnswer}
 use Rattle.sc_machine_values.specs.Places.{called_name}
 use Rattle.sc_refines_core.specs.Entries.{HasStarted}
-use Rattle.sc_machine_requests.specs.Laws.{OwnQueueMoves, Stays}
-use Rattle.sc_machine_preconditions.specs.Starting.{IsVerdict}
+use Rattle.sc_machine_contracts.specs.RequestLaws.{OwnQueueMoves, Stays}
+use Rattle.sc_machine_contracts.specs.Starting.{IsVerdict}
 
 -- ---- frames
 

@@ -1,5 +1,0 @@
-use Rattle.sc_machine_clauses.proofs.Contracts.{step_of_contract}
-use Rattle.sc_machine_clauses.proofs.laws.contracts_step.Goals as goal
-
-pub returns : goal.returns
-returns c = step_of_contract

@@ -1,4 +1,0 @@
-pub mod Evaluating
-pub mod Formulas
-pub mod Laws
-pub mod Texts

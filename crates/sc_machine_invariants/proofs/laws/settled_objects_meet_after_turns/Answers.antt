@@ -1,5 +1,0 @@
-use Rattle.sc_machine_invariants.proofs.ReachedStates.{settled_objects_meet_after_turns}
-use Rattle.sc_machine_invariants.proofs.laws.settled_objects_meet_after_turns.Goals as goal
-
-pub returns : goal.returns
-returns c = settled_objects_meet_after_turns

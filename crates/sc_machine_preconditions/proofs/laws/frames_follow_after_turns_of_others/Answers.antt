@@ -1,5 +1,0 @@
-use Rattle.sc_machine_preconditions.proofs.OthersFollow.{others_follow}
-use Rattle.sc_machine_preconditions.proofs.laws.frames_follow_after_turns_of_others.Goals as goal
-
-pub returns : goal.returns
-returns c = others_follow

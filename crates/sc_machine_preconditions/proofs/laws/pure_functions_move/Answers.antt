@@ -1,5 +1,0 @@
-use Rattle.sc_machine_preconditions.proofs.PointsReached.{pure_moves}
-use Rattle.sc_machine_preconditions.proofs.laws.pure_functions_move.Goals as goal
-
-pub returns : goal.returns
-returns c = pure_moves

@@ -1,4 +1,0 @@
-pub mod Following
-pub mod Points
-pub mod Starting
-pub mod Turns
