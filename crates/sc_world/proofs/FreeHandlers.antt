@@ -13,9 +13,9 @@ use Rattle.sc_region.specs.Objects.{object_numbered}
 use Rattle.sc_region.specs.Stores.{SettledObjectsMeet, is_settled, new_store}
 use Rattle.sc_request.specs.Logs.{Center, first_from, first_with_job, next, pick_for, picked, put_back, round, settles}
 use Rattle.sc_play.specs.Regions.{PlainRegion, new_region}
-use Rattle.sc_request_counts.specs.Free.{AreLinked}
-use Rattle.sc_request_counts.proofs.Links as linking
-use Rattle.sc_request_counts.proofs.Links.{free_regions_rest, refused_turns_stay_linked, turns_stay_linked}
+use Rattle.sc_world.specs.Requests.Links.{AreLinked}
+use Rattle.sc_world.proofs.Links as linking
+use Rattle.sc_world.proofs.Links.{free_regions_rest, refused_turns_stay_linked, turns_stay_linked}
 use Rattle.sc_world.specs.Free.{FreeObjectsMeet, IsLinked, OpeningsAreLinked, RoundsStayLinked, RunsStayLinked, StoppedRoundsStayLinked, StoppedRunsStayLinked}
 use Rattle.sc_world.specs.Rounds.{IsRefusedNext, Played, Rounds, StopsNext, TurnsOfNext, more, none, turns_of_picked}
 use Rattle.sc_world.specs.Turning.{HeldUpUnder, IsHeldUp, IsRefusedTurn, IsTurn, Makes, PutsBack, Settles, TurnsUnder}

@@ -9,3 +9,10 @@ pub mod Runs
 pub mod ReportParts
 pub mod KeptWorlds
 pub mod TriedTurns
+pub mod StoreChanges
+pub mod VisibleOperations
+pub mod TurnCounts
+pub mod AlikeCounts
+pub mod PassingCounts
+pub mod SettledCounts
+pub mod Links

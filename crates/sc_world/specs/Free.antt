@@ -7,7 +7,7 @@ use Rattle.sc_region.specs.Classes.{MeetsInvariant}
 use Rattle.sc_region.specs.Objects.{PlainObject, object_numbered}
 use Rattle.sc_request.specs.Logs.{status_for}
 use Rattle.sc_play.specs.Regions.{PlainRegion}
-use Rattle.sc_request_counts.specs.Free.{AreLinked}
+use Rattle.sc_world.specs.Requests.Links.{AreLinked}
 use Rattle.sc_world.specs.Rounds.{EndsRounds, StopsRounds}
 use Rattle.sc_world.specs.Turning.{Runs, StopsBehind}
 use Rattle.sc_world.specs.Worlds.{PlainWorld, opened}

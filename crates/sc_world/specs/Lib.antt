@@ -1,6 +1,7 @@
 pub mod Free
 pub mod Kept
 pub mod Reports
+pub mod Requests
 pub mod Rounds
 pub mod Turning
 pub mod Views

@@ -2,12 +2,14 @@
 //!
 //! [`World`] has the core and a region for each handler. A turn is picked from the core, played by the handler's region
 //! and settled in the core. [`KeptWorld`] is what a world held, to be compared with others. In each world that turns lead
-//! to, the objects of a handler that is free meet their class invariants.
+//! to, the objects of a handler that is free meet their class invariants, since its region has no frames: the core and the
+//! regions count the same requests, as [`request_laws`] say.
 #![tactic(auto)]
 
 mod kept_world;
 pub mod laws;
 mod report;
+pub mod request_laws;
 mod world;
 
 pub use kept_world::KeptWorld;

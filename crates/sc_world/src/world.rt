@@ -1,8 +1,8 @@
 //! The world, and its turns.
 ghost use Rattle.std.specs.Prelude.{◌≡◌, ◌≤◌, ◌↔◌, ℕ, IfOk, IsTrue, OnErr, OnOk, Some, length, is_some, replicate, slice_get, true, vec_len};
 ghost use Rattle.std.specs.Option.{option_map};
-ghost use Rattle.sc_request_counts.proofs.Props.{linked_prop};
-ghost use Rattle.sc_request_counts.specs.Free.{AreLinked};
+ghost use Rattle.sc_world.specs.Requests.Props.{linked_prop};
+ghost use Rattle.sc_world.specs.Requests.Links.{AreLinked};
 ghost use Rattle.sc_lockpass.specs.Versions.{most_handlers};
 ghost use Rattle.sc_handler.specs.Logged.{settlements_of};
 ghost use Rattle.sc_request.specs.Cores.{center_of, log_of};

@@ -1,4 +1,0 @@
-pub mod Serving
-pub mod Turns
-pub mod Settlements
-pub mod Free
