@@ -36,10 +36,10 @@ use Rattle.sc_request.specs.Settling.{asked_in, begun, made_at}
 use Rattle.sc_request.specs.Asked.{Numbering, asked, asks_acting, asks_going, asks_moving, asks_on, request_of, taken_of, value_of}
 use Rattle.sc_request.specs.Halves.{posted_of, answer_of, IsStage, IsTop, IsHalfOf}
 use Rattle.sc_request.specs.Steps.{stepped}
-use Rattle.sc_region_turns.specs.RegionTurns as region
-use Rattle.sc_region_turns.specs.RegionTurns.{Half, told, taken_turn}
-use Rattle.sc_region_turns.specs.RegionHalves.{IsStageFor, IsToldOf, AreHalvesOf, IsRegionHalf}
-use Rattle.sc_region_turns.specs.RegionSteps.{numbering_by, taken_if, IsNamed, AreNamed}
+use Rattle.sc_refines_region.specs.RegionTurns as region
+use Rattle.sc_refines_region.specs.RegionTurns.{Half, told, taken_turn}
+use Rattle.sc_refines_region.specs.RegionHalves.{IsStageFor, IsToldOf, AreHalvesOf, IsRegionHalf}
+use Rattle.sc_refines_region.specs.RegionSteps.{numbering_by, taken_if, IsNamed, AreNamed}
 use Rattle.sc_refines_region.specs.Order.{AreInOrder, TakesNone}
 use Rattle.sc_refines_region.proofs.Alike.{own, fails_alike}
 use Rattle.sc_refines_region.proofs.Halves.{half_calm, half_fallen, half_at, calm_halves, view, seen, fail_both, IsCalm}
@@ -48,7 +48,7 @@ use Rattle.sc_refines_region.proofs.VisibleSteps as acting
 use Rattle.sc_refines_region.proofs.VisibleSteps.{IsPlainAct}
 use Rattle.sc_refines_region.proofs.CalmStages.{IsPlain, IsRested, RestedUnder, asked_calm, creates_made}
 use Rattle.sc_refines_region.proofs.Plain.{taking as taking_plain, acting as acting_plain}
-use Rattle.sc_refines_region.proofs.TakenRequests.{value_back, task_there, unpassed_request, takes_half}
+use Rattle.sc_refines_region.proofs.RegionRequests.{value_back, task_there, unpassed_request, takes_half}
 use Rattle.sc_refines_region.proofs.TakenAnswers as answering
 use Rattle.sc_refines_region.proofs.Others.{turn_counts}
 use Rattle.sc_refines_region.proofs.CoreTests.{same_job, named_callback}

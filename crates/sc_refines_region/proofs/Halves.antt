@@ -10,8 +10,8 @@ use Rattle.sc_model.specs.Sessions.{release}
 use Rattle.sc_model.specs.Answers.{finish}
 use Rattle.sc_model.specs.Failures.{fallen, fails_with}
 use Rattle.sc_handler.specs.Handlers as core
-use Rattle.sc_region_turns.specs.RegionTurns.{Half, failed}
-use Rattle.sc_region_turns.specs.RegionHalves.{unpassed, IsStageFor, IsToldOf, IsHalfOfFrame, AreHalvesOf, IsRegionHalf}
+use Rattle.sc_refines_region.specs.RegionTurns.{Half, failed}
+use Rattle.sc_refines_region.specs.RegionHalves.{unpassed, IsStageFor, IsToldOf, IsHalfOfFrame, AreHalvesOf, IsRegionHalf}
 use Rattle.sc_refines_region.proofs.Alike.{IsAlike, own, fails_alike, release_alike, finish_alike}
 
 pub some_none : {A B : Type 0} (x : A) → Some x ≡ None → B

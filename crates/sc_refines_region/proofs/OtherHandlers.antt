@@ -25,7 +25,7 @@ use Rattle.sc_request.specs.Sessions.{fail, is_callback, passed_if, release, sen
 use Rattle.sc_request.specs.Settling.{asked_in, asks, awaits_if, begun, creates, creation, done, done_if, ends, made_at, may_ask, posts_unheld, sends}
 use Rattle.sc_request.specs.Asked.{Numbering, asked}
 use Rattle.sc_request.specs.Steps.{stepped}
-use Rattle.sc_region_turns.specs.RegionHalves.{IsRegionHalf}
+use Rattle.sc_refines_region.specs.RegionHalves.{IsRegionHalf}
 use Rattle.sc_refines_region.specs.Joined.{OthersKeepHalves}
 use Rattle.sc_refines_region.proofs.Halves.{by_test, half_alike}
 use Rattle.sc_refines_region.proofs.CalmStages.{ended_stage, passed_stage, sent_stage, released_stage, finished_stage}

@@ -37,8 +37,8 @@ use Rattle.sc_model.specs.Takes.{replies, takes_kind, takes_version, takes_creat
 use Rattle.sc_model.specs.Turns.{turn, turn_with, goes_on, settles, effect, waits}
 use Rattle.sc_class.specs.ClassNames.{number_of}
 use Rattle.sc_model.specs.Runs.{root_request}
-use Rattle.sc_region_turns.specs.RegionTurns.{new_half}
-use Rattle.sc_region_turns.specs.RegionHalves.{IsRegionHalf}
+use Rattle.sc_refines_region.specs.RegionTurns.{new_half}
+use Rattle.sc_refines_region.specs.RegionHalves.{IsRegionHalf}
 use Rattle.sc_refines_region.specs.Joined.{CreatedAreNew, OpensAsNew}
 use Rattle.sc_refines_region.proofs.Halves.{half_alike}
 use Rattle.sc_refines_region.proofs.Alike.{IsAlike, alike, alike_then, other, release_alike, passes_alike, send_alike, finish_alike, others_stay}

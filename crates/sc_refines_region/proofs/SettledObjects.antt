@@ -18,8 +18,8 @@ use Rattle.sc_model.specs.Exits.{handed, handed_as, handed_at}
 use Rattle.sc_model.specs.Values.{Value}
 use Rattle.sc_proctype.specs.declared.entity_type.EntityType.{EntityType}
 use Rattle.sc_handler.specs.Handlers as core
-use Rattle.sc_region_turns.specs.RegionTurns.{Half, failed, is_current, object_breaks, settles, with_stack}
-use Rattle.sc_region_turns.specs.RegionHalves.{AreHalvesOf, IsRegionHalf}
+use Rattle.sc_refines_region.specs.RegionTurns.{Half, failed, is_current, object_breaks, settles, with_stack}
+use Rattle.sc_refines_region.specs.RegionHalves.{AreHalvesOf, IsRegionHalf}
 use Rattle.sc_refines_region.proofs.Alike.{IsAlike}
 use Rattle.sc_refines_region.proofs.Halves.{half_at}
 

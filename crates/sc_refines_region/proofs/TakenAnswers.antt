@@ -9,9 +9,9 @@ use Rattle.sc_model.specs.Handlers as machine
 use Rattle.sc_model.specs.Handlers.{Stage, Runs, Reserves, ReservesBlock, InCall, Awaits, Frame, Handler, World}
 use Rattle.sc_model.specs.Sessions as sessions
 use Rattle.sc_handler.specs.Handlers as core
-use Rattle.sc_region_turns.specs.RegionTurns as region
-use Rattle.sc_region_turns.specs.RegionTurns.{Half, told}
-use Rattle.sc_region_turns.specs.RegionHalves.{IsStageFor, IsToldOf, IsHalfOfFrame, AreHalvesOf, IsRegionHalf}
+use Rattle.sc_refines_region.specs.RegionTurns as region
+use Rattle.sc_refines_region.specs.RegionTurns.{Half, told}
+use Rattle.sc_refines_region.specs.RegionHalves.{IsStageFor, IsToldOf, IsHalfOfFrame, AreHalvesOf, IsRegionHalf}
 use Rattle.sc_refines_region.proofs.Halves.{stands_on, stack_half, put_half, released_half, half_at}
 use Rattle.sc_refines_region.proofs.VisibleSteps.{handed_half}
 

@@ -1,177 +1,358 @@
--- A request is taken: the region's half stays that of the machine.
-use Rattle.std.proofs.Common.{◌≡◌, ◌==◌, ◌+◌, ℕ, Bool, true, false, List, [], ◌∷◌, ◌++◌, Option, Some, None, length, map, refl, sym, ap, subst, ◌∙◌}
-use Rattle.std.specs.Prelude.{if◌then◌else◌}
-use Rattle.std.specs.Option.{option_map}
+-- Requests as they are taken.
+use Rattle.std.proofs.Common.{◌≡◌, ℕ, ◌+◌, Bool, true, false, not, List, [], ◌∷◌, ◌++◌, Option, Some, None, is_some, length, refl, sym, ap, ◌∙◌, subst}
+use Rattle.std.proofs.lemmas.List.{length-map}
+use Rattle.std.specs.Prelude.{◌==◌, ◌&&◌, slice_get, if◌then◌else◌}
+use Rattle.std.specs.Option.{is_none, option_map, option_and_then}
 use Rattle.sc_tree.specs.Plain as tree
-use Rattle.sc_tree.specs.Plain.{System, FeatureKind}
-use Rattle.sc_class.specs.Tables.Features.{DeclaredFeature}
+use Rattle.sc_tree.specs.Plain.{System, DeclaredType, FeatureKind}
+use Rattle.sc_class.specs.Tables.Features.{DeclaredFeature, features}
+use Rattle.sc_class.proofs.Declarers.{found_stands}
 use Rattle.sc_proctype.specs.declared.entity_type.EntityType.{EntityType}
+use Rattle.sc_rules.specs.Laws.{is_declared}
+use Rattle.sc_rules.specs.Names as names
 use Rattle.sc_rules.specs.Types.{declared_type}
+use Rattle.sc_rules.proofs.Versions.{found_declared}
+use Rattle.sc_typing.specs.FeatureNumbers.{feature_number}
 use Rattle.sc_model.specs.declared.cause.Cause.{Cause}
 use Rattle.sc_model.specs.declared.cause.Cause.TheVariants as cause
-use Rattle.sc_model.specs.Values as model
 use Rattle.sc_model.specs.Environments.{Binding, binding_named}
-use Rattle.sc_model.specs.Objects.{Object, object_numbered, fresh_object}
-use Rattle.sc_model.specs.Invariants.{meets_invariant}
-use Rattle.sc_model.specs.Routines.{version_of, routine_named, routine_of}
-use Rattle.sc_model.specs.Exits.{is_unset_value}
 use Rattle.sc_model.specs.Handlers as machine
-use Rattle.sc_model.specs.Handlers.{Errand, Calls, Makes, Request, Answer, Reply, Requested, Frame, Handler, World}
-use Rattle.sc_model.specs.Answers.{finish}
-use Rattle.sc_model.specs.Failures.{fails_with}
-use Rattle.sc_model.specs.Takes as takes_at
-use Rattle.sc_handler.specs.Handlers as core
-use Rattle.sc_request.specs.Asked as asked_at
-use Rattle.sc_request.specs.Asked.{Numbering, errand_of, request_of}
-use Rattle.sc_interp.specs.Values as interp
-use Rattle.sc_region_turns.specs.RegionTurns as region
-use Rattle.sc_region_turns.specs.RegionTurns.{Half, failed, settles, Takes}
-use Rattle.sc_region_turns.specs.RegionHalves.{AreHalvesOf, IsRegionHalf}
-use Rattle.sc_region_turns.specs.RegionSteps.{numbering_by, errand_in, request_with, taking, IsNamed}
-use Rattle.sc_refines_region.proofs.Alike.{own, finish_alike}
-use Rattle.sc_refines_region.proofs.Halves.{stands_on, finished_half, fail_both, fails_alone, half_at}
-use Rattle.sc_refines_region.proofs.SettledObjects.{Meets, settles_half}
-use Rattle.sc_refines_region.proofs.Entries.{enters_full}
+use Rattle.sc_model.specs.Handlers.{Requested}
+use Rattle.sc_model.specs.Invariants as model_invariants
+use Rattle.sc_model.specs.Objects as model_objects
+use Rattle.sc_model.specs.Objects.{fresh_attributes}
+use Rattle.sc_model.specs.Routines.{routine_named, routine_of, version_of}
+use Rattle.sc_code.specs.declared.program.FeatureCode.TheVariants as version
+use Rattle.sc_code.specs.Attributes.{attribute_number}
+use Rattle.sc_code.specs.Programs.{entry_of_feature, entry_of_kind}
+use Rattle.sc_region.specs.declared.frame.Origin.TheVariants as origin
+use Rattle.sc_region.specs.declared.job.Errand.{Errand}
+use Rattle.sc_region.specs.declared.job.Errand.TheVariants as errand
+use Rattle.sc_region.specs.declared.job.Request.{Request}
+use Rattle.sc_region.specs.declared.job.Want.{Want}
+use Rattle.sc_region.specs.declared.job.Want.TheVariants as want
+use Rattle.sc_region.specs.declared.value.Value.{Value}
+use Rattle.sc_region.specs.Classes as at
+use Rattle.sc_region.specs.Frames as frames
+use Rattle.sc_region.specs.Objects.{PlainObject, attribute_of, object_numbered}
+use Rattle.sc_region.specs.Stores as store
+use Rattle.sc_region.specs.Stores.{PlainStore, born, entered, is_settled, settled, with_new}
+use Rattle.sc_request.specs.Asked as asked
+use Rattle.sc_acts.specs.Entering.{entered_if, routine_in}
+use Rattle.sc_interp.specs.Objects.{object_in, objects_in}
+use Rattle.sc_refines_region.specs.RegionHalves.{IsRegionOf}
+use Rattle.sc_refines_region.specs.RegionSteps as region_steps
+use Rattle.sc_refines_region.specs.RegionSteps.{IsProgramFor, first_want, names_of, numbering_by, request_with, taking}
+use Rattle.sc_refines_region.specs.RegionTurns as half
+use Rattle.sc_refines_region.specs.RegionTurns.{Half, begins, enters, replies, settles, takes, takes_kind, takes_version}
+use Rattle.sc_acts.specs.Tables.{version_in}
+use Rattle.sc_acts.specs.Turning.{unless_failed}
+use Rattle.sc_interp.specs.Values.{reference_of, value_of, values_of}
+use Rattle.sc_refines_region.proofs.RegionSame.{still_fails}
+use Rattle.sc_interp.proofs.Valued.{valued_named}
+use Rattle.sc_play.specs.Taking.{answered, asks_answering, asks_call, asks_creation, asks_errand, asks_on, asks_version, born_by, taken_call, taken_creation, taken_errand, taken_on, taken_version}
+use Rattle.sc_refines_region.specs.Acting.{AreWhole}
+use Rattle.sc_refines_region.specs.Taking.{IsNamed, IsTakeable, RequestsAreTaken, TakenRequestsAsk}
+use Rattle.sc_refines_region.proofs.TurnAsks.{same_unless}
+use Rattle.sc_refines_region.proofs.Attributes.{StandsAt, attribute_coded, stands_among}
+use Rattle.sc_refines_region.proofs.SilentOperations.{all_declared}
+use Rattle.sc_refines_region.proofs.Creations.{born_is, fresh_same, objects_more}
+use Rattle.sc_refines_region.proofs.Entries.{routines_are_entered}
+use Rattle.sc_refines_region.proofs.Exits.{if_region}
+use Rattle.sc_refines_region.proofs.MetInvariants.{numbered_same, still_settles, version_told}
+use Rattle.sc_refines_region.proofs.Reservations.{entries_ask}
+use Rattle.sc_refines_region.proofs.ProgramRoutines.{frames_still, mapped_get}
+use Rattle.sc_refines_region.proofs.TakenAttributes.{answered_same, answer_asks, settled_objects, settled_output, entered_keeps, whole_same, whole_more}
 
--- ---- the request that the job names
+-- ---- calls
 
-value_there : (v : model.Value) → interp.value_of (asked_at.value_of v) ≡ v
-value_there (model.Integer z) = refl
-value_there (model.Boolean b) = refl
-value_there model.Void = refl
-value_there (model.Attached r) = refl
+-- Unless the store has failed, both are asked alike.
+abbrev Same : PlainStore → Want → (PlainStore → Want) → Type 0
+Same w v asks = unless_failed w.failure v ≡ unless_failed w.failure (asks w)
 
-values_there : (vs : List model.Value) → interp.values_of (map asked_at.value_of vs) ≡ vs
-values_there [] = refl
-values_there (v ∷ vs) = λ i. value_there v i ∷ values_there vs i
+module _ (h : ℕ) (r : Request) (y : PlainStore) (takeable : IsTakeable y r) (s : System) (x : Half) (is : IsProgramFor s y.program) (region : IsRegionOf s x y) where
+  abbrev class : ℕ
+  class = r.target.class
 
-pub value_back : (v : Option model.Value) → option_map interp.value_of (option_map asked_at.value_of v) ≡ v
-value_back None = refl
-value_back (Some v) = ap (λ (u : model.Value). Some u) (value_there v)
+  abbrev us : List Value
+  us = r.actuals.items
 
-errand_there : (names : List (List ℕ)) (class : ℕ) (e : Errand) → IsNamed names e → errand_in names (errand_of (numbering_by names) class e) ≡ Some e
-errand_there names class (Calls x) named = ap (λ (o : Option (List ℕ)). option_map machine.Calls o) named
-errand_there names class (Makes None) named = refl
-errand_there names class (Makes (Some x)) named = ap (λ (o : Option (List ℕ)). option_map (λ (y : List ℕ). machine.Makes (Some y)) o) named
+  module _ (k : ℕ) (name : List ℕ) (named : slice_get (names_of y) k ≡ Some name) where
+    abbrev asks_for : machine.Request
+    asks_for = request_with r (machine.Calls name)
 
--- what the region knows of a request
-abbrev pub unpassed_request : Request → Request
-unpassed_request r = record r { passed = None }
+    -- a routine is entered
+    routine_taken : (f : DeclaredFeature) → version_of s class name ≡ Some f → (n : Option ℕ) → version_in y.program class k ≡ option_map version.Routine n →
+        IsRegionOf s (enters s (reference_of r.target) (routine_of s f) (Requested asks_for) x.stack (values_of us) x) (taken_version r (option_map version.Routine n) y)
+    routine_taken f found n e =
+        by n
+        (subst (λ v. IsRegionOf s (enters s (reference_of r.target) (routine_of s f) (Requested asks_for) x.stack (values_of us) x) (entered_if (routine_in v) r.target origin.Requested us y)) e
+        (subst (λ q. IsRegionOf s (enters s (reference_of r.target) (option_and_then (routine_of s) q) (Requested asks_for) x.stack (values_of us) x)
+        (entered_if (routine_in (version_in y.program class k)) r.target origin.Requested us y)) found
+        (routines_are_entered s x y r.target k name (Requested asks_for) us is region named)))
+      where
+        by : (n : Option ℕ) → IsRegionOf s (enters s (reference_of r.target) (routine_of s f) (Requested asks_for) x.stack (values_of us) x)
+            (entered_if (routine_in (option_map version.Routine n)) r.target origin.Requested us y) →
+            IsRegionOf s (enters s (reference_of r.target) (routine_of s f) (Requested asks_for) x.stack (values_of us) x) (taken_version r (option_map version.Routine n) y)
+        by None region = region
+        by (Some n) region = region
 
-request_there : (names : List (List ℕ)) (r : Request) → request_with (request_of (numbering_by names) r) r.errand ≡ unpassed_request r
-request_there names r = λ i. record (unpassed_request r) { actuals = values_there r.actuals i }
+    routine_asks : (f : DeclaredFeature) → version_of s class name ≡ Some f → (n : Option ℕ) → version_in y.program class k ≡ option_map version.Routine n →
+        Same (taken_version r (option_map version.Routine n) y) (asked.asks_entering s (routine_of s f) (values_of us) (length x.stack)) (asks_version r (option_map version.Routine n) y)
+    routine_asks f found None e = refl
+    routine_asks f found (Some n) e =
+        let w = entered r.target n origin.Requested us y in
+        let same = ap (option_and_then (routine_of s)) found in
+        let program = entered_keeps (λ z. z.program) (λ why y. refl) (λ y fs. refl) r.target n origin.Requested us y in
+        ap (λ q. unless_failed w.failure (asked.asks_entering s q (values_of us) (length x.stack))) (sym same)
+        ∙ entries_ask s w (subst (IsProgramFor s) (sym program) is) class name (reference_of r.target) (Requested asks_for) x.stack (values_of us) x
+        (subst (λ q. IsRegionOf s (enters s (reference_of r.target) q (Requested asks_for) x.stack (values_of us) x) w) (sym same) (routine_taken f found (Some n) e))
 
-pub task_there : (names : List (List ℕ)) (r : Request) → IsNamed names r.errand →
-    taking (request_of (numbering_by names) r) (errand_in names (request_of (numbering_by names) r).errand) ≡ Takes (unpassed_request r)
-task_there names r named =
-    ap (λ (o : Option Errand). taking (request_of (numbering_by names) r) o) (errand_there names r.target.class r.errand named)
-    ∙ ap (λ (q : Request). Takes q) (request_there names r)
+    -- what is known of an attribute that is asked for
+    known_type : (f : DeclaredFeature) (d : DeclaredType) → version_of s class name ≡ Some f → f.feature.kind ≡ tree.Attribute d → is_some (declared_type s [] d) ≡ true
+    known_type f d found kind =
+        subst (λ m. is_declared s m ≡ true) kind (found_declared s is.root is.faultless (all_declared s is.well_formed) class name f found)
 
--- ---- what comes of it
+    read_same : (o : PlainObject) → object_numbered r.target.number y.objects ≡ Some o → (t : EntityType) (at : StandsAt name (fresh_attributes s (features s class)) t) →
+        option_map value_of (attribute_of r.target.number at.number y.objects) ≡ option_map (λ (b : Binding). b.value) (binding_named name (object_in s o).attributes)
+    read_same o there t at =
+        ap (λ q. option_map value_of (option_and_then (λ (o : PlainObject). slice_get o.attributes at.number) q)) there
+        ∙ sym (mapped_get value_of o.attributes at.number)
+        ∙ ap (option_and_then (slice_get (values_of o.attributes))) (sym at.numbered)
+        ∙ ap (λ k. option_and_then (slice_get (values_of o.attributes)) (attribute_number name (fresh_attributes s (features s k)))) (sym (takeable.of_class o there))
+        ∙ sym (valued_named name (fresh_attributes s (features s o.class)) (values_of o.attributes))
 
-module _ (s : System) (h : ℕ) (r : Request) (fs gs : List Frame) (halves : AreHalvesOf h core.Runs fs gs) where
-  -- the machine has taken the request, and stands so
-  pub record IsTaking (w : World) : Type 0 where
-    pub stack : (w.handlers h).stack ≡ fs
-    pub stands : (w.handlers h).failure ≡ None
+    attribute_taken : (o : PlainObject) → object_numbered r.target.number y.objects ≡ Some o → (f : DeclaredFeature) (d : DeclaredType) → version_of s class name ≡ Some f →
+        f.feature.kind ≡ tree.Attribute d → (q : Option EntityType) → declared_type s [] d ≡ q → is_some q ≡ true →
+        IsRegionOf s (replies q (binding_named name (object_in s o).attributes) x) (taken_version r (option_map version.Attribute (attribute_number f.feature.name.text (fresh_attributes s (features s class)))) y)
+    attribute_taken o there f d found kind None e some = cc
+    attribute_taken o there f d found kind (Some t) e some =
+        let at = stands_among s name (features s class) f d t found kind e in
+        let coded = attribute_coded s y.program is class name t at in
+        let value = attribute_of r.target.number at.number y.objects in
+        let binding = binding_named name (object_in s o).attributes in
+        subst (λ n. IsRegionOf s (replies (Some t) binding x) (taken_version r (option_map version.Attribute n) y))
+        (sym (ap (λ t. attribute_number t (fresh_attributes s (features s class))) (found_stands s class name f found).is_named ∙ at.numbered))
+        (subst (λ c. IsRegionOf s (replies (Some t) binding x) (answered c value y)) (sym coded.found)
+        (answered_same s x y region coded.code t coded.same value binding (read_same o there t at)))
 
-  abbrev IsHalf : World → Half → Type 0
-  IsHalf v z = IsRegionHalf h (v.handlers h) core.Runs z
+    attribute_asks : (o : PlainObject) → object_numbered r.target.number y.objects ≡ Some o → (f : DeclaredFeature) (d : DeclaredType) → version_of s class name ≡ Some f →
+        f.feature.kind ≡ tree.Attribute d → (q : Option EntityType) → declared_type s [] d ≡ q → is_some q ≡ true →
+        (let v = option_map version.Attribute (attribute_number f.feature.name.text (fresh_attributes s (features s class))) in
+        Same (taken_version r v y) (asked.asks_replying q (binding_named name (object_in s o).attributes)) (asks_version r v y))
+    attribute_asks o there f d found kind None e some = cc
+    attribute_asks o there f d found kind (Some t) e some =
+        let at = stands_among s name (features s class) f d t found kind e in
+        let coded = attribute_coded s y.program is class name t at in
+        let value = attribute_of r.target.number at.number y.objects in
+        let binding = binding_named name (object_in s o).attributes in
+        subst (λ n. Same (taken_version r (option_map version.Attribute n) y) (asked.asks_replying (Some t) binding) (asks_version r (option_map version.Attribute n) y))
+        (sym (ap (λ t. attribute_number t (fresh_attributes s (features s class))) (found_stands s class name f found).is_named ∙ at.numbered))
+        (subst (λ c. unless_failed (answered c value y).failure (asked.asks_replying (Some t) binding) ≡ unless_failed (answered c value y).failure (asks_answering value)) (sym coded.found)
+        (answer_asks s x y region coded.code t coded.same value binding (read_same o there t at)))
 
-  -- the half before it
-  abbrev pub half : World → Half
-  half w = half_at (w.handlers h) gs
+    kind_taken : (o : PlainObject) → object_numbered r.target.number y.objects ≡ Some o → (f : DeclaredFeature) → version_of s class name ≡ Some f → (m : FeatureKind) → f.feature.kind ≡ m →
+        version_in y.program class k ≡ entry_of_kind s class f m → IsRegionOf s (takes_kind s asks_for name (object_in s o) f m x) (taken_version r (entry_of_kind s class f m) y)
+    kind_taken o there f found (tree.Routine own) kind e = routine_taken f found (feature_number s (names.routine_of f)) e
+    kind_taken o there f found (tree.Attribute d) kind e = attribute_taken o there f d found kind (declared_type s [] d) refl (known_type f d found kind)
 
-  rests : (w : World) → IsTaking w → IsHalf w (half w)
-  rests w t = stands_on h core.Runs (w.handlers h) (half w) refl refl refl (subst (λ (is : List Frame). AreHalvesOf h core.Runs is gs) (sym t.stack) halves)
+    kind_asks : (o : PlainObject) → object_numbered r.target.number y.objects ≡ Some o → (f : DeclaredFeature) → version_of s class name ≡ Some f → (m : FeatureKind) → f.feature.kind ≡ m →
+        version_in y.program class k ≡ entry_of_kind s class f m →
+        Same (taken_version r (entry_of_kind s class f m) y) (asked.asks_calling s asks_for name (length x.stack) (object_in s o) f m) (asks_version r (entry_of_kind s class f m) y)
+    kind_asks o there f found (tree.Routine own) kind e = routine_asks f found (feature_number s (names.routine_of f)) e
+    kind_asks o there f found (tree.Attribute d) kind e = attribute_asks o there f d found kind (declared_type s [] d) refl (known_type f d found kind)
 
-  fails : (w : World) (why : Cause) → IsHalf (fails_with h why (r ∷ []) w) (failed why (half w))
-  fails w why = fail_both h core.Runs why (r ∷ []) w (half w) refl refl
+    on_taken : (o : Option PlainObject) → object_numbered r.target.number y.objects ≡ o → (f : Option DeclaredFeature) → version_of s class name ≡ f →
+        version_in y.program class k ≡ entry_of_feature s class f → IsRegionOf s (takes_version s asks_for name (option_map (object_in s) o) f x) (taken_on r o (entry_of_feature s class f) y)
+    on_taken None there None found e = still_fails s x y cause.BadCode region
+    on_taken None there (Some f) found e = still_fails s x y cause.BadCode region
+    on_taken (Some o) there None found e = still_fails s x y cause.BadCode region
+    on_taken (Some o) there (Some f) found e = kind_taken o there f found f.feature.kind refl e
 
-  replies : (w : World) (t : Option EntityType) (b : Option Binding) → IsTaking w → IsHalf (takes_at.replies h r t b w) (region.replies t b (half w))
-  replies w (Some t) (Some b) is = by (is_unset_value b.value t)
-    where
-      by : (c : Bool) → IsHalf (if c then fails_with h cause.UnsetEntity (r ∷ []) w else finish r (Reply (Some b.value)) w) (if c then failed cause.UnsetEntity (half w) else half w)
-      by true = fails w cause.UnsetEntity
-      by false = finished_half h core.Runs r (Reply (Some b.value)) w (half w) (rests w is)
-  replies w (Some t) None is = fails w cause.BadCode
-  replies w None b is = fails w cause.BadCode
+    on_asks : (o : Option PlainObject) → object_numbered r.target.number y.objects ≡ o → (f : Option DeclaredFeature) → version_of s class name ≡ f →
+        version_in y.program class k ≡ entry_of_feature s class f →
+        Same (taken_on r o (entry_of_feature s class f) y) (asked.asks_version s asks_for name (length x.stack) (option_map (object_in s) o) f) (asks_on r o (entry_of_feature s class f) y)
+    on_asks None there None found e = refl
+    on_asks None there (Some f) found e = refl
+    on_asks (Some o) there None found e = refl
+    on_asks (Some o) there (Some f) found e = kind_asks o there f found f.feature.kind refl e
 
-  kind : (w : World) (name : List ℕ) (o : Object) (f : DeclaredFeature) (k : FeatureKind) → IsTaking w →
-      IsHalf (takes_at.takes_kind s h r name fs o f k w) (region.takes_kind s (unpassed_request r) name o f k (half w))
-  kind w name o f (tree.Attribute d) is = replies w (declared_type s [] d) (binding_named name o.attributes) is
-  kind w name o f (tree.Routine c) is =
-      (enters_full s h r.target (routine_of s f) (Requested r) fs gs (r ∷ []) r.actuals w (half w) halves refl refl refl is.stands).0
+    abbrev object_there : Option PlainObject
+    object_there = object_numbered r.target.number y.objects
 
-  version : (w : World) (name : List ℕ) (o : Option Object) (f : Option DeclaredFeature) → IsTaking w →
-      IsHalf (takes_at.takes_version s h r name fs o f w) (region.takes_version s (unpassed_request r) name o f (half w))
-  version w name (Some o) (Some f) is = kind w name o f f.feature.kind is
-  version w name (Some o) None is = fails w cause.BadCode
-  version w name None f is = fails w cause.BadCode
+    object_same : model_objects.object_numbered r.target.number x.objects ≡ option_map (object_in s) object_there
+    object_same = ap (model_objects.object_numbered r.target.number) (sym region.objects) ∙ numbered_same s r.target.number y.objects
 
-  calls : (w : World) (name : List ℕ) → IsTaking w → IsHalf (takes_at.takes_errand s h r (Calls name) fs w) (region.takes_errand s h (unpassed_request r) (Calls name) (half w))
-  calls w name is = by (r.target.handler == h)
-    where
-      by : (c : Bool) →
-          IsHalf (if c then takes_at.takes_version s h r name fs (object_numbered r.target.number (w.handlers h).objects) (version_of s r.target.class name) w
-          else fails_with h cause.ForeignObject (r ∷ []) w)
-          (if c then region.takes_version s (unpassed_request r) name (object_numbered r.target.number (w.handlers h).objects) (version_of s r.target.class name) (half w)
-          else failed cause.ForeignObject (half w))
-      by true = version w name (object_numbered r.target.number (w.handlers h).objects) (version_of s r.target.class name) is
-      by false = fails w cause.ForeignObject
+    version_is : version_in y.program class k ≡ entry_of_feature s class (version_of s class name)
+    version_is = version_told s is.root y.program is.program class k name named
 
-  -- no object breaks its invariant as the procedure begins,
-  pub procedure_settles : (w : World) (n : ℕ) (name : List ℕ) → IsTaking w → Meets s ((takes_at.takes_creation s h r (Some name) fs w).handlers h) →
-      settles s n (region.takes_creation s (unpassed_request r) (Some name) (half w)) ≡ region.takes_creation s (unpassed_request r) (Some name) (half w)
-  procedure_settles w n name is meets =
-      let full = enters_full s h r.target (routine_named s r.target.class name) (Requested r) fs gs (r ∷ []) r.actuals w (half w) halves refl refl refl is.stands in
-      settles_half s h n ((takes_at.takes_creation s h r (Some name) fs w).handlers h) _ meets full.0 full.1
+    version_taken : IsRegionOf s (takes_version s asks_for name (model_objects.object_numbered r.target.number x.objects) (version_of s class name) x)
+        (taken_on r object_there (version_in y.program class k) y)
+    version_taken =
+        subst (λ q. IsRegionOf s (takes_version s asks_for name q (version_of s class name) x) (taken_on r object_there (version_in y.program class k) y)) (sym object_same)
+        (subst (λ v. IsRegionOf s (takes_version s asks_for name (option_map (object_in s) object_there) (version_of s class name) x) (taken_on r object_there v y)) (sym version_is)
+        (on_taken object_there refl (version_of s class name) refl version_is))
 
-  -- or as a creation without one is done
-  pub default_settles : (w : World) (n : ℕ) → IsTaking w → Meets s ((finish r (Reply None) w).handlers h) → settles s n (half w) ≡ half w
-  default_settles w n is meets =
-      let v = finish r (Reply None) w in
-      let is_half = finished_half h core.Runs r (Reply None) w (half w) (rests w is) in
-      let lives : (v.handlers h).failure ≡ None = (finish_alike r (Reply None) w h).failure ∙ is.stands in
-      settles_half s h n (v.handlers h) (half w) meets is_half (sym lives)
+    call_taken : IsRegionOf s (takes s h asks_for x) (taken_call h r k y)
+    call_taken = if_region s _ _ _ _ (r.target.handler == h) (r.target.handler == h) refl version_taken (still_fails s x y cause.ForeignObject region)
 
-  -- the new object is there; by the procedure, or without, when it is tested at once
-  creation : (w : World) (n : ℕ) (k : Option (List ℕ)) → IsTaking w → Meets s ((takes_at.takes_creation s h r k fs w).handlers h) →
-      IsHalf (takes_at.takes_creation s h r k fs w) (settles s n (region.takes_creation s (unpassed_request r) k (half w)))
-  creation w n (Some name) is meets =
-      let full = enters_full s h r.target (routine_named s r.target.class name) (Requested r) fs gs (r ∷ []) r.actuals w (half w) halves refl refl refl is.stands in
-      subst (λ (z : Half). IsHalf (takes_at.takes_creation s h r (Some name) fs w) z) (sym (procedure_settles w n name is meets)) full.0
-  creation w n None is meets = by (meets_invariant s (fresh_object s r.target.class)) meets
-    where
-      either : (c : Bool) → IsHalf (fails_with h cause.Invariant (r ∷ []) w) (if c then failed cause.Invariant (half w) else half w)
-      either true = fails w cause.Invariant
-      either false = fails_alone h core.Runs cause.Invariant (r ∷ []) w (half w) refl refl refl
+    version_asks : Same (taken_on r object_there (version_in y.program class k) y)
+        (asked.asks_version s asks_for name (length x.stack) (model_objects.object_numbered r.target.number x.objects) (version_of s class name))
+        (asks_on r object_there (version_in y.program class k) y)
+    version_asks =
+        subst (λ q. Same (taken_on r object_there (version_in y.program class k) y) (asked.asks_version s asks_for name (length x.stack) q (version_of s class name))
+        (asks_on r object_there (version_in y.program class k) y)) (sym object_same)
+        (subst (λ v. Same (taken_on r object_there v y) (asked.asks_version s asks_for name (length x.stack) (option_map (object_in s) object_there) (version_of s class name))
+        (asks_on r object_there v y)) (sym version_is)
+        (on_asks object_there refl (version_of s class name) refl version_is))
 
-      by : (c : Bool) → Meets s ((if c then finish r (Reply None) w else fails_with h cause.Invariant (r ∷ []) w).handlers h) →
-          IsHalf (if c then finish r (Reply None) w else fails_with h cause.Invariant (r ∷ []) w) (settles s n (half w))
-      by true m =
-          subst (λ (z : Half). IsHalf (finish r (Reply None) w) z) (sym (default_settles w n is m))
-          (finished_half h core.Runs r (Reply None) w (half w) (rests w is))
-      by false m = either _
+    abbrev there : PlainStore
+    there = taken_on r object_there (version_in y.program class k) y
 
-  errand : (w : World) (e : Errand) → IsTaking w → Meets s ((takes_at.takes_errand s h r e fs w).handlers h) →
-      IsHalf (takes_at.takes_errand s h r e fs w) (region.takes_errand s h (unpassed_request r) e (half w))
-  errand w (Calls name) is meets = calls w name is
-  errand w (Makes k) is meets =
-      let y = w.handlers h in
-      let z = record y { objects = y.objects ++ fresh_object s r.target.class ∷ [] } in
-      let w1 = takes_at.with_new_object s h r.target.class w in
-      let same : w1.handlers h ≡ z = own h z w in
-      let taking1 : IsTaking w1 = record {
-        stack = ap (λ (u : Handler). u.stack) same ∙ is.stack;
-        stands = ap (λ (u : Handler). u.failure) same ∙ is.stands;
-      } in
-      subst (λ (u : Handler). IsHalf (takes_at.takes_creation s h r k fs w1) (settles s (length y.objects + 1) (region.takes_creation s (unpassed_request r) k (half_at u gs))))
-      same (creation w1 (length y.objects + 1) k taking1 meets)
+    abbrev elsewhere : PlainStore
+    elsewhere = store.failed cause.ForeignObject y
 
-  -- The request is taken where the handler stands so.
-  pub takes_half : (w : World) (y : Handler) → w.handlers h ≡ y → y.stack ≡ fs → y.failure ≡ None → Meets s ((takes_at.takes s h r fs w).handlers h) →
-      IsHalf (takes_at.takes s h r fs w) (region.takes s h (unpassed_request r) (half_at y gs))
-  takes_half w y same stack stands meets =
-      let is : IsTaking w = record { stack = ap (λ (u : Handler). u.stack) same ∙ stack; stands = ap (λ (u : Handler). u.failure) same ∙ stands } in
-      subst (λ (u : Handler). IsHalf (takes_at.takes s h r fs w) (region.takes s h (unpassed_request r) (half_at u gs))) same (errand w r.errand is meets)
+    by_handler : (b : Bool) → unless_failed (if b then there else elsewhere).failure
+        (if b then asked.asks_version s asks_for name (length x.stack) (model_objects.object_numbered r.target.number x.objects) (version_of s class name) else want.Fail cause.ForeignObject)
+        ≡ unless_failed (if b then there else elsewhere).failure
+        (if b then asks_on r object_there (version_in y.program class k) y (if b then there else elsewhere) else want.Continue)
+    by_handler true = version_asks
+    by_handler false = refl
+
+    call_asks : Same (taken_call h r k y) (asked.asks_errand s h asks_for (machine.Calls name) (length x.stack) x.objects) (asks_call h r k y)
+    call_asks = by_handler (r.target.handler == h)
+
+  -- ---- creations
+
+  abbrev more : Half
+  more = half.with_new s class x
+
+  abbrev grown : PlainStore
+  grown = with_new class y
+
+  grown_region : IsRegionOf s more grown
+  grown_region = record {
+    objects = objects_more s y.objects (at.fresh_object y.program class) ∙ ap (λ q. objects_in s y.objects ++ q ∷ []) (fresh_same s y is class)
+        ∙ ap (λ os. os ++ model_objects.fresh_object s class ∷ []) region.objects;
+    frames = frames_still s x.objects more.objects x.stack y.frames region.frames;
+    output = region.output;
+    failure = region.failure;
+  }
+
+  number_same : length y.objects + 1 ≡ length x.objects + 1
+  number_same = ap (λ n. n + 1) (sym (length-map y.objects (object_in s)) ∙ ap length region.objects)
+
+  settled_region : (z : PlainStore) (b : Half) → z.program ≡ y.program → AreWhole z → IsRegionOf s b z → IsRegionOf s (settles s (length x.objects + 1) b) (settled (length y.objects + 1) z)
+  settled_region z b program whole r =
+      subst (λ n. IsRegionOf s (settles s n b) (settled (length y.objects + 1) z)) number_same
+      (still_settles s z (subst (IsProgramFor s) (sym program) is) whole (length y.objects + 1) b r)
+
+  born_region : IsRegionOf s (settles s (length x.objects + 1) more) (born class y)
+  born_region = settled_region grown more refl (whole_more class y takeable.whole) grown_region
+
+  abbrev fresh_meets : Bool
+  fresh_meets = model_invariants.meets_invariant s (model_objects.fresh_object s class)
+
+  abbrev wanted : Want
+  wanted = if fresh_meets then asked.asks_done None [] false else want.Fail cause.Invariant
+
+  by_meets : (b : Bool) → unless_failed (if not b then store.failed cause.Invariant grown else grown).failure (if b then asked.asks_done None [] false else want.Fail cause.Invariant)
+      ≡ unless_failed (if not b then store.failed cause.Invariant grown else grown).failure (asks_answering None)
+  by_meets true = refl
+  by_meets false = refl
+
+  by_failure : (f : Option Cause) → y.failure ≡ f → unless_failed (born class y).failure wanted ≡ unless_failed (born class y).failure (asks_answering None)
+  by_failure None lives =
+      subst (λ (w : PlainStore). unless_failed w.failure wanted ≡ unless_failed w.failure (asks_answering None)) (sym (born_is s y is class lives takeable.unborn)) (by_meets fresh_meets)
+  by_failure (Some why) e =
+      let left : born class y ≡ grown =
+      ap (λ f. if (is_none f && not (frames.is_current (length y.objects + 1) y.frames)) && at.object_breaks y.program (object_numbered (length y.objects + 1) grown.objects)
+      then store.failed cause.Invariant grown else grown) e in
+      let failed : (born class y).failure ≡ Some why = ap (λ (w : PlainStore). w.failure) left ∙ e in
+      ap (λ o. unless_failed o wanted) failed ∙ sym (ap (λ o. unless_failed o (asks_answering None)) failed)
+
+  born_asks : Same (born class y) (asked.asks_errand s h (request_with r (machine.Makes None)) (machine.Makes None) (length x.stack) x.objects) (λ w. asks_answering None)
+  born_asks = by_failure y.failure refl
+
+  -- by a procedure
+  module _ (k : ℕ) (name : List ℕ) (named : slice_get (names_of y) k ≡ Some name) where
+    abbrev creates : machine.Request
+    creates = request_with r (machine.Makes (Some name))
+
+    abbrev entered_half : Half
+    entered_half = enters s (reference_of r.target) (routine_named s class name) (Requested creates) x.stack (values_of us) more
+
+    entered_region : IsRegionOf s entered_half (entered_if (routine_in (version_in y.program class k)) r.target origin.RequestedCreation us grown)
+    entered_region = routines_are_entered s more grown r.target k name (Requested creates) us is grown_region named
+
+    born_so : (n : Option ℕ) → IsRegionOf s entered_half (entered_if n r.target origin.RequestedCreation us grown) → IsRegionOf s (settles s (length x.objects + 1) entered_half) (born_by n r y)
+    born_so (Some n) e =
+        let z = entered r.target n origin.RequestedCreation us grown in
+        let program = entered_keeps (λ z. z.program) (λ why y. refl) (λ y fs. refl) r.target n origin.RequestedCreation us grown in
+        let objects = entered_keeps (λ z. z.objects) (λ why y. refl) (λ y fs. refl) r.target n origin.RequestedCreation us grown in
+        settled_region z entered_half program (whole_same grown z objects program (whole_more class y takeable.whole)) e
+    born_so None e =
+        let fails = store.failed cause.BadCode grown in
+        let r = settled_region fails entered_half refl (whole_more class y takeable.whole) e in
+        record {
+          objects = ap (objects_in s) (settled_objects (length y.objects + 1) grown) ∙ r.objects;
+          frames = r.frames;
+          output = settled_output (length y.objects + 1) grown ∙ r.output;
+          failure = r.failure;
+        }
+
+    created_region : IsRegionOf s (settles s (length x.objects + 1) entered_half) (born_by (routine_in (version_in y.program class k)) r y)
+    created_region = born_so (routine_in (version_in y.program class k)) entered_region
+
+    abbrev begun : ℕ → PlainStore
+    begun n = entered r.target n origin.RequestedCreation us grown
+
+    begun_program : (n : ℕ) → (begun n).program ≡ y.program
+    begun_program n = entered_keeps (λ z. z.program) (λ why y. refl) (λ y fs. refl) r.target n origin.RequestedCreation us grown
+
+    by_settled : (n : ℕ) → IsRegionOf s entered_half (begun n) → (b : Bool) →
+        Same (if b then store.failed cause.Invariant (begun n) else begun n) (asked.asks_entering s (routine_named s class name) (values_of us) (length x.stack)) (asks_creation (Some k))
+    by_settled n e true = refl
+    by_settled n e false =
+        entries_ask s (begun n) (subst (IsProgramFor s) (sym (begun_program n)) is) class name (reference_of r.target) (Requested creates) x.stack (values_of us) more e
+
+    by_number : (n : Option ℕ) → IsRegionOf s entered_half (entered_if n r.target origin.RequestedCreation us grown) →
+        Same (born_by n r y) (asked.asks_entering s (routine_named s class name) (values_of us) (length x.stack)) (asks_creation (Some k))
+    by_number None e = refl
+    by_number (Some n) e = by_settled n e (is_settled (length y.objects + 1) (begun n) && at.object_breaks (begun n).program (object_numbered (length y.objects + 1) (begun n).objects))
+
+    created_asks : Same (born_by (routine_in (version_in y.program class k)) r y) (asked.asks_entering s (routine_named s class name) (values_of us) (length x.stack)) (asks_creation (Some k))
+    created_asks = by_number (routine_in (version_in y.program class k)) entered_region
+
+  -- ---- requests
+
+  errand_taken : (e : Errand) → IsNamed (names_of y) e → IsRegionOf s (begins s h (taking r (region_steps.errand_in (names_of y) e)) x.stack x) (taken_errand h e r y)
+  errand_taken (errand.Calls k) n =
+      subst (λ o. IsRegionOf s (begins s h (taking r (option_map machine.Calls o)) x.stack x) (taken_call h r k y)) (sym n.1) (call_taken k n.0 n.1)
+  errand_taken (errand.Makes None) n = born_region
+  errand_taken (errand.Makes (Some k)) n =
+      subst (λ o. IsRegionOf s (begins s h (taking r (option_map (λ x. machine.Makes (Some x)) o)) x.stack x) (taken_creation (Some k) r y)) (sym n.1) (created_region k n.0 n.1)
+
+  -- what the errand asks, where this is what it is for the machine
+  abbrev AsksSo : Errand → Option machine.Errand → Type 0
+  AsksSo e o = IsRegionOf s (begins s h (taking r o) x.stack x) (taken_errand h e r y) →
+      first_want (numbering_by (names_of y)) s h (taking r o) x ≡ unless_failed (taken_errand h e r y).failure (asks_errand h e r y (taken_errand h e r y))
+
+  told_so : (b : Half) (w : PlainStore) (v u : Want) → unless_failed w.failure v ≡ unless_failed w.failure u → IsRegionOf s b w → region_steps.unless_failed b.failure v ≡ unless_failed w.failure u
+  told_so b w v u e left_so = ap (λ o. region_steps.unless_failed o v) (sym left_so.failure) ∙ same_unless w.failure v ∙ e
+
+  errand_asks : (e : Errand) → IsNamed (names_of y) e → AsksSo e (region_steps.errand_in (names_of y) e)
+  errand_asks (errand.Calls k) n =
+      subst (λ o. AsksSo (errand.Calls k) (option_map machine.Calls o)) (sym n.1)
+      (told_so _ (taken_call h r k y) _ (asks_call h r k y (taken_call h r k y)) (call_asks k n.0 n.1))
+  errand_asks (errand.Makes None) n = told_so _ (born class y) _ (asks_answering None) born_asks
+  errand_asks (errand.Makes (Some k)) n =
+      subst (λ o. AsksSo (errand.Makes (Some k)) (option_map (λ x. machine.Makes (Some x)) o)) (sym n.1)
+      (told_so _ (taken_creation (Some k) r y) _ (asks_creation (Some k) (taken_creation (Some k) r y)) (created_asks k n.0 n.1))
+
+pub requests_are_taken : RequestsAreTaken
+requests_are_taken h r y takeable s x is region = errand_taken h r y takeable s x is region r.errand takeable.named
+
+pub taken_requests_ask : TakenRequestsAsk
+taken_requests_ask h r y takeable s x is region =
+    errand_asks h r y takeable s x is region r.errand takeable.named (errand_taken h r y takeable s x is region r.errand takeable.named)

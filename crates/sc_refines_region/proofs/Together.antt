@@ -10,14 +10,14 @@ use Rattle.sc_handler.specs.Handlers as core
 use Rattle.sc_handler.specs.Picking.{job_of, job_with}
 use Rattle.sc_request.specs.Halves.{IsHalfOf}
 use Rattle.sc_request.specs.Steps.{stepped}
-use Rattle.sc_region_turns.specs.RegionTurns.{Half, new_half}
-use Rattle.sc_region_turns.specs.RegionHalves.{IsRegionHalf}
-use Rattle.sc_region_turns.specs.RegionSteps.{numbering_by, taken_if, AreNamed}
+use Rattle.sc_refines_region.specs.RegionTurns.{Half, new_half}
+use Rattle.sc_refines_region.specs.RegionHalves.{IsRegionHalf}
+use Rattle.sc_refines_region.specs.RegionSteps.{numbering_by, taken_if, AreNamed}
 use Rattle.sc_refines_region.specs.Order.{EachInOrder}
 use Rattle.sc_refines_region.specs.Joined.{AreRegionHalves, OpensAsHalves, TurnsKeepHalves, halves_after}
 use Rattle.sc_refines_region.proofs.Others.{created_are_new, idle_turn, openings_are_new, turn_counts}
 use Rattle.sc_refines_region.proofs.OtherHandlers.{others_keep_halves}
-use Rattle.sc_refines_region.proofs.Turns.{regions_follow}
+use Rattle.sc_refines_region.proofs.TurnHalves.{regions_follow}
 
 -- At the opening all halves are new.
 pub openings_are_halves : OpensAsHalves

@@ -32,13 +32,13 @@ use Rattle.sc_model.specs.Exits as exits_at
 use Rattle.sc_model.specs.Exits.{is_unset, is_untested, handed, handed_as, handed_at}
 use Rattle.sc_model.specs.Turns.{effect}
 use Rattle.sc_handler.specs.Handlers as core
-use Rattle.sc_region_turns.specs.RegionTurns as region
-use Rattle.sc_region_turns.specs.RegionTurns.{Half, failed}
-use Rattle.sc_region_turns.specs.RegionHalves.{unpassed, IsStageFor, IsToldOf, IsHalfOfFrame, AreHalvesOf, IsRegionHalf}
+use Rattle.sc_refines_region.specs.RegionTurns as region
+use Rattle.sc_refines_region.specs.RegionTurns.{Half, failed}
+use Rattle.sc_refines_region.specs.RegionHalves.{unpassed, IsStageFor, IsToldOf, IsHalfOfFrame, AreHalvesOf, IsRegionHalf}
 use Rattle.sc_refines_region.proofs.Alike.{IsAlike, alike, alike_then, own, release_alike, send_alike, passes_alike, finish_alike, counted_alike}
 use Rattle.sc_refines_region.proofs.Halves.{by_test, half_alike, stands_on, stack_half, put_half, released_half, fail_both, fails_alone, half_at, view, view_half, runs_own}
 use Rattle.sc_refines_region.proofs.SettledObjects.{Meets, meets_alike, AreOnSame, halves_same, handed_same, leaves_none}
-use Rattle.sc_refines_region.proofs.Entries.{enters_full}
+use Rattle.sc_refines_region.proofs.RegionEntries.{enters_full}
 
 -- ---- frames
 

@@ -36,16 +36,16 @@ use Rattle.sc_region.specs.declared.job.Want.{Want}
 use Rattle.sc_region.specs.declared.job.Want.TheVariants as want
 use Rattle.sc_handler.specs.Handlers as core
 use Rattle.sc_request.specs.Asked.{Numbering, asks_acting, asks_after, asks_beginning, asks_bound, asks_calling, asks_done, asks_entering, asks_errand, asks_exiting, asks_leaving, asks_refusing, asks_replying, asks_returning, asks_version}
-use Rattle.sc_region_turns.specs.RegionTurns as region
-use Rattle.sc_region_turns.specs.RegionTurns.{Half, settles}
-use Rattle.sc_region_turns.specs.RegionHalves.{unpassed, AreHalvesOf}
-use Rattle.sc_region_turns.specs.RegionSteps.{unless_failed}
+use Rattle.sc_refines_region.specs.RegionTurns as region
+use Rattle.sc_refines_region.specs.RegionTurns.{Half, settles}
+use Rattle.sc_refines_region.specs.RegionHalves.{unpassed, AreHalvesOf}
+use Rattle.sc_refines_region.specs.RegionSteps.{unless_failed}
 use Rattle.sc_refines_region.proofs.Alike.{own}
 use Rattle.sc_refines_region.proofs.Halves.{half_at, view}
 use Rattle.sc_refines_region.proofs.SettledObjects.{Meets}
 use Rattle.sc_refines_region.proofs.VisibleSteps as acting
-use Rattle.sc_refines_region.proofs.TakenRequests as taking
-use Rattle.sc_refines_region.proofs.TakenRequests.{unpassed_request}
+use Rattle.sc_refines_region.proofs.RegionRequests as taking
+use Rattle.sc_refines_region.proofs.RegionRequests.{unpassed_request}
 
 -- ---- a routine is entered
 

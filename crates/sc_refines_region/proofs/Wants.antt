@@ -26,14 +26,14 @@ use Rattle.sc_handler.specs.Picking.{job_of, job_answered, job_at, job_awaiting,
 use Rattle.sc_request.specs.Asked.{Numbering, asked, asks_acting, asks_errand, asks_going, asks_moving, asks_on, asks_taking, request_of, taken_of, value_of}
 use Rattle.sc_request.specs.Halves.{posted_of, answer_of, IsStage, IsTop, IsHalfOf}
 use Rattle.sc_interp.specs.Values.{value_of as value_in}
-use Rattle.sc_region_turns.specs.RegionTurns as region
-use Rattle.sc_region_turns.specs.RegionTurns.{Half, told, settles}
-use Rattle.sc_region_turns.specs.RegionHalves.{IsStageFor, IsToldOf, AreHalvesOf, IsRegionHalf}
-use Rattle.sc_region_turns.specs.RegionSteps.{numbering_by, task_of, first_want, unless_failed, IsNamed, AreNamed, RegionsAsk}
+use Rattle.sc_refines_region.specs.RegionTurns as region
+use Rattle.sc_refines_region.specs.RegionTurns.{Half, told, settles}
+use Rattle.sc_refines_region.specs.RegionHalves.{IsStageFor, IsToldOf, AreHalvesOf, IsRegionHalf}
+use Rattle.sc_refines_region.specs.RegionSteps.{numbering_by, task_of, first_want, unless_failed, IsNamed, AreNamed, RegionsAsk}
 use Rattle.sc_refines_region.proofs.Alike.{own}
 use Rattle.sc_refines_region.proofs.Halves.{none_some, half_at, half_is, calm_halves, view, seen, same_length, IsCalm}
 use Rattle.sc_refines_region.proofs.SettledObjects.{Meets}
-use Rattle.sc_refines_region.proofs.TakenRequests.{task_there, unpassed_request}
+use Rattle.sc_refines_region.proofs.RegionRequests.{task_there, unpassed_request}
 use Rattle.sc_refines_region.proofs.HalfTurns.{own_meet}
 use Rattle.sc_refines_region.proofs.CoreTests.{same_job, named_callback}
 use Rattle.sc_refines_region.proofs.VisibleWants.{acts_wants, takes_want}

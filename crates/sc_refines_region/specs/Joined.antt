@@ -12,9 +12,9 @@ use Rattle.sc_handler.specs.Picking.{job_of}
 use Rattle.sc_request.specs.Asked.{Numbering}
 use Rattle.sc_request.specs.Halves.{IsHalfOf}
 use Rattle.sc_request.specs.Steps.{stepped}
-use Rattle.sc_region_turns.specs.RegionTurns.{Half, new_half}
-use Rattle.sc_region_turns.specs.RegionHalves.{IsRegionHalf}
-use Rattle.sc_region_turns.specs.RegionSteps.{numbering_by, taken_if, AreNamed}
+use Rattle.sc_refines_region.specs.RegionTurns.{Half, new_half}
+use Rattle.sc_refines_region.specs.RegionHalves.{IsRegionHalf}
+use Rattle.sc_refines_region.specs.RegionSteps.{numbering_by, taken_if, AreNamed}
 use Rattle.sc_refines_region.specs.Order.{AreInOrder, EachInOrder}
 
 -- ---- the handler of the turn

@@ -1,5 +1,5 @@
 //! Laws of the regions beside the machine, each the contract of a function that does nothing.
-ghost use Rattle.sc_region_turns.specs.RegionSteps.{RegionsAsk};
+ghost use Rattle.sc_refines_region.specs.RegionSteps.{RegionsAsk};
 ghost use Rattle.sc_refines_region.specs.Further.{FirstTurnsGoOn, FurtherTurnsSettle};
 ghost use Rattle.sc_refines_region.specs.Joined.{CreatedAreNew, OpensAsHalves, OpensAsNew, OthersKeepHalves, RegionsFollow, TurnsKeepHalves};
 ghost use Rattle.sc_refines_region.specs.Order.{OpensInOrder, TurnsKeepOrder};

@@ -2,11 +2,11 @@
 use Rattle.std.proofs.Common.{ℕ, [], refl}
 use Rattle.sc_model.specs.Runs.{opening}
 use Rattle.sc_lockpass.specs.Versions.{most_handlers}
-use Rattle.sc_region_turns.specs.RegionSteps.{RegionsAsk}
+use Rattle.sc_refines_region.specs.RegionSteps.{RegionsAsk}
 use Rattle.sc_region.specs.Stores.{new_store}
 use Rattle.sc_request.specs.Laws.{PicksWhereTurns}
-use Rattle.sc_refines_turn.specs.Placed.{SoundJobsAreTaken}
-use Rattle.sc_refines_turn.specs.Sound.{NewStoresAreSound}
+use Rattle.sc_refines_region.specs.Placed.{SoundJobsAreTaken}
+use Rattle.sc_refines_region.specs.Sound.{NewStoresAreSound}
 use Rattle.sc_refines_region.specs.Joined as joined
 use Rattle.sc_refines_region.specs.Order.{OpensInOrder, TurnsKeepOrder}
 use Rattle.sc_refines_core.specs.Reached.{EntriesAreRemembered, HalvesWhereReached}

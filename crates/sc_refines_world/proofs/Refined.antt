@@ -18,13 +18,13 @@ use Rattle.sc_region.specs.declared.job.Want.{Want}
 use Rattle.sc_region.specs.Stores.{PlainStore}
 use Rattle.sc_request.specs.Laws.{PicksWhereTurns}
 use Rattle.sc_request.specs.Logs.{next}
-use Rattle.sc_region_turns.specs.RegionHalves.{IsRegionOf}
-use Rattle.sc_region_turns.specs.RegionSteps.{IsProgramFor, RegionsAsk, first_want, numbering_by, task_of}
-use Rattle.sc_region_turns.specs.RegionTurns.{Half, taken_turn}
+use Rattle.sc_refines_region.specs.RegionHalves.{IsRegionOf}
+use Rattle.sc_refines_region.specs.RegionSteps.{IsProgramFor, RegionsAsk, first_want, numbering_by, task_of}
+use Rattle.sc_refines_region.specs.RegionTurns.{Half, taken_turn}
 use Rattle.sc_play.specs.Regions.{EndsIn}
-use Rattle.sc_refines_turn.specs.Halves.{JobFits}
-use Rattle.sc_refines_turn.specs.Placed.{SoundJobsAreTaken, begun_when}
-use Rattle.sc_refines_turn.specs.Sound.{IsSound, NewStoresAreSound}
+use Rattle.sc_refines_region.specs.Halves.{JobFits}
+use Rattle.sc_refines_region.specs.Placed.{SoundJobsAreTaken, begun_when}
+use Rattle.sc_refines_region.specs.Sound.{IsSound, NewStoresAreSound}
 use Rattle.sc_refines_region.specs.Order.{EachInOrder, OpensInOrder, TurnsKeepOrder}
 use Rattle.sc_machine_contracts.specs.SettledObjects.{SettledMeetWhereReached}
 use Rattle.sc_refines_core.specs.Reached.{EntriesAreRemembered, HalvesWhereReached}

@@ -9,8 +9,8 @@ use Rattle.sc_handler.specs.Handlers.{Posted, State}
 use Rattle.sc_handler.specs.Changes as changes
 use Rattle.sc_request.specs.Asked.{errand_of}
 use Rattle.sc_request.specs.Halves.{IsHalfOf, posted_of}
-use Rattle.sc_region_turns.specs.RegionSteps.{AreNamed, IsNamed, number_among, numbering_by}
-use Rattle.sc_refines_turn.specs.Taking as coded
+use Rattle.sc_refines_region.specs.RegionSteps.{AreNamed, IsNamed, number_among, numbering_by}
+use Rattle.sc_refines_region.specs.Taking as coded
 use Rattle.sc_machine_values.specs.Points.{Each}
 use Rattle.sc_machine_values.proofs.Lists.{each_append}
 use Rattle.sc_refines_world.proofs.Asked.{AllAsk}

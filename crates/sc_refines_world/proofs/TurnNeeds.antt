@@ -26,11 +26,11 @@ use Rattle.sc_handler.specs.Changes as changes
 use Rattle.sc_request.specs.Asked as asked
 use Rattle.sc_request.specs.Asked.{value_of}
 use Rattle.sc_request.specs.Halves.{IsHalfOf, answer_of, posted_of}
-use Rattle.sc_region_turns.specs.RegionHalves.{AreHalvesOf, IsRegionHalf, IsStageFor}
-use Rattle.sc_region_turns.specs.RegionSteps.{numbering_by}
-use Rattle.sc_region_turns.specs.RegionTurns.{Half}
-use Rattle.sc_refines_turn.specs.Taking.{IsNamed}
-use Rattle.sc_refines_turn.specs.Halves.{GetsReply, JobFits, RequestFits}
+use Rattle.sc_refines_region.specs.RegionHalves.{AreHalvesOf, IsRegionHalf, IsStageFor}
+use Rattle.sc_refines_region.specs.RegionSteps.{numbering_by}
+use Rattle.sc_refines_region.specs.RegionTurns.{Half}
+use Rattle.sc_refines_region.specs.Taking.{IsNamed}
+use Rattle.sc_refines_region.specs.Halves.{GetsReply, JobFits, RequestFits}
 use Rattle.sc_machine_values.specs.Fitting as values
 use Rattle.sc_machine_values.specs.Fitting.{IsThere, WorldFits, is_due, is_made}
 use Rattle.sc_machine_values.specs.Points.{Each}

@@ -10,7 +10,7 @@ use sc_refines_region::laws::{
     created_are_new, openings_are_in_order, others_keep_halves, regions_ask, regions_follow,
     turns_keep_order,
 };
-use sc_refines_turn::sound::{new_stores_are_sound, sound_jobs_are_taken};
+use sc_refines_region::sound::{new_stores_are_sound, sound_jobs_are_taken};
 use sc_request::laws::core_picks_where_the_machine_turns;
 use sc_world::laws::{
     kept_alike_are_alike, openings_are_of_their_program, runs_stay_of_their_program,

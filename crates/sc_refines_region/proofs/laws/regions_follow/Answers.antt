@@ -1,4 +1,4 @@
-use Rattle.sc_refines_region.proofs.Turns.{regions_follow}
+use Rattle.sc_refines_region.proofs.TurnHalves.{regions_follow}
 use Rattle.sc_refines_region.proofs.laws.regions_follow.Goals as goal
 
 pub returns : goal.returns

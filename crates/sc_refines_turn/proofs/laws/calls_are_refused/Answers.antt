@@ -1,5 +1,0 @@
-use Rattle.sc_refines_turn.proofs.Refusals.{calls_are_refused}
-use Rattle.sc_refines_turn.proofs.laws.calls_are_refused.Goals as goal
-
-pub returns : goal.returns
-returns c = calls_are_refused c.programs_serve.ensures

@@ -1,4 +1,0 @@
-pub mod RegionTurns
-pub mod RegionHalves
-pub mod RegionSteps
-pub mod Laws
