@@ -10,8 +10,7 @@ use sc_explain_classes::{
 use sc_explain_text::{
     Lines, Related, explain_character, explain_grammar, let_go, system_of, word_at,
 };
-use sc_refusals::RefusalCode;
-use sc_rules::Rule;
+use sc_rules::{RefusalCode, Rule};
 use sc_text::Span;
 use sc_tree::System;
 use std::alloc::{AllocError, Global};

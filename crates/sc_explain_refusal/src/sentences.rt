@@ -1,7 +1,6 @@
 //! A sentence for each reason of a refusal, and what helps. A `#` stands for the part of the text that is at fault.
 
-use sc_refusals::RefusalCode;
-use sc_rules::Rule;
+use sc_rules::{RefusalCode, Rule};
 
 /// What is said of a refusal for this reason.
 pub fn text_of(code: RefusalCode) -> &'static str {

@@ -8,6 +8,7 @@ pub mod CallRules
 pub mod TextRules
 pub mod SystemRules
 pub mod RuleText
+pub mod RefusalText
 pub mod Judging
 pub mod JudgingText
 pub mod JudgingSystem

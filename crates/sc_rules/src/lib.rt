@@ -4,7 +4,7 @@
 //! `specs/Typing` gives each expression its type, `specs/Sites` says what stands where and which names are known there,
 //! `specs/Purity` which functions contracts may call, and `specs/TextRules` and `specs/SystemRules` have the premises
 //! of the rules, one constructor each, up to `WellFormed`. `specs/Judging` and its like say which fault is answered
-//! where several rules fail.
+//! where several rules fail. [`RefusalCode`] has all reasons for which a text is refused, also those that are no rule.
 //!
 //! What follows stands in [`laws`] (types and declarations), [`scope_laws`] (names and tags), [`purity_laws`],
 //! [`system_laws`] (calls and assignments), [`instruction_laws`], [`text_laws`] (contracts, conditions and separate
@@ -17,6 +17,7 @@ pub mod instruction_laws;
 pub mod laws;
 mod position;
 pub mod purity_laws;
+mod refusal_code;
 mod rule;
 pub mod scope_laws;
 pub mod system_laws;
@@ -24,4 +25,5 @@ pub mod text_laws;
 
 pub use fault::Fault;
 pub use position::{Context, Position, Role, Use};
+pub use refusal_code::RefusalCode;
 pub use rule::Rule;

@@ -9,7 +9,7 @@ use Rattle.sc_class.specs.declared.fault.ClassFault.{ClassFault}
 use Rattle.sc_class.specs.declared.fault.ClassFault.TheVariants as classes
 use Rattle.sc_rules.specs.declared.fault.Fault.{Fault}
 use Rattle.sc_rules.specs.RuleText as rules
-use Rattle.sc_refusals.specs.RefusalText.{code_of, name_of}
+use Rattle.sc_rules.specs.RefusalText.{code_of, name_of}
 use Rattle.sc_serve.specs.declared.refusal.Refusal.{Refusal}
 use Rattle.sc_frontend.specs.declared.rejection.Rejection.{Rejection}
 use Rattle.sc_frontend.specs.declared.rejection.Rejection.TheVariants as rejection

@@ -2,15 +2,14 @@
 
 ghost use Rattle.std.specs.Prelude.{◌≡◌, IfOk, Some, string_bytes};
 ghost use Rattle.std.specs.Option.{option_map};
-ghost use Rattle.sc_refusals.specs.RefusalText.{code_of, name_of};
+ghost use Rattle.sc_rules.specs.RefusalText.{code_of, name_of};
 ghost use Rattle.sc_source.specs.Source.{place_at};
 ghost use Rattle.sc_serve.specs.Refusal as spec;
 
 use sc_class::ClassFault;
 use sc_frontend::Rejection;
 use sc_parse::ParseFault;
-use sc_refusals::RefusalCode;
-use sc_rules::Fault;
+use sc_rules::{Fault, RefusalCode};
 use sc_source::source::{Place, Source};
 use sc_text::{LexFault, Span};
 use std::alloc::{AllocError, Global};

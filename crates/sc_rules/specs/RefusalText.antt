@@ -1,8 +1,8 @@
 -- The codes and the names of the reasons for which a source text is refused.
 use Rattle.std.specs.Prelude.{ℕ, List, codes}
 use Rattle.sc_rules.specs.RuleText as rules
-use Rattle.sc_refusals.specs.declared.refusal_code.RefusalCode.{RefusalCode}
-use Rattle.sc_refusals.specs.declared.refusal_code.RefusalCode.TheVariants as reason
+use Rattle.sc_rules.specs.declared.refusal_code.RefusalCode.{RefusalCode}
+use Rattle.sc_rules.specs.declared.refusal_code.RefusalCode.TheVariants as reason
 
 abbrev pub code_of : RefusalCode → List ℕ
 code_of reason.BadCharacter = codes "L1"

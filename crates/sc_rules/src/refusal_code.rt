@@ -1,9 +1,9 @@
 //! The reasons for which a source text is refused.
 
 ghost use Rattle.std.specs.Prelude.{◌≡◌};
-ghost use Rattle.sc_refusals.specs.RefusalText as spec;
+ghost use Rattle.sc_rules.specs.RefusalText as spec;
 
-use sc_rules::Rule;
+use crate::rule::Rule;
 
 /// A reason for which a source text is refused: of its characters, its tokens or its classes, or a rule that fails.
 #[derive(Clone, Copy)]
