@@ -2,7 +2,7 @@
    It is preloaded by refuse-memory, and stands on nothing but the C library's own allocator. */
 typedef unsigned long size_t;
 extern char *getenv(const char *);
-extern long write(int, const void *, size_t);
+extern long __write(int, const void *, size_t);
 extern int *__errno_location(void);
 extern void *__libc_malloc(size_t), *__libc_calloc(size_t, size_t), *__libc_realloc(void *, size_t);
 extern void *__libc_memalign(size_t, size_t);
@@ -26,7 +26,7 @@ static int is_refused(void)
     /* threads may allocate at the same time */
     if (__atomic_add_fetch(&made, 1, __ATOMIC_SEQ_CST) != wanted)
         return 0;
-    write(2, message, sizeof message - 1);
+    __write(2, message, sizeof message - 1);
     /* as malloc says why; the C library looks where it starts a thread */
     *__errno_location() = OUT_OF_MEMORY;
     return 1;

@@ -1,18 +1,254 @@
-//! Audits of a run with records that aren't its own.
+//! Audits of what a run left with records that aren't its own: of other lines, of other texts, and of each text that is one
+//! in which a byte is altered.
+//!
+//! The numbers of these are counted by hand. In a line of one digit, a space and one digit, nine other handlers and eight
+//! other numbers of turns make other records; in the first line the other version does; elsewhere no byte may be another.
 
+use crate::programs::program_of;
 use crate::rows::{expect_text, halves_of};
-use crate::runs::{left_by_one, load};
-use sc_audit::RecordLine;
+use crate::runs::left_by_one;
+use crate::together::RELAY;
+use sc_audit::{ReadFault, Record, RecordLine, read_record};
 use sc_auditing::{AuditFault, audit};
 use sc_code::Program;
 use sc_lockpass::Version;
 use sc_plant::Left;
 use std::alloc::{AllocError, Global};
 use std::process::Abort;
+use std::sync::Wait;
 use std::test::Fail;
+use std::thread::Threads;
+use std::time::Clock;
+
+/// What an audit answers.
+type Answer = Result<(), AuditFault>;
+
+/// What stands on the left of the bar in rows.
+#[derive(Clone, Copy)]
+enum Says {
+    /// Lines of a record, each a handler and its turns. A row is a line.
+    Lines(Version),
+    /// The text of a record. Between two rows stands a line with a sign.
+    Text,
+    /// The same, of which each byte in turn is each other one.
+    Altered,
+}
+
+// ---- one answer
+
+/// What an audit answers, in words.
+fn told(alloc: Global, answer: Answer) -> Result<String, Fail> {
+    match answer {
+        Ok(()) => Ok(String::from_str(alloc, "yes")?),
+        Err(AuditFault::Differs { handler }) => Ok(format!(in alloc; "differs {handler}")?),
+        Err(AuditFault::BadRecord { line }) => Ok(format!(in alloc; "bad {line}")?),
+        Err(AuditFault::OutOfMemory) => Err(Fail::from(AllocError)),
+    }
+}
+
+/// Adds the lines that these words name.
+fn add_lines(lines: &mut Vec<RecordLine>, words: &str) -> Result<(), Fail> {
+    for line in words.split(", ") {
+        let (handler, turns) = line.split_once(' ').ok_or("a line without turns")?;
+        lines.push(RecordLine {
+            handler: handler.parse()?,
+            turns: turns.parse()?,
+        })?;
+    }
+    Ok(())
+}
+
+/// What the audit of a run answers with the record that a text is, or the line at which it is none.
+fn answer_to(
+    alloc: Global,
+    program: &Program,
+    left: &mut Left<'_>,
+    mut text: &[u8],
+) -> Result<Answer, AllocError> {
+    match read_record(alloc, &mut text) {
+        Ok(Record { version, lines }) => {
+            left.version = version;
+            left.lines = lines;
+            Ok(audit(alloc, program, left))
+        }
+        Err(ReadFault::BadRecord { line }) => {
+            let line = u32::try_from(line).unwrap_or(u32::MAX);
+            Ok(Err(AuditFault::BadRecord { line }))
+        }
+        Err(_) => Err(AllocError),
+    }
+}
+
+// ---- many
+
+/// How many handlers, and lines, an answer may name.
+const NAMED: usize = 32;
+
+/// How many texts have each answer.
+#[derive(Drop)]
+struct Counts {
+    yes: u32,
+    /// By the handler that differs.
+    differs: [u32; NAMED],
+    /// By the line at fault.
+    bad: [u32; NAMED],
+}
+
+impl Counts {
+    fn new() -> Counts {
+        Counts {
+            yes: 0,
+            differs: [0; NAMED],
+            bad: [0; NAMED],
+        }
+    }
+
+    fn add(&mut self, answer: Answer) -> Result<(), Fail> {
+        let count = match answer {
+            Ok(()) => Some(&mut self.yes),
+            Err(AuditFault::Differs { handler }) => self.differs.get_mut(handler as usize),
+            Err(AuditFault::BadRecord { line }) => self.bad.get_mut(line as usize),
+            Err(AuditFault::OutOfMemory) => return Err(Fail::from(AllocError)),
+        };
+        match count {
+            Some(count) => {
+                *count = count.saturating_add(1);
+                Ok(())
+            }
+            None => Err(Fail::new("an answer that names too much")),
+        }
+    }
+
+    /// The answers that some text has, each with how many have it.
+    fn told(&self, alloc: Global) -> Result<String, AllocError> {
+        let yes = self.yes;
+        let mut told = format!(in alloc; "yes: {yes}")?;
+        tell_each(&mut told, "differs", &self.differs)?;
+        tell_each(&mut told, "bad", &self.bad)?;
+        Ok(told)
+    }
+}
+
+fn tell_each(told: &mut String, answer: &str, counts: &[u32]) -> Result<(), AllocError> {
+    for (number, count) in counts.iter().enumerate() {
+        if *count > 0 {
+            write!(told, ", {answer} {number}: {count}")?;
+        }
+    }
+    Ok(())
+}
+
+/// Adds the answers to a text in which the byte at a place is each other one.
+fn add_altered(
+    alloc: Global,
+    program: &Program,
+    left: &mut Left<'_>,
+    counts: &mut Counts,
+    (text, place): (&mut [u8], usize),
+) -> Result<(), Fail> {
+    let Some(&byte) = text.get(place) else {
+        return Ok(());
+    };
+    for other in 0..=u8::MAX {
+        if other != byte {
+            replace(text, place, other);
+            counts.add(answer_to(alloc, program, left, text)?)?;
+        }
+    }
+    replace(text, place, byte);
+    Ok(())
+}
+
+fn replace(text: &mut [u8], place: usize, byte: u8) {
+    if let Some(at) = text.get_mut(place) {
+        *at = byte;
+    }
+}
+
+/// How many of the texts that are this one but for a byte have each answer.
+fn told_altered(
+    alloc: Global,
+    program: &Program,
+    left: &mut Left<'_>,
+    text: &[u8],
+) -> Result<String, Fail> {
+    let mut counts = Counts::new();
+    let mut altered = Vec::from_slice(alloc, text)?;
+    for place in 0..text.len() {
+        add_altered(alloc, program, left, &mut counts, (&mut altered, place))?;
+    }
+    Ok(counts.told(alloc)?)
+}
+
+// ---- rows
+
+/// What is answered to a row.
+fn answered(
+    alloc: Global,
+    program: &Program,
+    left: &mut Left<'_>,
+    says: Says,
+    words: &str,
+) -> Result<String, Fail> {
+    match says {
+        Says::Lines(version) => {
+            left.version = version;
+            left.lines.clear();
+            add_lines(&mut left.lines, words)?;
+            told(alloc, audit(alloc, program, left))
+        }
+        Says::Text => told(alloc, answer_to(alloc, program, left, words.as_bytes())?),
+        Says::Altered => told_altered(alloc, program, left, words.as_bytes()),
+    }
+}
+
+fn expect_rows<R: Abort>(
+    rt: &R,
+    alloc: Global,
+    program: &Program,
+    left: &mut Left<'_>,
+    (says, rows): (Says, &str),
+) -> Result<(), Fail> {
+    let between = if let Says::Lines(_) = says {
+        "\n"
+    } else {
+        "\n#\n"
+    };
+    for row in rows.split(between) {
+        let (words, wanted) = halves_of(row)?;
+        let answer = answered(alloc, program, left, says, words)?;
+        expect_text(rt, &answer, wanted, words);
+    }
+    Ok(())
+}
+
+fn expect_each<R: Abort>(
+    rt: &R,
+    alloc: Global,
+    program: &Program,
+    left: &mut Left<'_>,
+    tables: &[(Says, &str)],
+) -> Result<(), Fail> {
+    for &table in tables {
+        expect_rows(rt, alloc, program, left, table)?;
+    }
+    Ok(())
+}
+
+/// The audit of what a run of the system left answers so to the rows of these tables.
+fn expect<R: Abort + AllocGlobal + Threads + Wait + Clock + Sync>(
+    rt: &R,
+    source: &str,
+    tables: &[(Says, &str)],
+) -> Result<(), Fail> {
+    let alloc = rt.alloc();
+    let program = program_of(alloc, source, "application", "make")?;
+    let mut left = left_by_one(rt, alloc, &program)?;
+    expect_each(rt, alloc, &program, &mut left, tables)
+}
 
 /// A system whose run is five turns of handler 0.
-pub const FIVE_TURNS: &str = "class APPLICATION create make
+const FIVE_TURNS: &str = "class APPLICATION create make
 feature
     n: INTEGER
     make do raise print (n) end
@@ -20,8 +256,7 @@ feature
 invariant n >= 0
 end";
 
-/// Lines of records of the second version, each a handler and its turns, and what the audit of that run answers. Further turns change
-/// nothing.
+/// Lines of records, and what the audit of that run answers. Further turns change nothing.
 const ROWS: &str = "0 1|differs 0
 0 2|differs 0
 0 3|differs 0
@@ -50,64 +285,124 @@ const ROWS: &str = "0 1|differs 0
 const FIRST_ROWS: &str = "0 5, 63 1|yes
 0 5, 64 1|bad 3";
 
-/// What an audit answers, in words.
-pub fn told(alloc: Global, answer: Result<(), AuditFault>) -> Result<String, Fail> {
-    match answer {
-        Ok(()) => Ok(String::from_str(alloc, "yes")?),
-        Err(AuditFault::Differs { handler }) => Ok(format!(in alloc; "differs {handler}")?),
-        Err(AuditFault::BadRecord { line }) => Ok(format!(in alloc; "bad {line}")?),
-        Err(AuditFault::OutOfMemory) => Err(Fail::from(AllocError)),
-    }
-}
-
-/// Adds the lines that these words name.
-fn add_lines(lines: &mut Vec<RecordLine>, words: &str) -> Result<(), Fail> {
-    for line in words.split(", ") {
-        let (handler, turns) = line.split_once(' ').ok_or("a line without turns")?;
-        lines.push(RecordLine {
-            handler: handler.parse()?,
-            turns: turns.parse()?,
-        })?;
-    }
-    Ok(())
-}
-
-/// What an audit answers where the record has the lines of a row.
-fn expect_row<R: Abort>(
-    rt: &R,
-    alloc: Global,
-    program: &Program,
-    left: &mut Left<'_>,
-    row: &str,
-) -> Result<(), Fail> {
-    let (words, wanted) = halves_of(row)?;
-    left.lines.clear();
-    add_lines(&mut left.lines, words)?;
-    let answer = told(alloc, audit(alloc, program, left))?;
-    expect_text(rt, &answer, wanted, words);
-    Ok(())
-}
-
-fn expect_rows<R: Abort>(
-    rt: &R,
-    alloc: Global,
-    program: &Program,
-    left: &mut Left<'_>,
-) -> Result<(), Fail> {
-    for row in ROWS.lines() {
-        expect_row(rt, alloc, program, left, row)?;
-    }
-    left.version = Version::One;
-    for row in FIRST_ROWS.lines() {
-        expect_row(rt, alloc, program, left, row)?;
-    }
-    Ok(())
-}
-
 #[test]
 fn other_records(rt: HostRuntime) -> Result<(), Fail> {
-    let alloc = rt.alloc();
-    let program = load(&rt, alloc, FIVE_TURNS)?;
-    let mut left = left_by_one(&rt, alloc, &program)?;
-    expect_rows(&rt, alloc, &program, &mut left)
+    let second = (Says::Lines(Version::Two), ROWS);
+    let first = (Says::Lines(Version::One), FIRST_ROWS);
+    expect(&rt, FIVE_TURNS, &[second, first])
+}
+
+/// 6 to 9 turns are as good as 5, of which the rest change nothing. In both versions the first line has one byte that may be the
+/// other version's.
+const FIVE_TURNS_ANSWERS: &str = "scoop record 1
+0 5
+end 1
+|yes: 5, differs 0: 13, bad 1: 3824, bad 2: 1003, bad 3: 1530
+#
+scoop record 2
+0 5
+end 1
+|yes: 5, differs 0: 13, bad 1: 3824, bad 2: 1003, bad 3: 1530";
+
+#[test]
+fn altered_records_of_the_smallest_run(rt: HostRuntime) -> Result<(), Fail> {
+    expect(&rt, FIVE_TURNS, &[(Says::Altered, FIVE_TURNS_ANSWERS)])
+}
+
+/// Texts, and what the audit of the same run answers to each.
+const TEXTS: &str = "scoop record 1
+0 5
+end 1
+|yes
+#
+scoop record 1
+0 6
+end 1
+|yes
+#
+scoop record 1
+0 4
+end 1
+|differs 0
+#
+scoop record 1
+0 05
+end 1
+|bad 2
+#
+scoop record 1
+0 5
+|bad 3
+#
+scoop record 1
+0 5
+end 2
+|bad 3";
+
+#[test]
+fn texts_that_are_nearly_its_record(rt: HostRuntime) -> Result<(), Fail> {
+    expect(&rt, FIVE_TURNS, &[(Says::Text, TEXTS)])
+}
+
+/// The record of the run of RELAY on one worker: handlers take turns in the order of their numbers, and each goes on until it
+/// asks something.
+const RELAY_RECORD: &str = "scoop record 2
+0 2
+1 1
+0 1
+2 1
+0 1
+3 1
+0 1
+4 1
+0 1
+4 2
+1 2
+4 1
+1 1
+4 3
+0 2
+2 1
+2 2
+3 1
+3 2
+2 1
+0 1
+end 21
+|yes";
+
+/// The same, and how many of the texts that are it but for a byte have each answer.
+const RELAY_ALTERED: &str = "scoop record 2
+0 2
+1 1
+0 1
+2 1
+0 1
+3 1
+0 1
+4 1
+0 1
+4 2
+1 2
+4 1
+1 1
+4 3
+0 2
+2 1
+2 2
+3 1
+3 2
+2 1
+0 1
+end 21
+|yes: 122, differs 0: 195, differs 1: 41, bad 1: 3824, \
+    bad 2: 1003, bad 3: 1003, bad 4: 1003, bad 5: 1003, bad 6: 1003, bad 7: 1003, bad 8: 1003, \
+    bad 9: 1003, bad 10: 1003, bad 11: 1003, bad 12: 1003, bad 13: 1003, bad 14: 1003, bad 15: 1003, \
+    bad 16: 1003, bad 17: 1003, bad 18: 1003, bad 19: 1003, bad 20: 1003, bad 21: 1003, bad 22: 1003, \
+    bad 23: 1785";
+
+#[test]
+fn altered_records_of_a_failure_in_a_chain(rt: HostRuntime) -> Result<(), Fail> {
+    let tables = [(Says::Text, RELAY_RECORD), (Says::Altered, RELAY_ALTERED)];
+    expect(&rt, RELAY, &tables)
 }

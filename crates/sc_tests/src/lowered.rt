@@ -1,9 +1,14 @@
 //! Source texts, and what their code is.
 
-use crate::programs::program_within;
+use crate::programs::root_of;
 use crate::rows::{expect_text, halves_of};
+use sc_check::{CheckFault, Checked, check};
+use sc_class::{Root, tables};
 use sc_code::Program;
-use std::alloc::Global;
+use sc_explain_text::{let_go, system_of};
+use sc_lower::{Lowering, lower, lower_within};
+use sc_tree::System;
+use std::alloc::{AllocError, Global};
 use std::process::Abort;
 use std::test::Fail;
 
@@ -12,13 +17,40 @@ const ASKED: usize = 8;
 
 /// What comes of a source that is lowered within so many instructions.
 fn told_within(alloc: Global, source: &str, most: u32) -> Result<String, Fail> {
-    let (program, is_too_long) = program_within(alloc, source, "application", "make", most)?;
-    told(alloc, &program, is_too_long)
+    let root = root_of(alloc, "application", "make")?;
+    match system_of(alloc, source)? {
+        Some(system) => {
+            let told = told_of_system(alloc, &system, &root, most);
+            let_go(system);
+            told
+        }
+        None => Err(Fail::new("no system")),
+    }
+}
+
+/// The same of its system.
+fn told_of_system(alloc: Global, system: &System, root: &Root, most: u32) -> Result<String, Fail> {
+    match check(alloc, tables(alloc, system, root)?) {
+        Ok(checked) => told_of_checked(alloc, checked, most),
+        Err(CheckFault::Refused(_)) => Err(Fail::new("a rule fails")),
+        Err(CheckFault::OutOfMemory) => Err(Fail::from(AllocError)),
+    }
+}
+
+/// The same once it is checked. Where it is handed back it is lowered once more without a bound.
+fn told_of_checked(alloc: Global, checked: Checked<'_>, most: u32) -> Result<String, Fail> {
+    match lower_within(alloc, checked, most) {
+        Ok(program) => told(alloc, &program, ""),
+        Err(Lowering::CodeTooLong(checked)) => match lower(alloc, checked) {
+            Ok(program) => told(alloc, &program, "too long, "),
+            Err(_) => Err(Fail::from(AllocError)),
+        },
+        Err(Lowering::OutOfMemory(_)) => Err(Fail::from(AllocError)),
+    }
 }
 
 /// How many instructions a program has, and the greatest number of operands of each routine.
-fn told(alloc: Global, program: &Program, is_too_long: bool) -> Result<String, Fail> {
-    let before = if is_too_long { "too long, " } else { "" };
+fn told(alloc: Global, program: &Program, before: &str) -> Result<String, Fail> {
     let instructions = program.instructions();
     let mut told = format!(in alloc; "{before}{instructions}:")?;
     for number in 0..ASKED {

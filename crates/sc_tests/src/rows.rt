@@ -11,12 +11,15 @@ pub fn halves_of(row: &str) -> Result<(&str, &str), Fail> {
     }
 }
 
-/// Compares the bytes that are found with the text that is wanted, of this.
-pub fn expect_bytes<R: Abort>(rt: &R, found: &[u8], wanted: &str, of: &str) {
-    expect_text(rt, str::from_utf8(found).unwrap_or("no text"), wanted, of)
-}
-
 /// Compares what is found with what is wanted, of this.
 pub fn expect_text<R: Abort>(rt: &R, found: &str, wanted: &str, of: &str) {
     assert_eq!(rt; found, wanted, "of {of}");
+}
+
+/// The text of a report.
+pub fn text_of(bytes: Vec<u8>) -> Result<String, Fail> {
+    match String::from_utf8(bytes) {
+        Ok(text) => Ok(text),
+        Err(_) => Err(Fail::from("a report that is no text")),
+    }
 }

@@ -1,12 +1,11 @@
-//! A run by several workers, beside the replay of its record.
+//! A run by several workers, beside the replay of its record, and handlers that wait for each other in it.
 
-use crate::rows::expect_text;
+use crate::programs::program_of;
+use crate::rows::{expect_text, text_of};
 use sc_audit::Record;
 use sc_auditing::{AuditFault, audit};
-use sc_class::Root;
 use sc_code::Program;
 use sc_driver::{RunReport, replay};
-use sc_frontend::{Rejection, load_text};
 use sc_lockpass::HandlerNumber;
 use sc_plant::{Gate, Left, RunFault, run};
 use std::alloc::{AllocError, Global};
@@ -14,82 +13,152 @@ use std::process::Abort;
 use std::sync::Wait;
 use std::sync::atomic::{AtomicU64, Ordering};
 use std::test::Fail;
+use std::thread;
 use std::thread::Threads;
+use std::time::{Clock, Duration};
 
-/// A gate that lets all pass.
-struct Open;
+/// How many turns a run makes at most.
+const LIMIT: u32 = 1_000_000;
 
-impl Gate for Open {
-    fn began(&self, _handler: HandlerNumber) {}
+/// Looks at most so often whether it may go on, with a millisecond after each look. Where memory is refused to another worker it
+/// looks in vain.
+const LOOKS: u32 = 3_000;
 
-    fn ended(&self, _handler: HandlerNumber) {}
+/// A handler that waits, as a worker begins to play it, until others were played.
+#[derive(Clone, Copy)]
+pub enum Waits {
+    /// None does.
+    Never,
+    /// Handler 1, until these handlers have begun: a bit for each, by its number.
+    UntilBegun(u64),
+    /// Handler 4, until handler 3 has ended twice.
+    UntilEndedTwice,
 }
 
-/// The program of a system that is sound.
-pub fn load<R: Abort>(rt: &R, alloc: Global, text: &str) -> Result<Program, Fail> {
-    let root = Root {
-        class: String::from_str(alloc, "application")?,
-        procedure: String::from_str(alloc, "make")?,
-    };
-    match load_text(alloc, text, &root) {
-        Ok(program) => Ok(program),
-        Err(Rejection::OutOfMemory) => Err(Fail::from(AllocError)),
-        Err(_) => panic!(rt; "the text is no program's"),
+/// What was seen of a run on its way.
+#[derive(Drop)]
+struct Seen {
+    waits: Waits,
+    /// A bit for each handler that has begun, by its number.
+    begun: AtomicU64,
+    /// How often handler 3 has ended.
+    ended: AtomicU64,
+    /// 1 where a wait ran out.
+    late: AtomicU64,
+}
+
+impl Seen {
+    fn new(waits: Waits) -> Seen {
+        Seen {
+            waits,
+            begun: AtomicU64::new(0),
+            ended: AtomicU64::new(0),
+            late: AtomicU64::new(0),
+        }
+    }
+
+    /// A handler begins: whether it waits.
+    fn begins(&self, handler: HandlerNumber) -> bool {
+        let bit = 1_u64.checked_shl(handler as u32).unwrap_or(0);
+        self.begun.fetch_or(bit, Ordering::SeqCst);
+        match self.waits {
+            Waits::Never => false,
+            Waits::UntilBegun(_) => handler == 1,
+            Waits::UntilEndedTwice => handler == 4,
+        }
+    }
+
+    /// Whether the handler that waits may go on.
+    fn may_go_on(&self) -> bool {
+        match self.waits {
+            Waits::Never => true,
+            Waits::UntilBegun(others) => self.begun.load(Ordering::SeqCst) & others == others,
+            Waits::UntilEndedTwice => self.ended.load(Ordering::SeqCst) >= 2,
+        }
+    }
+}
+
+/// A gate at which a handler waits.
+#[derive(Drop)]
+struct Waiting<'a, C: Clock + Sync> {
+    clock: &'a C,
+    seen: Seen,
+}
+
+impl<'a, C: Clock + Sync> Gate for Waiting<'a, C> {
+    fn began(&self, handler: HandlerNumber) {
+        if !self.seen.begins(handler) {
+            return;
+        }
+        for _ in 0..LOOKS {
+            if self.seen.may_go_on() {
+                return;
+            }
+            thread::sleep(self.clock, Duration::from_millis(1));
+        }
+        self.seen.late.store(1, Ordering::SeqCst);
+    }
+
+    fn ended(&self, handler: HandlerNumber) {
+        if handler == 3 {
+            self.seen.ended.fetch_add(1, Ordering::SeqCst);
+        }
     }
 }
 
 /// What a run of a program by one worker leaves.
-pub fn left_by_one<'p, R: Threads + Wait + Sync>(
+pub fn left_by_one<'p, R: Threads + Wait + Clock + Sync>(
     rt: &R,
     alloc: Global,
     program: &'p Program,
 ) -> Result<Left<'p>, Fail> {
-    match run(rt, alloc, program, 1, 1_000_000, &Open) {
+    let gate = Waiting {
+        clock: rt,
+        seen: Seen::new(Waits::Never),
+    };
+    match run(rt, alloc, program, 1, LIMIT, &gate) {
         Ok(left) => Ok(left),
         Err(_) => Err(Fail::from(AllocError)),
     }
 }
 
-/// A gate that notes whether a turn began.
-#[derive(Drop)]
-struct Noting<'a, G: Gate> {
-    gate: &'a G,
-    begun: AtomicU64,
-}
-
-impl<'a, G: Gate> Gate for Noting<'a, G> {
-    fn began(&self, handler: HandlerNumber) {
-        self.begun.store(1, Ordering::SeqCst);
-        self.gate.began(handler);
-    }
-
-    fn ended(&self, handler: HandlerNumber) {
-        self.gate.ended(handler);
-    }
+/// Plays a system with handlers that wait: no wait runs out, and this is the report.
+pub fn expect_report<R: Abort + AllocGlobal + Threads + Wait + Clock + Sync>(
+    rt: &R,
+    text: &str,
+    workers: u8,
+    waits: Waits,
+    report: &str,
+) -> Result<(), Fail> {
+    let alloc = rt.alloc();
+    let gate = Waiting {
+        clock: rt,
+        seen: Seen::new(waits),
+    };
+    let program = program_of(alloc, text, "application", "make")?;
+    let told = reported(rt, alloc, &program, workers, &gate)?;
+    assert_eq!(rt; gate.seen.late.load(Ordering::SeqCst), 0);
+    expect_text(rt, &told, report, text);
+    Ok(())
 }
 
 /// The report of what a run leaves, whose audit says yes. A replay of its record reports the same, also where memory was refused
 /// on the way, which leaves something where a turn began.
-pub fn leave<R: Abort + Threads + Wait + Sync, G: Gate>(
+fn reported<R: Abort + Threads + Wait + Clock + Sync>(
     rt: &R,
     alloc: Global,
     program: &Program,
     workers: u8,
-    limit: u32,
-    gate: &G,
+    gate: &Waiting<'_, R>,
 ) -> Result<String, Fail> {
-    let noting = Noting {
-        gate,
-        begun: AtomicU64::new(0),
-    };
-    match run(rt, alloc, program, workers, limit, &noting) {
+    match run(rt, alloc, program, workers, LIMIT, gate) {
         Ok(left) => audited(rt, alloc, program, &left),
         Err(RunFault::OutOfMemory(Some(left))) => match replayed(rt, alloc, program, &left) {
             Ok(_) => Err(Fail::from(AllocError)),
             told => told,
         },
         Err(RunFault::OutOfMemory(None)) => {
-            assert_eq!(rt; noting.begun.load(Ordering::SeqCst), 0);
+            assert_eq!(rt; gate.seen.begun.load(Ordering::SeqCst), 0);
             Err(Fail::from(AllocError))
         }
         Err(RunFault::LogsDiffer(handler, _)) => panic!(rt; "the logs of handler {handler} differ"),
@@ -127,11 +196,4 @@ fn replayed<R: Abort>(
     let told = text_of(told)?;
     expect_text(rt, &report, &told, "a replay");
     Ok(report)
-}
-
-pub fn text_of(bytes: Vec<u8>) -> Result<String, Fail> {
-    match String::from_utf8(bytes) {
-        Ok(text) => Ok(text),
-        Err(_) => Err(Fail::from("a report that is no text")),
-    }
 }

@@ -1,118 +1,7 @@
 //! Workers that play at the same time, and one that waits for another.
 
-use crate::rows::expect_text;
-use crate::runs::{leave, load};
-use sc_lockpass::HandlerNumber;
-use sc_plant::Gate;
-use std::process::Abort;
-use std::sync::Wait;
-use std::sync::atomic::{AtomicU64, Ordering};
+use crate::runs::{Waits, expect_report};
 use std::test::Fail;
-use std::thread;
-use std::thread::Threads;
-use std::time::{Clock, Duration};
-
-/// Looks at most so often whether it may go on, with a millisecond after each look. Where memory is refused to another worker it
-/// looks in vain.
-const LOOKS: u32 = 3_000;
-
-/// A handler that waits, as a worker begins to play it, until others were played.
-#[derive(Clone, Copy)]
-enum Waits {
-    /// Handler 1, until these handlers have begun: a bit for each, by its number.
-    UntilBegun(u64),
-    /// Handler 4, until handler 3 has ended twice.
-    UntilEndedTwice,
-}
-
-/// What was seen of a run on its way.
-#[derive(Drop)]
-struct Seen {
-    waits: Waits,
-    /// A bit for each handler that has begun, by its number.
-    begun: AtomicU64,
-    /// How often handler 3 has ended.
-    ended: AtomicU64,
-    /// 1 where a wait ran out.
-    late: AtomicU64,
-}
-
-impl Seen {
-    fn new(waits: Waits) -> Seen {
-        Seen {
-            waits,
-            begun: AtomicU64::new(0),
-            ended: AtomicU64::new(0),
-            late: AtomicU64::new(0),
-        }
-    }
-
-    /// A handler begins: whether it waits.
-    fn begins(&self, handler: HandlerNumber) -> bool {
-        let bit = 1_u64.checked_shl(handler as u32).unwrap_or(0);
-        self.begun.fetch_or(bit, Ordering::SeqCst);
-        match self.waits {
-            Waits::UntilBegun(_) => handler == 1,
-            Waits::UntilEndedTwice => handler == 4,
-        }
-    }
-
-    /// Whether the handler that waits may go on.
-    fn may_go_on(&self) -> bool {
-        match self.waits {
-            Waits::UntilBegun(others) => self.begun.load(Ordering::SeqCst) & others == others,
-            Waits::UntilEndedTwice => self.ended.load(Ordering::SeqCst) >= 2,
-        }
-    }
-}
-
-/// A gate at which a handler waits.
-#[derive(Drop)]
-struct Waiting<'a, C: Clock + Sync> {
-    clock: &'a C,
-    seen: Seen,
-}
-
-impl<'a, C: Clock + Sync> Gate for Waiting<'a, C> {
-    fn began(&self, handler: HandlerNumber) {
-        if !self.seen.begins(handler) {
-            return;
-        }
-        for _ in 0..LOOKS {
-            if self.seen.may_go_on() {
-                return;
-            }
-            thread::sleep(self.clock, Duration::from_millis(1));
-        }
-        self.seen.late.store(1, Ordering::SeqCst);
-    }
-
-    fn ended(&self, handler: HandlerNumber) {
-        if handler == 3 {
-            self.seen.ended.fetch_add(1, Ordering::SeqCst);
-        }
-    }
-}
-
-/// Plays a system with handlers that wait: no wait runs out, and this is the report.
-fn expect<R: Abort + AllocGlobal + Threads + Wait + Clock + Sync>(
-    rt: &R,
-    text: &str,
-    workers: u8,
-    waits: Waits,
-    report: &str,
-) -> Result<(), Fail> {
-    let alloc = rt.alloc();
-    let gate = Waiting {
-        clock: rt,
-        seen: Seen::new(waits),
-    };
-    let program = load(rt, alloc, text)?;
-    let left = leave(rt, alloc, &program, workers, 1_000_000, &gate)?;
-    assert_eq!(rt; gate.seen.late.load(Ordering::SeqCst), 0);
-    expect_text(rt, &left, report, text);
-    Ok(())
-}
 
 /// Two handlers that a third one makes.
 const TWO: &str = "class APPLICATION create make
@@ -138,7 +27,7 @@ stopped idle
 
 #[test]
 fn two_at_once(rt: HostRuntime) -> Result<(), Fail> {
-    expect(&rt, TWO, 2, Waits::UntilBegun(0x4), TWO_REPORT)
+    expect_report(&rt, TWO, 2, Waits::UntilBegun(0x4), TWO_REPORT)
 }
 
 /// Eight handlers that a ninth one makes.
@@ -181,7 +70,7 @@ stopped idle
 
 #[test]
 fn eight_at_once(rt: HostRuntime) -> Result<(), Fail> {
-    expect(&rt, EIGHT, 8, Waits::UntilBegun(0x1fc), EIGHT_REPORT)
+    expect_report(&rt, EIGHT, 8, Waits::UntilBegun(0x1fc), EIGHT_REPORT)
 }
 
 /// Locks that are passed twice, then a failure; and a handler that comes late.
@@ -220,5 +109,5 @@ stopped idle
 
 #[test]
 fn one_comes_late(rt: HostRuntime) -> Result<(), Fail> {
-    expect(&rt, RELAY, 2, Waits::UntilEndedTwice, RELAY_REPORT)
+    expect_report(&rt, RELAY, 2, Waits::UntilEndedTwice, RELAY_REPORT)
 }

@@ -1,7 +1,7 @@
 //! Worlds that one thread plays, number by number, also where memory is refused to a turn.
 
-use crate::rows::expect_text;
-use crate::runs::{load, text_of};
+use crate::programs::program_of;
+use crate::rows::{expect_text, text_of};
 use crate::together::{RELAY, RELAY_REPORT};
 use sc_lockpass::{HandlerNumber, Version};
 use sc_world::{Turned, World};
@@ -75,7 +75,7 @@ fn expect_moves<R: Abort>(rt: &R, world: &mut World<'_>) -> Result<(), Fail> {
 
 #[test]
 fn says_whether_a_turn_moves(rt: HostRuntime) -> Result<(), Fail> {
-    let program = load(&rt, rt.alloc(), CALLBACK)?;
+    let program = program_of(rt.alloc(), CALLBACK, "application", "make")?;
     let mut world = World::open(rt.alloc(), &program, Version::One)?;
     expect_moves(&rt, &mut world)
 }
@@ -148,7 +148,7 @@ fn expect_report<R: Abort + AllocGlobal>(
     handlers: &[HandlerNumber],
     report: &str,
 ) -> Result<(), Fail> {
-    let program = load(rt, rt.alloc(), text)?;
+    let program = program_of(rt.alloc(), text, "application", "make")?;
     let mut world = World::open(rt.alloc(), &program, Version::One)?;
     expect_reported(rt, &mut world, handlers, report)
 }
