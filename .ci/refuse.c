@@ -1,5 +1,5 @@
 /* Refuses one allocation of a process, the number REFUSE counted from 1, and says so on standard error.
-   It is preloaded by refuse-memory, and stands on nothing but the C library's own allocator. */
+   It is preloaded by refuse-memory, beside fail.c, and stands on nothing but the C library's own allocator. */
 typedef unsigned long size_t;
 extern char *getenv(const char *);
 extern long __write(int, const void *, size_t);
