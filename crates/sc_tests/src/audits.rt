@@ -104,18 +104,19 @@ impl Counts {
     }
 
     fn add(&mut self, answer: Answer) -> Result<(), Fail> {
-        let count = match answer {
-            Ok(()) => Some(&mut self.yes),
-            Err(AuditFault::Differs { handler }) => self.differs.get_mut(handler as usize),
-            Err(AuditFault::BadRecord { line }) => self.bad.get_mut(line as usize),
+        let is_counted = match answer {
+            Ok(()) => {
+                self.yes = self.yes.saturating_add(1);
+                true
+            }
+            Err(AuditFault::Differs { handler }) => count_at(&mut self.differs, handler as usize),
+            Err(AuditFault::BadRecord { line }) => count_at(&mut self.bad, line as usize),
             Err(AuditFault::OutOfMemory) => return Err(Fail::from(AllocError)),
         };
-        match count {
-            Some(count) => {
-                *count = count.saturating_add(1);
-                Ok(())
-            }
-            None => Err(Fail::new("an answer that names too much")),
+        if is_counted {
+            Ok(())
+        } else {
+            Err(Fail::new("an answer that names too much"))
         }
     }
 
@@ -126,6 +127,17 @@ impl Counts {
         tell_each(&mut told, "differs", &self.differs)?;
         tell_each(&mut told, "bad", &self.bad)?;
         Ok(told)
+    }
+}
+
+/// Counts one more at a place, if there is such a place.
+fn count_at(counts: &mut [u32], place: usize) -> bool {
+    match counts.get_mut(place) {
+        Some(count) => {
+            *count = count.saturating_add(1);
+            true
+        }
+        None => false,
     }
 }
 
@@ -144,7 +156,8 @@ fn add_altered(
     program: &Program,
     left: &mut Left<'_>,
     counts: &mut Counts,
-    (text, place): (&mut [u8], usize),
+    text: &mut [u8],
+    place: usize,
 ) -> Result<(), Fail> {
     let Some(&byte) = text.get(place) else {
         return Ok(());
@@ -152,7 +165,7 @@ fn add_altered(
     for other in 0..=u8::MAX {
         if other != byte {
             replace(text, place, other);
-            counts.add(answer_to(alloc, program, left, text)?)?;
+            counts.add(answer_to(alloc, program, left, &*text)?)?;
         }
     }
     replace(text, place, byte);
@@ -175,7 +188,7 @@ fn told_altered(
     let mut counts = Counts::new();
     let mut altered = Vec::from_slice(alloc, text)?;
     for place in 0..text.len() {
-        add_altered(alloc, program, left, &mut counts, (&mut altered, place))?;
+        add_altered(alloc, program, left, &mut counts, &mut altered, place)?;
     }
     Ok(counts.told(alloc)?)
 }
@@ -207,7 +220,8 @@ fn expect_rows<R: Abort>(
     alloc: Global,
     program: &Program,
     left: &mut Left<'_>,
-    (says, rows): (Says, &str),
+    says: Says,
+    rows: &str,
 ) -> Result<(), Fail> {
     let between = if let Says::Lines(_) = says {
         "\n"
@@ -227,10 +241,10 @@ fn expect_each<R: Abort>(
     alloc: Global,
     program: &Program,
     left: &mut Left<'_>,
-    tables: &[(Says, &str)],
+    tables: &[(Says, &'static str)],
 ) -> Result<(), Fail> {
-    for &table in tables {
-        expect_rows(rt, alloc, program, left, table)?;
+    for (says, rows) in tables {
+        expect_rows(rt, alloc, program, left, *says, rows)?;
     }
     Ok(())
 }
@@ -239,7 +253,7 @@ fn expect_each<R: Abort>(
 fn expect<R: Abort + AllocGlobal + Threads + Wait + Clock + Sync>(
     rt: &R,
     source: &str,
-    tables: &[(Says, &str)],
+    tables: &[(Says, &'static str)],
 ) -> Result<(), Fail> {
     let alloc = rt.alloc();
     let program = program_of(alloc, source, "application", "make")?;
