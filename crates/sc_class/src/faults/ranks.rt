@@ -5,8 +5,8 @@ use crate::class_tables::hierarchy::Hierarchy;
 use sc_tree::Parent;
 use std::alloc::{AllocError, Global};
 
-/// The classes that each class leads to at once, by number.
-type Ways = Vec<Vec<usize>>;
+/// The heirs of each class, by number.
+type Heirs = Vec<Vec<usize>>;
 
 /// A step of a walk: to come to a class, or to leave it behind all that it leads to.
 #[derive(Clone, Copy)]
@@ -18,104 +18,72 @@ enum Step {
 /// A rank for each class, by number: that of a parent isn't greater, and is the same where the parent leads back
 /// to the class. It takes time in proportion to the text.
 pub fn ranks_of(alloc: Global, hierarchy: &Hierarchy) -> Result<Vec<usize>, AllocError> {
-    let up = ways_up(alloc, hierarchy)?;
-    let down = ways_down(alloc, &up)?;
-    let steps = steps_along(&up);
-    let order = parents_first(alloc, &up, steps)?;
-    let mut groups = Groups::new(alloc, up.len())?;
-    groups.gather_all(&down, steps, &order)?;
-    Ok(groups.ranks)
+    let steps = steps_along(hierarchy);
+    let order = parents_first(alloc, hierarchy, steps)?;
+    ranks_along(alloc, hierarchy, steps, &order)
 }
 
-/// The parents of each class.
-fn ways_up(alloc: Global, hierarchy: &Hierarchy) -> Result<Ways, AllocError> {
-    let mut ways = Vec::new(alloc);
+/// More steps than a walk from classes to their parents takes, or one from parents to their heirs.
+fn steps_along(hierarchy: &Hierarchy) -> usize {
+    let mut steps = 1usize;
     let classes = hierarchy.classes();
     for class in classes {
-        ways.push(numbers_of(alloc, hierarchy, &class.parents)?)?;
-    }
-    Ok(ways)
-}
-
-/// The numbers of the classes that these parents name.
-fn numbers_of(
-    alloc: Global,
-    hierarchy: &Hierarchy,
-    parents: &[Parent],
-) -> Result<Vec<usize>, AllocError> {
-    let mut numbers = Vec::new(alloc);
-    for parent in parents {
-        if let Some(number) = hierarchy.number(&parent.name.text) {
-            numbers.push(number)?;
-        }
-    }
-    Ok(numbers)
-}
-
-/// The heirs of each class.
-fn ways_down(alloc: Global, up: &[Vec<usize>]) -> Result<Ways, AllocError> {
-    let mut ways = Vec::new(alloc);
-    for _class in 0..up.len() {
-        ways.push(Vec::new(alloc))?;
-    }
-    for (class, parents) in up.iter().enumerate() {
-        add_heir(&mut ways, parents, class)?;
-    }
-    Ok(ways)
-}
-
-/// Adds a class to the heirs of each of its parents.
-fn add_heir(ways: &mut Ways, parents: &[usize], heir: usize) -> Result<(), AllocError> {
-    for parent in parents {
-        if let Some(heirs) = ways.get_mut(*parent) {
-            heirs.push(heir)?;
-        }
-    }
-    Ok(())
-}
-
-/// More steps than a walk along these ways takes.
-fn steps_along(ways: &[Vec<usize>]) -> usize {
-    let mut steps = 1usize;
-    for nexts in ways {
-        steps = steps.saturating_add(nexts.len()).saturating_add(2);
+        steps = steps.saturating_add(class.parents.len()).saturating_add(2);
     }
     steps
 }
 
 /// The classes in the order in which a walk up leaves them: each behind its parents, but for those that lead back
 /// to it.
-fn parents_first(alloc: Global, up: &[Vec<usize>], steps: usize) -> Result<Vec<usize>, AllocError> {
-    let mut left = Vec::new(alloc);
-    let mut seen = vec![in alloc; false; up.len()]?;
+fn parents_first(
+    alloc: Global,
+    hierarchy: &Hierarchy,
+    steps: usize,
+) -> Result<Vec<usize>, AllocError> {
+    let mut seen = vec![in alloc; false; hierarchy.classes().len()]?;
     let mut todo = Vec::new(alloc);
-    for class in 0..up.len() {
+    let mut left = Vec::new(alloc);
+    walk_up(hierarchy, steps, &mut seen, &mut todo, &mut left).and(Ok(left))
+}
+
+/// Walks up from each class, and adds those that it leaves.
+fn walk_up(
+    hierarchy: &Hierarchy,
+    steps: usize,
+    seen: &mut [bool],
+    todo: &mut Vec<Step>,
+    left: &mut Vec<usize>,
+) -> Result<(), AllocError> {
+    for class in 0..seen.len() {
         todo.push(Step::Enter(class))?;
     }
     for _step in 0..steps {
         match todo.pop() {
-            None => return Ok(left),
+            None => return Ok(()),
             Some(Step::Leave(class)) => left.push(class)?,
-            Some(Step::Enter(class)) => enter(up, &mut seen, &mut todo, class)?,
+            Some(Step::Enter(class)) => enter(hierarchy, seen, todo, class)?,
         }
     }
-    Ok(left)
+    Ok(())
 }
 
 /// Comes to a class: its parents are to be entered before it is left.
 fn enter(
-    up: &[Vec<usize>],
+    hierarchy: &Hierarchy,
     seen: &mut [bool],
     todo: &mut Vec<Step>,
-    class: usize,
+    number: usize,
 ) -> Result<(), AllocError> {
-    if !is_new(seen, class) {
+    if !is_new(seen, number) {
         return Ok(());
     }
-    todo.push(Step::Leave(class))?;
-    if let Some(parents) = up.get(class) {
-        for parent in parents {
-            todo.push(Step::Enter(*parent))?;
+    todo.push(Step::Leave(number))?;
+    let Some(class) = hierarchy.classes().get(number) else {
+        return Ok(());
+    };
+    for parent in &class.parents {
+        if let Some(above) = hierarchy.number(&parent.name.text) {
+            todo.push(Step::Enter(above))?;
         }
     }
     Ok(())
@@ -132,72 +100,112 @@ fn is_new(seen: &mut [bool], class: usize) -> bool {
     }
 }
 
-/// Classes that are given the rank of the first that leads down to them.
-#[derive(Drop)]
-struct Groups {
-    ranks: Vec<usize>,
-    seen: Vec<bool>,
-    todo: Vec<usize>,
+/// The ranks by this order. Of classes that lead to each other the last one's is that of all.
+fn ranks_along(
+    alloc: Global,
+    hierarchy: &Hierarchy,
+    steps: usize,
+    order: &[usize],
+) -> Result<Vec<usize>, AllocError> {
+    let heirs = heirs_of_each(alloc, hierarchy)?;
+    let mut ranks = vec![in alloc; 0usize; heirs.len()]?;
+    let mut todo = Vec::new(alloc);
+    rank_all(&heirs, steps, order, &mut todo, &mut ranks).and(Ok(ranks))
 }
 
-impl Groups {
-    /// So many classes, none of which has a rank.
-    fn new(alloc: Global, count: usize) -> Result<Groups, AllocError> {
-        let ranks = vec![in alloc; 0usize; count]?;
-        let seen = vec![in alloc; false; count]?;
-        Ok(Groups {
-            ranks,
-            seen,
-            todo: Vec::new(alloc),
-        })
+/// The heirs of each class.
+fn heirs_of_each(alloc: Global, hierarchy: &Hierarchy) -> Result<Heirs, AllocError> {
+    let mut heirs = Vec::new(alloc);
+    for _class in 0..hierarchy.classes().len() {
+        heirs.push(Vec::new(alloc))?;
     }
+    add_heirs(hierarchy, &mut heirs).and(Ok(heirs))
+}
 
-    /// Gives a rank to each of the classes, the last first, and to those that it leads to.
-    fn gather_all(
-        &mut self,
-        down: &[Vec<usize>],
-        steps: usize,
-        order: &[usize],
-    ) -> Result<(), AllocError> {
-        let mut rank = order.len();
-        for class in order.iter().rev() {
-            self.gather(down, steps, *class, rank)?;
-            rank = rank.saturating_sub(1);
+/// Adds each class to the heirs of its parents.
+fn add_heirs(hierarchy: &Hierarchy, heirs: &mut Heirs) -> Result<(), AllocError> {
+    let classes = hierarchy.classes();
+    for (heir, class) in classes.iter().enumerate() {
+        for parent in &class.parents {
+            add_heir(hierarchy, heirs, parent, heir)?;
         }
-        Ok(())
     }
+    Ok(())
+}
 
-    /// Gives the rank to a class and to those that it leads to, where they have none.
-    fn gather(
-        &mut self,
-        down: &[Vec<usize>],
-        steps: usize,
-        class: usize,
-        rank: usize,
-    ) -> Result<(), AllocError> {
-        self.todo.push(class)?;
-        for _step in 0..steps {
-            let Some(class) = self.todo.pop() else {
-                return Ok(());
-            };
-            self.take(down, class, rank)?;
-        }
-        Ok(())
+/// Adds a class to the heirs of this parent.
+fn add_heir(
+    hierarchy: &Hierarchy,
+    heirs: &mut Heirs,
+    parent: &Parent,
+    heir: usize,
+) -> Result<(), AllocError> {
+    let Some(number) = hierarchy.number(&parent.name.text) else {
+        return Ok(());
+    };
+    if let Some(heirs) = heirs.get_mut(number) {
+        heirs.push(heir)?;
     }
+    Ok(())
+}
 
-    /// Gives the rank to a class, if it has none; those that it leads to are next.
-    fn take(&mut self, down: &[Vec<usize>], class: usize, rank: usize) -> Result<(), AllocError> {
-        if !is_new(&mut self.seen, class) {
+/// Gives a rank to each of the classes, the last first, and to those that it leads down to.
+fn rank_all(
+    heirs: &[Vec<usize>],
+    steps: usize,
+    order: &[usize],
+    todo: &mut Vec<usize>,
+    ranks: &mut [usize],
+) -> Result<(), AllocError> {
+    let mut rank = order.len();
+    for class in order.iter().rev() {
+        todo.push(*class)?;
+        rank_below(heirs, steps, rank, todo, ranks)?;
+        rank = rank.saturating_sub(1);
+    }
+    Ok(())
+}
+
+/// Gives the rank to the classes that are still to be seen and to those that they lead down to, where they have none.
+fn rank_below(
+    heirs: &[Vec<usize>],
+    steps: usize,
+    rank: usize,
+    todo: &mut Vec<usize>,
+    ranks: &mut [usize],
+) -> Result<(), AllocError> {
+    for _step in 0..steps {
+        let Some(class) = todo.pop() else {
             return Ok(());
+        };
+        if give_rank(ranks, class, rank) {
+            add_heirs_of(heirs, class, todo)?;
         }
-        if let Some(place) = self.ranks.get_mut(class) {
-            *place = rank;
-        }
-        if let Some(heirs) = down.get(class) {
-            for heir in heirs {
-                self.todo.push(*heir)?;
-            }
-        }
-        Ok(())
     }
+    Ok(())
+}
+
+/// Gives the rank to a class, and says whether it had none.
+fn give_rank(ranks: &mut [usize], class: usize, rank: usize) -> bool {
+    match ranks.get_mut(class) {
+        Some(place) if *place == 0 => {
+            *place = rank;
+            true
+        }
+        _ => false,
+    }
+}
+
+/// The heirs of a class are still to be seen.
+fn add_heirs_of(
+    heirs: &[Vec<usize>],
+    class: usize,
+    todo: &mut Vec<usize>,
+) -> Result<(), AllocError> {
+    if let Some(heirs) = heirs.get(class) {
+        for heir in heirs {
+            todo.push(*heir)?;
+        }
+    }
+    Ok(())
 }
