@@ -126,6 +126,22 @@ pub fn lower_routine<'s>(
     ensures blocks { let s = system_in tables.now in IfOk result (λ r. r.blocks ≡ routine_blocks (source_in s source.now)) }
 {
     let purity = Purity::NotAsked;
+    lower_source(alloc, tables, &purity, source)
+}
+
+/// The same, with a test of functions that nothing asks.
+fn lower_source<'t, 's>(
+    alloc: Global,
+    tables: &'t Tables<'s>,
+    purity: &'t Purity<'t, 's>,
+    source: &RoutineSource<'s>,
+) -> Result<LoweredRoutine<'s>, AllocError>
+    ensures code { let s = system_in tables.now in IfOk result (λ r. r.code ≡ emitted.routine_code s (source_in s source.now)) }
+    ensures depth { let s = system_in tables.now in IfOk result (λ r. r.depth ≡ emitted.routine_depth s (source_in s source.now)) }
+    ensures slots { let s = system_in tables.now in IfOk result (λ r. r.slots ≡ emitted.routine_slots s (source_in s source.now)) }
+    ensures olds { let s = system_in tables.now in IfOk result (λ r. r.olds ≡ routine_olds (source_in s source.now)) }
+    ensures blocks { let s = system_in tables.now in IfOk result (λ r. r.blocks ≡ routine_blocks (source_in s source.now)) }
+{
     let own = source.routine;
     let kept = source.contract;
     let mut names = Vec::new(alloc);
@@ -135,7 +151,7 @@ pub fn lower_routine<'s>(
     let mut contract = setting_of(
         alloc,
         tables,
-        &purity,
+        purity,
         source,
         source.contract_class,
         kept,
@@ -150,7 +166,7 @@ pub fn lower_routine<'s>(
         &kept.postcondition,
     )?;
     let olds = contract.olds.clone()?;
-    let inside = setting_of(alloc, tables, &purity, source, source.class, own, olds);
+    let inside = setting_of(alloc, tables, purity, source, source.class, own, olds);
     let body = lower_body(&inside, &mut names, &mut code, &own.locals, &own.body)?;
     let closing = lower_postcondition(&contract, &mut names, &mut code, &kept.postcondition)?;
     let kind = SiteKind::End;

@@ -18,7 +18,7 @@ use Rattle.sc_code.specs.Room.{instrs_blocks}
 use Rattle.sc_routines.specs.Settings.{setting_in}
 use Rattle.sc_routines.specs.Sources.{source_in}
 use Rattle.sc_routines.proofs.Whole.{whole_code, whole_depth, whole_slots}
-use Rattle.sc_routines.proofs.routine.lower_routine.Goals as goal
+use Rattle.sc_routines.proofs.routine.lower_source.Goals as goal
 
 pub returns : goal.returns
 returns c =
