@@ -1,10 +1,11 @@
 //! Who waits for whom: cycles, and the chains that lead to them or to one that waits for something else.
 
-use crate::waits::{Wait, count_of, keeper_of, wait_of};
+use crate::waits::{MOST_NEEDED, Wait, count_of, keeper_of, needed_at, wait_of};
+use sc_explain_text::Lines;
 use sc_lockpass::HandlerNumber;
 use sc_request::Core;
 use sc_world::World;
-use std::alloc::{AllocError, Global};
+use std::alloc::Global;
 
 /// A handler among those that wait for each other.
 #[derive(Clone, Copy)]
@@ -26,65 +27,85 @@ const NOBODY: Member = Member {
     is_told: true,
 };
 
+/// What is done with the handlers, one after the other.
+#[derive(Clone, Copy)]
+enum Pass {
+    /// Each gets the first that may be stuck of those that keep it waiting, where there is one.
+    Links,
+    /// Those are found not to be stuck that nobody keeps waiting who may be.
+    Frees,
+}
+
+/// Handlers each of which waits for the next, and the last for the first; none where there is no such cycle.
+#[derive(Clone, Copy)]
+pub struct Cycle {
+    pub length: usize,
+    /// How many of them wait for an answer.
+    pub answers: usize,
+}
+
 /// The handlers of a world, in order of number.
 #[derive(Drop)]
 pub struct Chains {
     members: Vec<Member>,
+    /// Whether a handler is busy.
+    pub is_any_busy: bool,
 }
 
 impl Chains {
-    /// Of which none was told.
-    pub fn of(alloc: Global, world: &World<'_>) -> Result<Chains, AllocError> {
-        let mut members = Vec::new(alloc);
+    /// Of which none was told. Where memory is refused, the lines lack something.
+    pub fn of(alloc: Global, lines: &mut Lines, world: &World<'_>) -> Chains {
+        let mut chains = Chains {
+            members: Vec::new(alloc),
+            is_any_busy: false,
+        };
         for handler in 0..count_of(world) {
-            let wait = wait_of(world, handler);
-            members.push(Member {
-                wait,
-                next: None,
-                is_stuck: wait.is_waiting(),
-                is_told: false,
-            })?;
+            chains.add(lines, wait_of(world, handler));
         }
-        let mut chains = Chains { members };
         chains.link(world.core());
-        Ok(chains)
+        chains
+    }
+
+    /// Adds the next handler, which waits for this.
+    fn add(&mut self, lines: &mut Lines, wait: Wait) {
+        self.is_any_busy = self.is_any_busy || matches!(wait, Wait::Busy);
+        let member = Member {
+            wait,
+            next: None,
+            is_stuck: wait.is_waiting(),
+            is_told: false,
+        };
+        if self.members.push(member).is_err() {
+            lines.lack()
+        }
     }
 
     /// Sets for each handler the one that keeps it waiting.
     fn link(&mut self, core: &Core) {
-        self.set_keepers(core);
+        let _is_changed = self.go_through(core, Pass::Links);
         // Those are left that lead to a cycle.
         for _round in 0..self.members.len() {
-            if !self.free_some(core) {
+            if !self.go_through(core, Pass::Frees) {
                 break;
             }
         }
-        self.set_keepers(core)
+        let _is_changed = self.go_through(core, Pass::Links);
     }
 
-    /// Sets for each handler the first that may be stuck of those that keep it waiting, where there is one.
-    fn set_keepers(&mut self, core: &Core) {
-        for index in 0..self.members.len().min(HandlerNumber::MAX as usize) {
-            let keeper = self.keeper_in(core, index as HandlerNumber);
-            if let Some(member) = self.members.get_mut(index)
-                && keeper.is_some()
-            {
-                member.next = keeper;
-            }
-        }
-    }
-
-    /// Finds that those aren't stuck that nobody keeps waiting who may be: whether there was one.
-    fn free_some(&mut self, core: &Core) -> bool {
+    /// Does this with each handler: whether there was one to be freed.
+    fn go_through(&mut self, core: &Core, pass: Pass) -> bool {
         let mut is_changed = false;
         for index in 0..self.members.len().min(HandlerNumber::MAX as usize) {
-            let is_kept = self.keeper_in(core, index as HandlerNumber).is_some();
-            if let Some(member) = self.members.get_mut(index)
-                && member.is_stuck
-                && !is_kept
-            {
-                member.is_stuck = false;
-                is_changed = true;
+            let keeper = self.keeper_in(core, index as HandlerNumber);
+            if let Some(member) = self.members.get_mut(index) {
+                match (pass, keeper) {
+                    (Pass::Links, Some(_)) => member.next = keeper,
+                    (Pass::Frees, None) if member.is_stuck => {
+                        member.is_stuck = false;
+                        is_changed = true
+                    }
+                    _ => {}
+                }
             }
         }
         is_changed
@@ -101,9 +122,9 @@ impl Chains {
 
     /// The first that may be stuck of those that keep a handler from what it is to reserve.
     fn holder_in(&self, core: &Core, handler: HandlerNumber) -> Option<HandlerNumber> {
-        let needed = core.needed_by(handler);
-        for one in needed.as_slice() {
-            if let Some(keeper) = keeper_of(core, *one)
+        for place in 0..MOST_NEEDED {
+            if let Some(one) = needed_at(core, handler, place)
+                && let Some(keeper) = keeper_of(core, one)
                 && self.at(keeper).is_stuck
             {
                 return Some(keeper);
@@ -114,10 +135,10 @@ impl Chains {
 
     /// The handler of a number.
     pub fn at(&self, handler: HandlerNumber) -> Member {
-        self.members
-            .get(handler as usize)
-            .copied()
-            .unwrap_or(NOBODY)
+        match self.members.get(handler as usize) {
+            Some(member) => *member,
+            None => NOBODY,
+        }
     }
 
     /// A handler was told of.
@@ -127,31 +148,39 @@ impl Chains {
         }
     }
 
-    /// Whether a handler is busy.
-    pub fn is_any_busy(&self) -> bool {
-        self.members
-            .iter()
-            .any(|member| matches!(member.wait, Wait::Busy))
-    }
-
     /// Whether a waiting handler waits for this one.
     pub fn is_waited_for(&self, handler: HandlerNumber) -> bool {
-        self.members
-            .iter()
-            .any(|member| member.next == Some(handler))
-    }
-
-    /// How many handlers are in the cycle in which this one waits for itself; 0 where there is none.
-    pub fn cycle_length(&self, handler: HandlerNumber) -> usize {
-        let mut at = handler;
-        for count in 0..self.members.len() {
-            match self.at(at).next {
-                Some(next) if next == handler => return count.saturating_add(1),
-                Some(next) => at = next,
-                None => return 0,
+        for index in 0..self.members.len().min(HandlerNumber::MAX as usize) {
+            if self.at(index as HandlerNumber).next == Some(handler) {
+                return true;
             }
         }
-        0
+        false
+    }
+
+    /// The cycle in which a handler waits for itself.
+    pub fn cycle_of(&self, handler: HandlerNumber) -> Cycle {
+        let mut cycle = Cycle {
+            length: 0,
+            answers: 0,
+        };
+        let mut at = handler;
+        for _step in 0..self.members.len() {
+            let member = self.at(at);
+            cycle.length = cycle.length.saturating_add(1);
+            if let Wait::Answer(_) = member.wait {
+                cycle.answers = cycle.answers.saturating_add(1);
+            }
+            match member.next {
+                Some(next) if next == handler => return cycle,
+                Some(next) => at = next,
+                None => break,
+            }
+        }
+        Cycle {
+            length: 0,
+            answers: 0,
+        }
     }
 
     /// How many handlers there are from this one on, each of which waits for the next: up to one that was told of, or that waits

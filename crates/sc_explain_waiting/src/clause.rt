@@ -153,11 +153,6 @@ impl<'r> RunSource<'r> {
         first
     }
 
-    /// The part of the text of which the operation at a place of a routine was made.
-    fn span_at(&self, routine: usize, place: usize) -> Option<Span> {
-        Some(self.site_at(routine, place)?.span)
-    }
-
     /// Adds what was read and called in a part of the text, each once, as far as it is no object: whether there is such a thing.
     fn push_values(
         &self,

@@ -23,4 +23,4 @@ pub use naming::{
 };
 pub use origin::RunSource;
 pub use telling::push_waits;
-pub use waits::keeper_of;
+pub use waits::{MOST_NEEDED, keeper_of, needed_at};

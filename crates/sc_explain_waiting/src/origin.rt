@@ -50,6 +50,11 @@ impl<'r> RunSource<'r> {
         self.text_of(routine)?.sites.get(place).copied()
     }
 
+    /// The part of the text of which the operation at a place of a routine was made.
+    pub fn span_at(&self, routine: usize, place: usize) -> Option<Span> {
+        Some(self.site_at(routine, place)?.span)
+    }
+
     /// Where the name of the feature stands that the name of this number is in a class.
     pub fn feature_name(&self, class: usize, name: NameNumber) -> Option<Span> {
         let class = self.program.classes().get(class)?;

@@ -3,7 +3,7 @@
 use crate::clause::push_false_clause;
 use crate::naming::{asked_by, push_name, push_request, push_stand, stand_of};
 use crate::origin::RunSource;
-use crate::waits::{Wait, count_of, keeper_of};
+use crate::waits::{MOST_NEEDED, Wait, count_of, keeper_of, needed_at};
 use sc_explain_text::Lines;
 use sc_lockpass::HandlerNumber;
 use sc_model::Status;
@@ -74,15 +74,16 @@ impl<'o, 'r> Scene<'o, 'r> {
 
     /// Adds what a handler waits to reserve, and who keeps it from each.
     fn push_wanted(&self, lines: &mut Lines, handler: HandlerNumber) {
-        let needed = self.world.core().needed_by(handler);
-        for (place, one) in needed.as_slice().iter().enumerate() {
-            lines.push(if place == 0 {
-                " waits for "
-            } else {
-                ", and for "
-            });
-            self.push_name(lines, *one);
-            self.push_keeper(lines, *one);
+        for place in 0..MOST_NEEDED {
+            if let Some(one) = needed_at(self.world.core(), handler, place) {
+                lines.push(if place == 0 {
+                    " waits for "
+                } else {
+                    ", and for "
+                });
+                self.push_name(lines, one);
+                self.push_keeper(lines, one)
+            }
         }
     }
 

@@ -6,6 +6,9 @@ use sc_region::Stage;
 use sc_request::Core;
 use sc_world::World;
 
+/// How many handlers one is to reserve at most.
+pub const MOST_NEEDED: usize = 16;
+
 /// What a handler waits for.
 #[derive(Clone, Copy)]
 pub enum Wait {
@@ -42,6 +45,12 @@ pub fn keeper_of(core: &Core, handler: HandlerNumber) -> Option<HandlerNumber> {
     }
 }
 
+/// The handler at a place of the list of those that one is to reserve.
+pub fn needed_at(core: &Core, handler: HandlerNumber, place: usize) -> Option<HandlerNumber> {
+    let needed = core.needed_by(handler);
+    needed.as_slice().get(place).copied()
+}
+
 /// What a handler waits for.
 pub fn wait_of(world: &World<'_>, handler: HandlerNumber) -> Wait {
     match world.status(handler) {
@@ -62,9 +71,10 @@ fn wait_in(core: &Core, handler: HandlerNumber) -> Wait {
 
 /// Whether a handler can have all that it needs.
 fn is_unkept(core: &Core, handler: HandlerNumber) -> bool {
-    let needed = core.needed_by(handler);
-    for one in needed.as_slice() {
-        if keeper_of(core, *one).is_some() {
+    for place in 0..MOST_NEEDED {
+        if let Some(one) = needed_at(core, handler, place)
+            && keeper_of(core, one).is_some()
+        {
             return false;
         }
     }
