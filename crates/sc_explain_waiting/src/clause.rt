@@ -120,9 +120,12 @@ impl<'r> RunSource<'r> {
 
     /// The number of a name of the program.
     fn number_of(&self, name: &str) -> Option<NameNumber> {
-        for (number, other) in self.program.pool().names.iter().enumerate() {
-            if other.as_str().eq_ignore_ascii_case(name) {
-                return Some(number.min(NameNumber::MAX as usize) as NameNumber);
+        let names = &self.program.pool().names;
+        for number in 0..names.len().min(NameNumber::MAX as usize) {
+            if let Some(other) = names.get(number)
+                && other.as_str().eq_ignore_ascii_case(name)
+            {
+                return Some(number as NameNumber);
             }
         }
         None
@@ -164,8 +167,9 @@ impl<'r> RunSource<'r> {
         let routine = reached.frame.routine;
         let first = self.first_place(routine, reached.frame.place, whole);
         let mut told = Vec::new(self.alloc);
-        for seen in &reached.seen {
-            if let Some(part) = self.part_at(routine, whole, *seen)
+        for number in 0..reached.seen.len() {
+            if let Some(seen) = reached.seen.get(number)
+                && let Some(part) = self.part_at(routine, whole, *seen)
                 && first <= seen.place
                 && told.len() < MOST_VALUES
                 && !is_listed(told.as_slice(), part)

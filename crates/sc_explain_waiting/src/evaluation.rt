@@ -330,8 +330,12 @@ impl<'r> Evaluation<'r> {
 
     /// The attribute of this number of an object, with what it got on the way.
     fn attribute(&self, object: Reference, number: usize) -> Option<Value> {
-        for write in self.writes.iter().rev() {
-            if write.object == object && write.attribute == number {
+        for place in (0..self.writes.len()).rev() {
+            if let Some(write) = self.writes.get(place)
+                && write.object.handler == object.handler
+                && write.object.number == object.number
+                && write.attribute == number
+            {
                 return Some(write.value);
             }
         }

@@ -32,8 +32,10 @@ impl<'r> RunSource<'r> {
     /// The number of the class in whose text a part stands.
     pub fn class_around(&self, part: Span) -> Option<usize> {
         let mut found = None;
-        for (number, class) in self.program.classes().iter().enumerate() {
-            if class.text.span.start <= part.start {
+        for number in 0..self.program.classes().len() {
+            if let Some(class) = self.class_text(number)
+                && class.span.start <= part.start
+            {
                 found = Some(number);
             }
         }
