@@ -17,7 +17,7 @@ use sc_audit::RecordLine;
 use sc_auditing::{AuditFault, audit};
 use sc_code::Program;
 use sc_driver::{Ended, RunReport, run_program};
-use sc_explain_failure::{Limit, Played, run_note};
+use sc_explain_run::{Limit, Played, run_note};
 use sc_frontend::load_text;
 use sc_lockpass::{HandlerNumber, Version};
 use sc_model::Status;

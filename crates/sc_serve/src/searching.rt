@@ -13,7 +13,7 @@ use crate::verdict::{outcome_lines, verdict_lines};
 use sc_arguments::{Format, SearchOptions, Sought};
 use sc_audit::RecordLine;
 use sc_code::Program;
-use sc_explain_failure::{Limit, Played, order_note};
+use sc_explain_run::{Limit, Played, order_note};
 use sc_frontend::load_text;
 use sc_lockpass::Version;
 use sc_search::{Aim, Finding, Verdict, Watch, search};

@@ -4,7 +4,7 @@ use crate::progress::Tell;
 use sc_arguments::Trace;
 use sc_audit::RecordLine;
 use sc_code::Program;
-use sc_explain_turns::{Told, Tracer};
+use sc_explain_run::{Told, Tracer};
 use sc_lockpass::Version;
 use sc_source::source::Source;
 use std::alloc::{AllocError, Global};

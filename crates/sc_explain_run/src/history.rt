@@ -1,10 +1,11 @@
 //! What the turns of a run tell of one handler.
 
+use sc_code::ClassNumber;
 use sc_explain_waiting::{Asked, asked_by};
 use sc_handler::Log;
 use sc_lockpass::HandlerNumber;
 use sc_model::Cause;
-use sc_region::{Errand, Job, Value, Want};
+use sc_region::{Errand, Job, Request, Value, Want};
 
 /// A turn of a handler: what it had to do, and what that came to.
 #[derive(Clone, Copy)]
@@ -39,14 +40,24 @@ pub struct Served {
 /// What a turn came to.
 #[derive(Clone, Copy)]
 pub enum Ended {
-    /// It asked this handler for something.
-    Asks(HandlerNumber),
-    /// A handler was to be created.
-    Creates,
-    /// Handlers were to be reserved.
-    Reserves,
+    /// It asked this handler for something, and waits for that or not.
+    Asks {
+        supplier: HandlerNumber,
+        asked: Asked,
+        is_waited: bool,
+    },
+    /// A handler was to be created, for an object of this class.
+    Creates(ClassNumber),
+    /// Handlers were to be reserved, or none since all were held already.
+    Reserves {
+        is_any: bool,
+    },
+    /// Its precondition was false, for which it waits.
+    Waits,
     /// The request ended, or was refused.
-    Done { is_refused: bool },
+    Done {
+        is_refused: bool,
+    },
     Fails(Cause),
     /// Nothing of these.
     GoesOn,
@@ -89,15 +100,44 @@ fn begun_by(job: &Job, place: usize) -> Begun {
 
 fn ended_by(want: &Want) -> Ended {
     match want {
-        Want::Post(request) => Ended::Asks(request.target.handler),
-        Want::Ask { request, .. } => Ended::Asks(request.target.handler),
-        Want::Create { .. } => Ended::Creates,
-        Want::Reserve(handlers) if !handlers.is_empty() => Ended::Reserves,
+        Want::Post(request) => asks_by(request, false),
+        Want::Ask { request, .. } => asks_by(request, true),
+        Want::Create { class, .. } => Ended::Creates(*class),
+        Want::Reserve(handlers) => Ended::Reserves {
+            is_any: !handlers.is_empty(),
+        },
+        Want::Wait(_) => Ended::Waits,
         Want::Done { refused, .. } => Ended::Done {
             is_refused: *refused,
         },
         Want::Fail(cause) => Ended::Fails(*cause),
         _ => Ended::GoesOn,
+    }
+}
+
+fn asks_by(request: &Request, is_waited: bool) -> Ended {
+    Ended::Asks {
+        supplier: request.target.handler,
+        asked: asked_by(request),
+        is_waited,
+    }
+}
+
+/// The handler at a number, from 0, of those that had been newly reserved for the turn at a place.
+pub fn granted_at(log: &Log, place: usize, number: usize) -> Option<HandlerNumber> {
+    let settlement = log.get(place)?;
+    match &settlement.job {
+        Job::Granted(handlers) => handlers.as_slice().get(number).copied(),
+        _ => None,
+    }
+}
+
+/// The handler at a number, from 0, of those that were to be reserved by the turn at a place.
+pub fn wanted_at(log: &Log, place: usize, number: usize) -> Option<HandlerNumber> {
+    let settlement = log.get(place)?;
+    match &settlement.want {
+        Want::Reserve(handlers) => handlers.as_slice().get(number).copied(),
+        _ => None,
     }
 }
 

@@ -28,9 +28,15 @@ pub fn push_limit(lines: &mut Lines, played: &Played<'_>, ended: &World<'_>) {
     }
     let made = turns_in(played.lines);
     match played.limit {
-        Limit::Turns(limit) => push_used_up(lines, limit, made),
+        Limit::Turns(limit) => {
+            push_turns(lines, "stopped limit: ", made);
+            push_used_up(lines, limit, made)
+        }
         Limit::Output => {}
-        Limit::Record => push_record_end(lines, made),
+        Limit::Record => {
+            push_turns(lines, "stopped limit: the record ends behind ", made);
+            lines.push("\n")
+        }
     }
 }
 
@@ -44,17 +50,8 @@ fn is_any_busy(world: &World<'_>) -> bool {
     false
 }
 
-/// Adds that a record ended behind so many turns.
-fn push_record_end(lines: &mut Lines, made: u64) {
-    lines.push("stopped limit: the record ends behind ");
-    push_turns(lines, made);
-    lines.push("\n")
-}
-
-/// Adds that a run ended behind so many turns, and what helps.
+/// Adds that a run ended behind so many turns as it was to make, and what helps.
 fn push_used_up(lines: &mut Lines, limit: u32, made: u64) {
-    lines.push("stopped limit: ");
-    push_turns(lines, made);
     if made < u64::from(limit) {
         lines.push(" were made, and the record of the run has as many lines as it may have\n")
     } else if limit >= MOST_TURNS {
@@ -66,7 +63,9 @@ fn push_used_up(lines: &mut Lines, limit: u32, made: u64) {
     }
 }
 
-fn push_turns(lines: &mut Lines, made: u64) {
+/// Adds so many turns behind these words.
+fn push_turns(lines: &mut Lines, before: &str, made: u64) {
+    lines.push(before);
     lines.push_number(made);
     lines.push(if made == 1 { " turn" } else { " turns" })
 }
@@ -74,8 +73,10 @@ fn push_turns(lines: &mut Lines, made: u64) {
 /// How many turns these lines have.
 fn turns_in(lines: &[RecordLine]) -> u64 {
     let mut turns = 0_u64;
-    for line in lines {
-        turns = turns.saturating_add(u64::from(line.turns));
+    for place in 0..lines.len() {
+        if let Some(line) = lines.get(place) {
+            turns = turns.saturating_add(u64::from(line.turns))
+        }
     }
     turns
 }

@@ -1,9 +1,9 @@
 //! Which handler a failed one needed.
 
-use crate::history::{Ended, created_last, turn_at};
+use crate::history::{Ended, created_last, turn_at, wanted_at};
+use sc_explain_waiting::MOST_NEEDED;
 use sc_lockpass::HandlerNumber;
 use sc_model::Status;
-use sc_region::Want;
 use sc_world::World;
 
 /// The handler that this one asked last, or a failed one of those that it was to reserve last.
@@ -12,9 +12,9 @@ pub fn supplier_of(world: &World<'_>, handler: HandlerNumber) -> Option<HandlerN
     for place in (0..log.len()).rev() {
         if log.handler_at(place) == Some(handler) {
             match turn_at(log, place)?.ended {
-                Ended::Asks(supplier) => return Some(supplier),
-                Ended::Creates => return created_last(log, handler),
-                Ended::Reserves => return failed_at(world, place),
+                Ended::Asks { supplier, .. } => return Some(supplier),
+                Ended::Creates(_) => return created_last(log, handler),
+                Ended::Reserves { is_any: true } => return failed_at(world, place),
                 _ => {}
             }
         }
@@ -24,13 +24,10 @@ pub fn supplier_of(world: &World<'_>, handler: HandlerNumber) -> Option<HandlerN
 
 /// The first failed handler of those that are to be reserved by the turn at a place.
 fn failed_at(world: &World<'_>, place: usize) -> Option<HandlerNumber> {
-    let settlement = world.log().get(place)?;
-    let Want::Reserve(handlers) = &settlement.want else {
-        return None;
-    };
-    for handler in handlers.as_slice() {
-        if let Some(Status::Failed(_)) = world.status(*handler) {
-            return Some(*handler);
+    for number in 0..MOST_NEEDED {
+        let handler = wanted_at(world.log(), place, number)?;
+        if let Some(Status::Failed(_)) = world.status(handler) {
+            return Some(handler);
         }
     }
     None

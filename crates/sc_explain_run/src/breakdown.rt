@@ -84,7 +84,7 @@ fn push_point(
     if let Some(text) = origin.text_of(point.routine)
         && let Some(site) = site_of(text, point.place, cause, is_behind)
     {
-        let is_entry = cause == Cause::SupplierFailed && point.place == 0;
+        let is_entry = matches!(cause, Cause::SupplierFailed) && point.place == 0;
         let span = if is_entry { text.name } else { site.span };
         if begin_place(origin, lines, span) {
             push_routine(origin, lines, text);
@@ -120,10 +120,7 @@ fn push_invariant(origin: &RunSource<'_>, lines: &mut Lines, broken: &BrokenInva
         && let Some(around) = origin.class_around(clause.span)
         && begin_place(origin, lines, clause.span)
     {
-        match clause.tag {
-            None => lines.push("a clause"),
-            Some(tag) => push_clause(lines, origin.written(tag)),
-        }
+        push_clause(origin, lines, clause.tag);
         lines.push_all(&[" of the invariant of ", class_name(origin, class)]);
         push_false(origin, lines, around, class == around);
         end_place(origin, lines, clause.span)

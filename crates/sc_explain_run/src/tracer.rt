@@ -1,6 +1,6 @@
 //! A run that is told as it goes on.
 
-use crate::moment::{Before, Moment};
+use crate::made_turn::{Earlier, MadeTurn};
 use crate::waiting::Waiting;
 use sc_audit::RecordLine;
 use sc_code::Program;
@@ -44,16 +44,17 @@ impl<'r> Tracer<'r> {
         version: Version,
         told: Told,
     ) -> Result<Tracer<'r>, AllocError> {
-        let origin = RunSource {
-            alloc,
-            source,
-            program,
-        };
+        let waiting = Waiting::none(alloc)?;
+        let world = World::open(alloc, program, version)?;
         Ok(Tracer {
-            origin,
-            world: World::open(alloc, program, version)?,
+            origin: RunSource {
+                alloc,
+                source,
+                program,
+            },
+            world,
             told,
-            waiting: Waiting::none(alloc)?,
+            waiting,
             turns: 0,
         })
     }
@@ -65,21 +66,21 @@ impl<'r> Tracer<'r> {
     pub fn play(&mut self, line: RecordLine) -> Result<Vec<u8>, AllocError> {
         let mut lines = Lines::new(self.origin.alloc);
         for _turn in 0..line.turns {
-            let before = Before::of(&self.origin, &self.world, line.handler);
-            if self.world.turn(line.handler)? == Turned::Nothing {
+            let earlier = Earlier::of(&self.origin, &self.world, line.handler);
+            if let Turned::Nothing = self.world.turn(line.handler)? {
                 break;
             }
             self.turns = self.turns.saturating_add(1);
-            let moment = Moment {
+            let made = MadeTurn {
                 origin: &self.origin,
                 world: &self.world,
                 handler: line.handler,
-                turn: self.turns,
-                before,
+                number: self.turns,
+                earlier,
             };
-            moment.tell_printed(&mut lines);
+            made.tell_printed(&mut lines);
             if let Told::All = self.told {
-                moment.tell_settled(&mut lines, &mut self.waiting);
+                made.tell_settled(&mut lines, &mut self.waiting);
             }
         }
         lines.finish()

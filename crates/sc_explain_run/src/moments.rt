@@ -6,6 +6,7 @@ use crate::history::{
 };
 use crate::replay::Replay;
 use crate::supplier::supplier_of;
+use sc_audit::RecordLine;
 use sc_explain_text::Lines;
 use sc_explain_waiting::{
     RunSource, asked_by, push_attributes, push_callers, push_false_clause, push_name,
@@ -28,7 +29,7 @@ const MOST_CLIENTS: usize = 16;
 const MOST_DROPPED: usize = 8;
 
 /// What a turn comes to.
-#[derive(Clone, Copy, PartialEq, Eq)]
+#[derive(Clone, Copy)]
 pub enum Kind {
     /// The handler has failed.
     Failure,
@@ -82,7 +83,7 @@ fn add_failure(
         && let Some(place) = last_before(log, handler, log.len())
     {
         add(alloc, lines, moments, handler, Kind::Failure, place);
-        if cause == Cause::Precondition {
+        if let Cause::Precondition = cause {
             add_needed_refusal(alloc, lines, moments, ended, handler, place)
         }
     }
@@ -170,8 +171,10 @@ fn tell_of<'o>(
     played: &Played<'_>,
     moments: &mut [Moment],
 ) {
-    match Replay::open(origin.alloc, played) {
-        Ok(mut replay) => tell_each(origin, lines, ended, &mut replay, moments),
+    match World::open(origin.alloc, played.program, played.version) {
+        Ok(mut world) => {
+            tell_each(origin, lines, ended, &mut world, played.lines, moments);
+        }
         Err(_) => lines.lack(),
     }
 }
@@ -181,20 +184,22 @@ fn tell_each<'o>(
     origin: &'o RunSource<'o>,
     lines: &mut Lines,
     ended: &'o World<'o>,
-    replay: &mut Replay<'_>,
+    world: &mut World<'_>,
+    record: &[RecordLine],
     moments: &mut [Moment],
 ) {
+    let mut replay = Replay::start();
     for _moment in 0..moments.len() {
         if let Some(index) = earliest(moments)
             && let Some(moment) = moments.get_mut(index)
         {
             moment.is_told = true;
-            if replay.advance(moment.place).is_err() {
+            if replay.advance(world, record, moment.place).is_err() {
                 return lines.lack();
             }
             let before = Before {
                 origin: &*origin,
-                world: &replay.world,
+                world: &*world,
                 ended: &*ended,
             };
             before.tell(moment)
@@ -206,8 +211,11 @@ fn tell_each<'o>(
 fn earliest(moments: &[Moment]) -> Option<usize> {
     let mut found: Option<usize> = None;
     let mut least = usize::MAX;
-    for (index, moment) in moments.iter().enumerate() {
-        if !moment.is_told && (found.is_none() || moment.place < least) {
+    for index in 0..moments.len() {
+        if let Some(moment) = moments.get(index)
+            && !moment.is_told
+            && (found.is_none() || moment.place < least)
+        {
             found = Some(index);
             least = moment.place;
         }

@@ -4,6 +4,7 @@ use sc_code::{Assertion, RoutineText, SiteKind, TextSite};
 use sc_explain_text::{Lines, binary_spelling};
 use sc_explain_waiting::RunSource;
 use sc_model::Cause;
+use sc_text::Span;
 use sc_tree::UnaryOperator;
 
 /// Adds the name of a routine and that of the class in which it stands.
@@ -23,20 +24,24 @@ pub fn push_site(
     match site.kind {
         SiteKind::Clause(assertion, tag) => {
             let is_own = matches!(assertion, Assertion::Check) || text.contract_class == text.class;
-            match tag {
-                None => lines.push("a clause"),
-                Some(tag) => push_clause(lines, origin.written(tag.span())),
-            }
+            let tag = match tag {
+                None => None,
+                Some(tag) => Some(tag.span()),
+            };
+            push_clause(origin, lines, tag);
             lines.push(of_assertion(assertion));
             push_false(origin, lines, text.contract_class, is_own)
         }
         SiteKind::Name(name) | SiteKind::Call(name) => {
             push_use(lines, origin.written(name.span()), cause)
         }
-        SiteKind::Unary(operator) => push_operator(lines, unary_spelling(operator)),
-        SiteKind::Binary(operator) => push_operator(lines, binary_spelling(operator)),
-        SiteKind::End => lines.push(of_end(cause)),
-        kind => lines.push(of_kind(kind)),
+        SiteKind::Unary(operator) => {
+            push_quoted(lines, "the operator `", unary_spelling(operator))
+        }
+        SiteKind::Binary(operator) => {
+            push_quoted(lines, "the operator `", binary_spelling(operator))
+        }
+        kind => lines.push(of_kind(kind, cause)),
     }
 }
 
@@ -45,13 +50,19 @@ pub fn class_name<'r>(origin: &RunSource<'r>, class: usize) -> &'r str {
     origin.class_name(class).unwrap_or("..")
 }
 
-fn push_operator(lines: &mut Lines, spelling: &str) {
-    lines.push_all(&["the operator `", spelling, "`"])
+/// Adds a name or a sign of the text behind these words.
+fn push_quoted(lines: &mut Lines, before: &str, quoted: &str) {
+    lines.push(before);
+    lines.push(quoted);
+    lines.push("`")
 }
 
-/// Adds the clause of this tag.
-pub fn push_clause(lines: &mut Lines, tag: &str) {
-    lines.push_all(&["the clause `", tag, "`"])
+/// Adds the clause of this tag, or of none.
+pub fn push_clause(origin: &RunSource<'_>, lines: &mut Lines, tag: Option<Span>) {
+    match tag {
+        None => lines.push("a clause"),
+        Some(tag) => push_quoted(lines, "the clause `", origin.written(tag)),
+    }
 }
 
 /// Adds that a clause is false, and from which class it is, unless that is told anyway.
@@ -64,11 +75,13 @@ pub fn push_false(origin: &RunSource<'_>, lines: &mut Lines, class: usize, is_to
 
 /// Adds what is done with a name: it is read, or called.
 fn push_use(lines: &mut Lines, name: &str, cause: Cause) {
-    match cause {
-        Cause::UnsetEntity => lines.push_all(&["`", name, "` is read"]),
-        Cause::VoidTarget => lines.push_all(&["the call of `", name, "`, whose target is Void"]),
-        _ => lines.push_all(&["the call of `", name, "`"]),
-    }
+    let (before, behind) = match cause {
+        Cause::UnsetEntity => ("`", " is read"),
+        Cause::VoidTarget => ("the call of `", ", whose target is Void"),
+        _ => ("the call of `", ""),
+    };
+    push_quoted(lines, before, name);
+    lines.push(behind)
 }
 
 fn of_assertion(assertion: Assertion) -> &'static str {
@@ -79,15 +92,10 @@ fn of_assertion(assertion: Assertion) -> &'static str {
     }
 }
 
-fn of_end(cause: Cause) -> &'static str {
-    match cause {
-        Cause::UnsetEntity => "Result is Void at the end",
-        _ => "at the end",
-    }
-}
-
-fn of_kind(kind: SiteKind) -> &'static str {
+fn of_kind(kind: SiteKind, cause: Cause) -> &'static str {
     match kind {
+        SiteKind::End if matches!(cause, Cause::UnsetEntity) => "Result is Void at the end",
+        SiteKind::End => "at the end",
         SiteKind::Result => "Result is read",
         SiteKind::ObjectTest => "the object test",
         SiteKind::Old | SiteKind::Keep => "the value of before",

@@ -39,11 +39,20 @@ pub fn run_note(
     played: Played<'_>,
     statuses: &[Status],
 ) -> Result<Vec<u8>, AllocError> {
-    let are_free = statuses.iter().all(|status| matches!(status, Status::Free));
-    if are_free && !played.may_refuse {
+    if are_free(statuses) && !played.may_refuse {
         return Ok(Vec::new(alloc));
     }
     order_note(alloc, played)
+}
+
+/// Whether no handler waits, is busy or has failed.
+fn are_free(statuses: &[Status]) -> bool {
+    for number in 0..statuses.len() {
+        if !matches!(statuses.get(number), Some(Status::Free)) {
+            return false;
+        }
+    }
+    true
 }
 
 /// The same of a run in which a handler isn't free, or may have refused a request.
@@ -64,12 +73,15 @@ fn push_note(alloc: Global, lines: &mut Lines, played: &Played<'_>) {
         source: played.source,
         program: played.program,
     };
-    match Replay::open(alloc, played) {
-        Ok(mut replay) => {
-            if replay.advance(usize::MAX).is_err() {
+    match World::open(alloc, played.program, played.version) {
+        Ok(mut world) => {
+            if Replay::start()
+                .advance(&mut world, played.lines, usize::MAX)
+                .is_err()
+            {
                 lines.lack()
             }
-            push_note_of(&origin, lines, played, &replay.world)
+            push_note_of(&origin, lines, played, &world);
         }
         Err(_) => lines.lack(),
     }
@@ -99,17 +111,22 @@ fn push_failures(origin: &RunSource<'_>, lines: &mut Lines, ended: &World<'_>, m
 
 /// Adds which requests were refused for which nobody waited.
 fn push_refusals(lines: &mut Lines, moments: &[Moment]) {
-    for moment in moments {
-        if moment.kind == Kind::Refusal {
-            lines.push_lines(&moment.behind);
+    for index in 0..moments.len() {
+        if let Some(moment) = moments.get(index)
+            && matches!(moment.kind, Kind::Refusal)
+        {
+            lines.push_lines(&moment.behind)
         }
     }
 }
 
 /// What there was in front of the failure of a handler.
 fn failure_of(moments: &[Moment], handler: HandlerNumber) -> Option<&Moment> {
-    for moment in moments {
-        if moment.kind == Kind::Failure && moment.handler == handler {
+    for index in 0..moments.len() {
+        if let Some(moment) = moments.get(index)
+            && matches!(moment.kind, Kind::Failure)
+            && moment.handler == handler
+        {
             return Some(moment);
         }
     }
@@ -124,10 +141,13 @@ fn push_cause(lines: &mut Lines, handler: HandlerNumber, cause: Cause) {
     lines.push("handler ");
     lines.push_number(u64::from(handler));
     lines.push(" has failed by ");
-    for (number, line) in page.lines().enumerate() {
+    let mut number = 0_usize;
+    for line in page.lines() {
         if number > 2 && line.is_empty() {
             return;
         }
-        lines.push_all(&[line, if number == 0 { ":" } else { "\n" }]);
+        lines.push(line);
+        lines.push(if number == 0 { ":" } else { "\n" });
+        number = number.saturating_add(1)
     }
 }

@@ -1,0 +1,324 @@
+//! What one turn did, in words.
+
+use crate::history::{Ended, Turn, granted_at, turn_at};
+use crate::printed::push_printed;
+use crate::waiting::Waiting;
+use sc_explain::find;
+use sc_explain_text::Lines;
+use sc_explain_waiting::{
+    Asked, MOST_NEEDED, RunSource, keeper_of, needed_at, push_place, stand_of,
+};
+use sc_lockpass::HandlerNumber;
+use sc_model::{Cause, Status};
+use sc_region::Errand;
+use sc_text::Span;
+use sc_world::{World, code_of};
+
+/// What there was in front of a turn of a handler.
+#[derive(Clone, Copy)]
+pub struct Earlier {
+    /// How many bytes it had printed.
+    printed: usize,
+    /// How many handlers there were.
+    handlers: usize,
+    has_failed: bool,
+    /// Where it stood.
+    stand: Option<Span>,
+    /// Where the name of its routine stands.
+    routine: Option<Span>,
+}
+
+impl Earlier {
+    pub fn of(origin: &RunSource<'_>, world: &World<'_>, handler: HandlerNumber) -> Earlier {
+        Earlier {
+            printed: match world.region(handler) {
+                Some(region) => region.output().len(),
+                None => 0,
+            },
+            handlers: world.handler_count(),
+            has_failed: failure_in(world, handler).is_some(),
+            stand: stand_in(origin, world, handler),
+            routine: routine_in(origin, world, handler),
+        }
+    }
+}
+
+/// A turn of a handler that was just made.
+#[derive(Clone, Copy)]
+pub struct MadeTurn<'o> {
+    pub origin: &'o RunSource<'o>,
+    pub world: &'o World<'o>,
+    pub handler: HandlerNumber,
+    /// Which turn of the run it was, from 1.
+    pub number: u64,
+    pub earlier: Earlier,
+}
+
+impl<'o> MadeTurn<'o> {
+    /// Adds what the turn has printed.
+    pub fn tell_printed(&self, lines: &mut Lines) {
+        if let Some(region) = self.world.region(self.handler)
+            && let Some(printed) = region.output().get(self.earlier.printed..)
+            && !printed.is_empty()
+        {
+            self.begin(lines, self.handler, " prints ");
+            push_printed(lines, printed);
+            self.end(lines, self.behind())
+        }
+    }
+
+    /// Adds what the turn asked of other handlers, and what came of that.
+    pub fn tell_settled(&self, lines: &mut Lines, waiting: &mut Waiting) {
+        let log = self.world.log();
+        let place = log.len().saturating_sub(1);
+        if let Some(turn) = turn_at(log, place) {
+            if granted_at(log, place, 0).is_some() {
+                self.tell_reserved(lines, place);
+                waiting.set(self.handler, false);
+                self.tell_kept(lines, place, waiting)
+            }
+            self.tell_asked(lines, turn.ended, waiting);
+            self.tell_failed(lines, &turn)
+        }
+    }
+
+    /// Adds what its reserve step had got for it.
+    fn tell_reserved(&self, lines: &mut Lines, place: usize) {
+        let mut before = " reserves ";
+        for number in 0..MOST_NEEDED {
+            if let Some(one) = granted_at(self.world.log(), place, number) {
+                if number == 0 {
+                    self.begin(lines, self.handler, before)
+                } else {
+                    lines.push(before)
+                }
+                before = " and ";
+                self.push_handler(lines, one, None)
+            }
+        }
+        self.end(lines, self.earlier.stand)
+    }
+
+    /// Adds who has to wait now for what its reserve step had got for it.
+    fn tell_kept(&self, lines: &mut Lines, place: usize, waiting: &mut Waiting) {
+        for other in 0..self.world.handler_count().min(HandlerNumber::MAX as usize) {
+            let other = other as HandlerNumber;
+            if other != self.handler && !waiting.is_told(other) && self.needs_some(other, place) {
+                self.tell_wait(lines, other, waiting)
+            }
+        }
+    }
+
+    /// Whether a handler is to reserve one of those that this one's reserve step had got.
+    fn needs_some(&self, handler: HandlerNumber, place: usize) -> bool {
+        for number in 0..MOST_NEEDED {
+            match needed_at(self.world.core(), handler, number) {
+                None => return false,
+                Some(one) if self.is_granted(place, one) => return true,
+                Some(_) => {}
+            }
+        }
+        false
+    }
+
+    fn is_granted(&self, place: usize, handler: HandlerNumber) -> bool {
+        for number in 0..MOST_NEEDED {
+            match granted_at(self.world.log(), place, number) {
+                None => return false,
+                Some(one) if one == handler => return true,
+                Some(_) => {}
+            }
+        }
+        false
+    }
+
+    fn tell_asked(&self, lines: &mut Lines, ended: Ended, waiting: &mut Waiting) {
+        match ended {
+            Ended::Asks {
+                supplier,
+                asked,
+                is_waited,
+            } => self.tell_request(lines, supplier, &asked, is_waited),
+            Ended::Creates(class) => self.tell_creation(lines, class as usize),
+            Ended::Reserves { .. } => self.tell_wait(lines, self.handler, waiting),
+            Ended::Waits => {
+                waiting.set(self.handler, true);
+                self.begin(lines, self.handler, " waits until its precondition holds");
+                self.end(lines, stand_in(self.origin, self.world, self.handler))
+            }
+            Ended::Done { is_refused: true } => {
+                self.begin(
+                    lines,
+                    self.handler,
+                    " refuses, as its precondition doesn't hold",
+                );
+                self.end(lines, self.earlier.routine)
+            }
+            _ => {}
+        }
+    }
+
+    /// Adds a request to another handler.
+    fn tell_request(
+        &self,
+        lines: &mut Lines,
+        supplier: HandlerNumber,
+        asked: &Asked,
+        is_waited: bool,
+    ) {
+        self.begin(
+            lines,
+            self.handler,
+            if is_waited { " asks for " } else { " posts " },
+        );
+        self.push_feature(lines, asked);
+        lines.push(if is_waited { " of " } else { " to " });
+        self.push_handler(lines, supplier, Some(asked.class));
+        self.end(lines, self.asked_at())
+    }
+
+    /// Adds that a handler was created, if it was.
+    fn tell_creation(&self, lines: &mut Lines, class: usize) {
+        let made = self.earlier.handlers;
+        if made < self.world.handler_count() && made <= HandlerNumber::MAX as usize {
+            self.begin(lines, self.handler, " creates ");
+            self.push_handler(lines, made as HandlerNumber, Some(class));
+            self.end(lines, self.asked_at())
+        }
+    }
+
+    /// Adds which handlers one waits for that it is to reserve, if it can't have all of them now.
+    fn tell_wait(&self, lines: &mut Lines, handler: HandlerNumber, waiting: &mut Waiting) {
+        let mut is_first = true;
+        for number in 0..MOST_NEEDED {
+            if let Some(one) = needed_at(self.world.core(), handler, number)
+                && keeper_of(self.world.core(), one).is_some()
+            {
+                if is_first {
+                    self.begin(lines, handler, " waits for ")
+                } else {
+                    lines.push(" and ")
+                }
+                is_first = false;
+                self.push_handler(lines, one, None)
+            }
+        }
+        if !is_first {
+            waiting.set(handler, true);
+            self.end(lines, stand_in(self.origin, self.world, handler))
+        }
+    }
+
+    /// Adds by what it has failed, if it has.
+    fn tell_failed(&self, lines: &mut Lines, turn: &Turn) {
+        if let Some(cause) = failure_in(self.world, self.handler)
+            && !self.earlier.has_failed
+        {
+            self.begin(lines, self.handler, " fails by ");
+            lines.push(heading_of(code_of(cause)));
+            let is_behind = turn.is_behind() || matches!(cause, Cause::StackFull);
+            self.end(lines, self.failed_at(is_behind))
+        }
+    }
+
+    /// Begins a line: the turn, and of whom is told.
+    fn begin(&self, lines: &mut Lines, handler: HandlerNumber, words: &str) {
+        lines.push_number(self.number);
+        lines.push(" ");
+        self.push_handler(lines, handler, None);
+        lines.push(words)
+    }
+
+    /// Ends a line, with the place of the text if there is one.
+    fn end(&self, lines: &mut Lines, span: Option<Span>) {
+        if let Some(span) = span {
+            let _is_there = push_place(self.origin, lines, " at ", span);
+        }
+        lines.push("\n")
+    }
+
+    /// Adds the class of the root object of a handler and the handler's number. One that has no object yet is named by the class
+    /// of what is asked of it.
+    fn push_handler(&self, lines: &mut Lines, handler: HandlerNumber, asked: Option<usize>) {
+        match self.class_of(handler, asked) {
+            Some(name) => lines.push_all(&[name, " "]),
+            None => lines.push("handler "),
+        }
+        lines.push_number(u64::from(handler))
+    }
+
+    fn class_of(&self, handler: HandlerNumber, asked: Option<usize>) -> Option<&'o str> {
+        let root = match self.world.region(handler) {
+            Some(region) => region.store().class_of(1),
+            None => None,
+        };
+        let class = match root {
+            Some(class) => class as usize,
+            None => asked?,
+        };
+        self.origin.class_name(class)
+    }
+
+    /// Adds the feature that is asked for, or that it is a creation.
+    fn push_feature(&self, lines: &mut Lines, asked: &Asked) {
+        match asked.errand {
+            Errand::Makes(_) => lines.push("its creation"),
+            Errand::Calls(name) => match self.origin.program.pool().names.get(name as usize) {
+                Some(name) => lines.push_all(&["`", name.as_str(), "`"]),
+                None => lines.push("a feature"),
+            },
+        }
+    }
+
+    /// Where it has asked another handler for something: it waits there, or has gone on.
+    fn asked_at(&self) -> Option<Span> {
+        if self.world.core().awaits(self.handler).is_some() {
+            stand_in(self.origin, self.world, self.handler)
+        } else {
+            self.behind()
+        }
+    }
+
+    /// The part of the text that the operation was made of which its routine has done last.
+    fn behind(&self) -> Option<Span> {
+        let top = self.world.region(self.handler)?.store().top()?;
+        self.origin.span_at(top.routine, top.place.checked_sub(1)?)
+    }
+
+    /// Where its routine was as it failed: at an operation, or behind one; or at its beginning.
+    fn failed_at(&self, is_behind: bool) -> Option<Span> {
+        let point = self.world.breakdown(self.handler)?.point?;
+        if is_behind && point.place == 0 {
+            return Some(self.origin.text_of(point.routine)?.name);
+        }
+        let place = point.place.saturating_sub(is_behind as usize);
+        self.origin.span_at(point.routine, place)
+    }
+}
+
+/// By what a handler has failed, if it has.
+fn failure_in(world: &World<'_>, handler: HandlerNumber) -> Option<Cause> {
+    match world.status(handler) {
+        Some(Status::Failed(cause)) => Some(cause),
+        _ => None,
+    }
+}
+
+/// Where a handler stands, if a routine of it runs.
+fn stand_in(origin: &RunSource<'_>, world: &World<'_>, handler: HandlerNumber) -> Option<Span> {
+    Some(stand_of(origin, world, handler)?.span)
+}
+
+/// Where the name of the routine stands that a handler has come to.
+fn routine_in(origin: &RunSource<'_>, world: &World<'_>, handler: HandlerNumber) -> Option<Span> {
+    let top = world.region(handler)?.store().top()?;
+    Some(origin.text_of(top.routine)?.name)
+}
+
+/// The first line of the page of a code, or the code where it has no page.
+fn heading_of(code: &'static str) -> &'static str {
+    match find(code) {
+        Some(page) => page.lines().next().unwrap_or(page),
+        None => code,
+    }
+}
