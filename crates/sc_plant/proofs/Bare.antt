@@ -17,8 +17,8 @@ use Rattle.sc_plant.specs.declared.left.Left.{Left}
 use Rattle.sc_plant.specs.declared.left.LoggedLeft.{LoggedLeft}
 use Rattle.sc_plant.specs.Alone.{AreOwn, IsOnWay, IsOwn}
 use Rattle.sc_plant.specs.Left.{AgreesAt, AreReplayed, IsLeft, IsLeftLogged, IsLeftWith, IsStopped}
-use Rattle.sc_plant.specs.Recorded.{settlements_for}
-use Rattle.sc_plant.specs.Regions.{Agrees, AgreesIn, IsMadeByLog}
+use Rattle.sc_recording.specs.Recorded.{settlements_for}
+use Rattle.sc_recording.specs.Regions.{Agrees, AgreesIn, IsMadeByLog}
 
 -- ---- one region
 
@@ -112,16 +112,3 @@ module _ (p : Image) (a : LoggedLeft) (b : Left) (version : b.version ≡ a.vers
     replays = subst (λ (c : coded.Core). AreReplayed p (log_of c) b.regions.items) (sym core)
         (subst (AreReplayed p (log_of a.core)) (sym regions) (replayed_by p (log_of a.core) a.regions.items is.programs agree));
   }
-
--- ---- on the way there
-
-abbrev pub Bared : List LoggedRegion → List PlainRegion → List LoggedRegion → Type 0
-Bared rest xs all = xs ++ map region_of (reverse rest) ≡ map region_of all
-
-pub bare_more : (all rest more : List LoggedRegion) (r : LoggedRegion) (xs ys : List PlainRegion) (x : PlainRegion) → Bared more xs all →
-    more ≡ rest ++ r ∷ [] → x ≡ region_of r → ys ≡ xs ++ x ∷ [] → Bared rest ys all
-bare_more all rest more r xs ys x before last is one =
-    ap (λ (zs : List PlainRegion). zs ++ map region_of (reverse rest)) (one ∙ ap (λ (z : PlainRegion). xs ++ z ∷ []) is)
-    ∙ append_assoc xs (region_of r ∷ []) (map region_of (reverse rest))
-    ∙ ap (λ (ss : List LoggedRegion). xs ++ map region_of ss) (sym (ap reverse last ∙ reverse-append rest (r ∷ [])))
-    ∙ before

@@ -23,7 +23,7 @@ use Rattle.sc_region.specs.contracts.store.Store as Store
 use Rattle.sc_handler.proofs.logged.Log.TheSendSync as log
 use Rattle.sc_play.specs.contracts.region.Region as Region
 use Rattle.sc_worklog.specs.contracts.logged_region.LoggedRegion as Logged
-use Rattle.sc_plant.specs.declared.of_program.OfProgram.{Ghosts}
+use Rattle.sc_recording.specs.declared.of_program.OfProgram.{Ghosts}
 use Rattle.sc_plant.specs.contracts.slot.Slot as Slot
 use Rattle.std.proofs.marker.PhantomData.TheSendSync as phantom
 

@@ -8,7 +8,7 @@ use Rattle.sc_plant.specs.declared.bounds.Bounds.{Bounds}
 use Rattle.sc_plant.specs.declared.left.Left.{Left}
 use Rattle.sc_plant.specs.Bounded.{ArePast, EndsBehind, IsBoundedRun}
 use Rattle.sc_plant.specs.Left.{IsRun}
-use Rattle.sc_plant.proofs.EndedRuns.{on_true}
+use Rattle.sc_recording.proofs.Endings.{on_true}
 
 -- without a bound on what is printed a run ends behind all turns that it may make
 pub whole_run : (p : Image) (bounds : Bounds) (turns : ℕ) (left : Left) → bounds.output ≡ None → IsBoundedRun p bounds turns left →

@@ -9,9 +9,9 @@ use Rattle.sc_play.specs.Regions.{PlainRegion, new_region}
 use Rattle.sc_worklog.specs.Replaying.{AreMade}
 use Rattle.sc_plant.specs.declared.left.Left.{Left}
 use Rattle.sc_plant.specs.Alone.{IsOnWay}
-use Rattle.sc_plant.specs.Recorded.{settlements_for}
+use Rattle.sc_recording.specs.Recorded.{settlements_for}
 use Rattle.sc_plant.specs.Sharing.{AreFit, AreLogs, Fits, IsOnWayIn}
-use Rattle.sc_plant.proofs.Comparisons.{kept, ours}
+use Rattle.sc_recording.proofs.Comparisons.{kept, ours}
 use Rattle.sc_plant.proofs.OnWay.{get_past, set_each}
 use Rattle.sc_plant.proofs.Openings.{some_image}
 

@@ -20,11 +20,12 @@ use Rattle.sc_world.specs.Worlds.{max_handlers}
 use Rattle.sc_world.proofs.SettledPicks.{settled_out}
 use Rattle.sc_plant.specs.declared.left.Left.{Left}
 use Rattle.sc_plant.specs.Alone.{AreNew, AreOwn, IsOnWay, IsOwn, IsPlayed}
-use Rattle.sc_plant.specs.Due.{Settled, Stays}
-use Rattle.sc_plant.specs.Left.{AreReplayed, IsLeft, IsOver, IsRun, IsStopped}
-use Rattle.sc_plant.specs.Recorded.{settlements_for}
-use Rattle.sc_plant.proofs.Comparisons.{kept, ours, some_is}
-use Rattle.sc_plant.proofs.Dues.{Goes, goes_out, same_below, same_center, same_lines, settled_below, settled_job, settled_lines, settled_plays, stays_plays}
+use Rattle.sc_recording.specs.Due.{Settled, Stays}
+use Rattle.sc_recording.specs.Ending.{IsOver}
+use Rattle.sc_plant.specs.Left.{AreReplayed, IsLeft, IsRun, IsStopped}
+use Rattle.sc_recording.specs.Recorded.{settlements_for}
+use Rattle.sc_recording.proofs.Comparisons.{kept, ours, some_is}
+use Rattle.sc_recording.proofs.Dues.{Goes, goes_out, same_below, same_center, same_lines, settled_below, settled_job, settled_lines, settled_plays, stays_plays}
 use Rattle.sc_plant.proofs.Slots.{new_made, played_made}
 
 -- ---- lists

@@ -18,9 +18,9 @@ use Rattle.sc_worklog.specs.Replaying.{AreMade, Replays}
 use Rattle.sc_worklog.proofs.ReplayedTurns.{entries_are_the_handlers, turns_replay}
 use Rattle.sc_world.specs.Worlds.{max_handlers}
 use Rattle.sc_plant.specs.declared.left.Left.{Left}
-use Rattle.sc_plant.specs.Due.{AreBelow}
+use Rattle.sc_recording.specs.Due.{AreBelow}
 use Rattle.sc_plant.specs.Left.{IsRun, LinesAreARecord}
-use Rattle.sc_plant.specs.Recorded.{line_of, settlements_for}
+use Rattle.sc_recording.specs.Recorded.{line_of, settlements_for}
 
 -- each is of one turn or more
 abbrev AreSome : List Settlement → Type 0

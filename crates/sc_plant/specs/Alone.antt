@@ -12,8 +12,8 @@ use Rattle.sc_play.specs.Regions.{IsRefused, PlainRegion, Plays, new_region, out
 use Rattle.sc_worklog.specs.Replaying.{AreMade}
 use Rattle.sc_world.specs.Worlds.{max_handlers}
 use Rattle.sc_plant.specs.declared.left.Left.{Left}
-use Rattle.sc_plant.specs.Due.{AreBelow, IsSettled, PlaysTo}
-use Rattle.sc_plant.specs.Recorded.{lines_of, settlements_for}
+use Rattle.sc_recording.specs.Due.{AreBelow, IsSettled, PlaysTo}
+use Rattle.sc_recording.specs.Recorded.{lines_of, settlements_for}
 
 -- The region is that of the handler of the number, to which the turns of the handler's settlements lead.
 pub record IsOwn (p : Image) (es : List Settlement) (h : ℕ) (x : PlainRegion) : Type 0 where

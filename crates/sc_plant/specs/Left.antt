@@ -1,5 +1,5 @@
 -- What threads leave.
-use Rattle.std.specs.Prelude.{◌≡◌, ◌<◌, ◌≤◌, ◌⊎◌, ℕ, List, None, Some, length, map, slice_get, sum_by}
+use Rattle.std.specs.Prelude.{◌≡◌, ◌<◌, ◌≤◌, ℕ, List, None, Some, length, map, slice_get}
 use Rattle.std.specs.List.{All}
 use Rattle.sc_lockpass.specs.Versions.{most_handlers}
 use Rattle.sc_lockpass.specs.declared.version.Version.{Version}
@@ -10,20 +10,20 @@ use Rattle.sc_code.specs.declared.program.Image.{Image}
 use Rattle.sc_handler.specs.declared.settlement.Settlement.{Settlement}
 use Rattle.sc_request.specs.declared.center.Core as coded
 use Rattle.sc_request.specs.Cores.{center_of, log_of, state_of}
-use Rattle.sc_request.specs.Logs.{Center, next}
 use Rattle.sc_play.specs.Regions.{PlainRegion, new_region}
 use Rattle.sc_worklog.specs.LoggedRegions.{region_of}
 use Rattle.sc_worklog.specs.Replaying.{AreMade, Replays}
 use Rattle.sc_world.specs.Turning.{MakeTurns}
 use Rattle.sc_world.specs.Worlds.{PlainWorld, max_handlers, opened}
+use Rattle.sc_recording.specs.Due.{AreBelow, PlaysTo}
+use Rattle.sc_recording.specs.Ending.{IsOver}
+use Rattle.sc_recording.specs.Recorded.{lines_of, settlements_for, turns_of}
+use Rattle.sc_recording.specs.Regions.{AgreesIn}
 use Rattle.sc_plant.specs.declared.left.Left.{Left}
 use Rattle.sc_plant.specs.declared.left.LoggedLeft.{LoggedLeft}
 use Rattle.sc_plant.specs.declared.left.RunFault.{RunFault}
 use Rattle.sc_plant.specs.declared.left.RunFault.TheVariants.{OutOfMemory, ThreadRefused, LogsDiffer}
-use Rattle.sc_plant.specs.Due.{AreBelow, PlaysTo}
 use Rattle.sc_plant.specs.OneThread.{EndsIn}
-use Rattle.sc_plant.specs.Recorded.{lines_of, settlements_for, turns_of}
-use Rattle.sc_plant.specs.Regions.{AgreesIn}
 
 -- the world that is left
 abbrev pub world_of : Left → PlainWorld
@@ -51,17 +51,6 @@ IsLeftLogged p left = IsLeftWith p left.version (map region_of left.regions.item
 -- The log of the handler's region is that of its settlements.
 abbrev pub AgreesAt : LoggedLeft → ℕ → Type 0
 AgreesAt left h = AgreesIn left.regions.items (log_of left.core) h
-
-abbrev pub turns_in : List RecordLine → ℕ
-turns_in ls = sum_by (λ (l : RecordLine). l.turns) ls
-
--- No more turns were made than the limit, and the record has 1,000,000 lines at most. No handler is out, and nothing
--- can be picked, or no more may be.
-pub record IsOver (limit : ℕ) (c : Center) (ls : List RecordLine) : Type 0 where
-  pub few : turns_in ls ≤ limit
-  pub lines : length ls ≤ 1000000
-  pub home : (h : ℕ) → c.out h ≡ None
-  pub ends : (next c ≡ None) ⊎ ((turns_in ls ≡ limit) ⊎ (length ls ≡ 1000000))
 
 -- The turns of each handler's settlements, one after the other, lead its new region to the one of its number.
 abbrev pub AreMadeBy : Image → List Settlement → List PlainRegion → Type 0

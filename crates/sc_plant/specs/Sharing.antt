@@ -8,7 +8,7 @@ use Rattle.sc_play.specs.Regions.{PlainRegion, new_region}
 use Rattle.sc_worklog.specs.Replaying.{AreMade}
 use Rattle.sc_plant.specs.declared.left.Left.{Left}
 use Rattle.sc_plant.specs.Alone.{IsOnWay}
-use Rattle.sc_plant.specs.Recorded.{settlements_for}
+use Rattle.sc_recording.specs.Recorded.{settlements_for}
 
 -- A run of the program that the types have has come to this.
 pub record IsOnWayIn (image : Option Image) (left : Left) : Type 0 where

@@ -3,15 +3,13 @@ ghost use Rattle.std.specs.Prelude.{◌≡◌, ◌≤◌, ◌<◌, ℕ, [], All,
 ghost use Rattle.sc_code.specs.declared.program.Image.{Image};
 ghost use Rattle.sc_worklog.specs.LoggedRegions.{region_of};
 ghost use Rattle.sc_plant.specs.Left.{AgreesAt, IsLeftLogged};
-ghost use Rattle.sc_plant.specs.Regions.{IsMadeByLog};
+ghost use Rattle.sc_recording.specs.Regions.{IsMadeByLog};
 
-use crate::compare::first_difference;
 use crate::left::{Left, LoggedLeft};
-use crate::of_program::OfProgram;
-use crate::recorded_core::RecordedCore;
 use crate::slot::Slot;
 use sc_lockpass::{HandlerNumber, Version};
 use sc_play::Region;
+use sc_recording::{OfProgram, RecordedCore, bare_regions, first_difference};
 use sc_worklog::LoggedRegion;
 use std::sync::Mutex;
 
@@ -91,22 +89,9 @@ pub fn without_logs<'p>(left: LoggedLeft<'p>, room: Vec<Region<'p>>) -> Left<'p>
         version,
     } = left;
     Left {
-        regions: bare(regions, room),
+        regions: bare_regions(regions, room),
         core,
         lines,
         version,
     }
-}
-
-/// The regions behind those that are there, in order, without their logs.
-fn bare<'p>(mut logged: Vec<LoggedRegion<'p>>, mut regions: Vec<Region<'p>>) -> Vec<Region<'p>>
-    requires room { vec_len logged ≤ vec_capacity regions }
-    requires empty { regions.items ≡ [] }
-    ensures { result.items ≡ map region_of logged.entry.items }
-{
-    logged.reverse();
-    while let Some(region) = logged.pop() {
-        regions.push_reserved(region.into_region());
-    }
-    regions
 }

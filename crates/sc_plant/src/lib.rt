@@ -12,18 +12,13 @@
 
 mod alone;
 mod bounds;
-mod compare;
-mod due;
-mod ending;
 mod gate;
 mod granularity;
 pub mod laws;
 mod leaving;
 mod left;
-mod of_program;
 mod opening;
 mod outputs;
-mod recorded_core;
 mod running;
 mod scheduler;
 mod sharing;

@@ -1,26 +1,25 @@
 //! Runs of a program on several threads.
-ghost use Rattle.std.specs.Prelude.{◌≡◌, ◌≤◌, ℕ, IfErr, IfOk, IsTrue, None, Some, true};
+ghost use Rattle.std.specs.Prelude.{◌≡◌, ◌≤◌, ℕ, IfErr, IfOk, None, Some, true};
 ghost use Rattle.sc_plant.specs.Bounded.{IsBoundedRun};
 ghost use Rattle.sc_code.specs.declared.program.Image.{Image};
 ghost use Rattle.sc_request.specs.Cores.{center_of};
-ghost use Rattle.sc_plant.specs.Left.{IsOutOfMemory, IsOver, IsRun, SaysWhy, TellsLeft};
+ghost use Rattle.sc_recording.specs.Ending.{IsOver};
+ghost use Rattle.sc_plant.specs.Left.{IsOutOfMemory, IsRun, SaysWhy, TellsLeft};
 ghost use Rattle.sc_plant.specs.Sharing.{IsOnWayIn};
 
 use crate::alone::{Stretch, ended, open_left, play_all, run_alone};
 use crate::bounds::Bounds;
-use crate::ending::{is_over, turns_in, turns_left};
 use crate::gate::Gate;
 use crate::leaving::{difference, left_of, without_logs};
 use crate::left::{Left, RunFault};
-use crate::of_program::OfProgram;
-use crate::recorded_core::RecordedCore;
-use crate::scheduler::{Scheduler, Stop};
+use crate::scheduler::Scheduler;
 use crate::sharing::{Shared, share};
 use crate::slot::Slot;
 use crate::watch::{Unwatched, Watch};
 use crate::workers::start_and_join;
 use sc_audit::RecordLine;
 use sc_code::Program;
+use sc_recording::{OfProgram, RecordedCore, Stop, has_ended, turns_in, turns_left};
 use std::alloc::Global;
 use std::marker::Brand;
 use std::sync::{Mutex, Wait};
@@ -218,25 +217,13 @@ fn rounds<'p, P: OfProgram + Send + Sync, R: Threads + Wait + Sync, G: Gate>(
     ensures home { (h : ℕ) → (center_of result.0.core).out h ≡ None }
 {
     for _ in rt.forever() {
+        let stop = scheduler.stop;
+        if has_ended(&mut scheduler.recorded, stop, limit) {
+            return (scheduler.recorded, stop);
+        }
         let lock = Mutex::new(scheduler);
         start_and_join(rt, &lock, slots, workers, gate);
         scheduler = lock.into_inner();
-        if is_stopped(&scheduler) {
-            let Scheduler { recorded, stop, .. } = scheduler;
-            return (recorded, stop);
-        }
-        if is_over(&mut scheduler.recorded, limit) {
-            let Scheduler { recorded, stop, .. } = scheduler;
-            return (recorded, stop);
-        }
     }
     unreachable!()
-}
-
-/// Whether the workers were stopped, and no handler is out.
-fn is_stopped<P: OfProgram>(scheduler: &Scheduler<P>) -> bool
-    ensures stop { IsTrue result → scheduler.now.stop ≡ None → ⊥ }
-    ensures home { IsTrue result → (h : ℕ) → (center_of scheduler.now.recorded.core).out h ≡ None }
-{
-    scheduler.stop.is_some() && scheduler.recorded.core.out_count() == 0
 }

@@ -1,30 +1,14 @@
 //! Which handler a worker plays next: what lies under the lock of the core.
 ghost use Rattle.std.specs.Prelude.{◌≡◌};
 
-use crate::due::{Undue, is_granting};
 use crate::granularity::Granularity;
-use crate::of_program::OfProgram;
-use crate::recorded_core::RecordedCore;
 use crate::task::{Played, Task};
 use sc_audit::RecordLine;
 use sc_lockpass::HandlerNumber;
+use sc_recording::{MOST_LINES, OfProgram, RecordedCore, Stop, Undue, is_granting};
 
 /// The most turns of a task.
 pub const MOST_TURNS: u32 = 256;
-
-/// The most lines of a record.
-pub const MOST_LINES: usize = 1_000_000;
-
-/// Why the workers end before there is nothing to do.
-#[derive(Clone, Copy)]
-pub enum Stop {
-    /// There was no memory. What was played is settled, and who was refused is put back.
-    OutOfMemory,
-    /// There was no thread.
-    ThreadRefused,
-    /// One worker plays such short tasks faster.
-    FineGrained,
-}
 
 /// What a worker does next.
 #[derive(Clone, Copy)]

@@ -5,12 +5,11 @@ ghost use Rattle.sc_handler.specs.Logged.{settlements_of};
 ghost use Rattle.sc_plant.specs.Sharing.{AreFit, AreLogs, IsOnWayIn};
 
 use crate::left::Left;
-use crate::of_program::OfProgram;
 use crate::opening::MAX_HANDLERS;
-use crate::recorded_core::RecordedCore;
 use crate::slot::Slot;
 use sc_handler::{Log, Settlement};
 use sc_play::Region;
+use sc_recording::{OfProgram, RecordedCore};
 use sc_worklog::LoggedRegion;
 use std::alloc::{AllocError, Global};
 use std::marker::PhantomData;

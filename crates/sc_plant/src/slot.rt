@@ -5,15 +5,15 @@ ghost use Rattle.std.specs.Coded.{codes};
 ghost use Rattle.sc_formula.specs.contracts.formula.Formula as formula;
 ghost use Rattle.sc_formula.specs.contracts.term.Term as term;
 ghost use Rattle.sc_worklog.specs.LoggedRegions.{region_of};
-ghost use Rattle.sc_plant.specs.Regions.{IsMadeByLog};
+ghost use Rattle.sc_recording.specs.Regions.{IsMadeByLog};
 ghost use Rattle.sc_plant.specs.Sharing.{Fits};
 
-use crate::of_program::OfProgram;
 use crate::task::{Played, Task};
 use crate::wants::clear_want;
 use sc_handler::Log;
 use sc_lockpass::HandlerNumber;
 use sc_play::Region;
+use sc_recording::OfProgram;
 use sc_region::{Job, Want};
 use sc_worklog::LoggedRegion;
 use std::marker::PhantomData;

@@ -1,9 +1,9 @@
 //! The workers: threads that play the handlers.
 use crate::gate::Gate;
-use crate::of_program::OfProgram;
-use crate::scheduler::{Next, Scheduler, Stop};
+use crate::scheduler::{Next, Scheduler};
 use crate::slot::Slot;
 use crate::task::{Played, Task};
+use sc_recording::{OfProgram, Stop};
 use std::sync::{Condvar, Mutex, Wait};
 use std::thread;
 use std::thread::Threads;

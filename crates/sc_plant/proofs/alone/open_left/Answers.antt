@@ -4,8 +4,8 @@ use Rattle.sc_handler.specs.declared.settlement.Settlement.{Settlement}
 use Rattle.sc_request.specs.Cores.{log_of}
 use Rattle.sc_request.specs.Logs.{Center}
 use Rattle.sc_world.specs.Worlds.{max_handlers}
-use Rattle.sc_plant.specs.Due.{AreBelow}
-use Rattle.sc_plant.specs.Recorded.{lines_of}
+use Rattle.sc_recording.specs.Due.{AreBelow}
+use Rattle.sc_recording.specs.Recorded.{lines_of}
 use Rattle.sc_plant.proofs.OnWay.{new_own}
 use Rattle.sc_plant.proofs.Openings.{plays_opened}
 use Rattle.sc_plant.proofs.alone.open_left.Goals as goal

@@ -4,8 +4,8 @@ use Rattle.sc_audit.specs.declared.line.RecordLine.{RecordLine}
 use Rattle.sc_request.specs.Logs.{Center}
 use Rattle.sc_world.proofs.Outs.{on-err}
 use Rattle.sc_plant.proofs.OnWay.{advances, goes_on, goes_stopped, put_back_stopped, stays_on, way_stopped}
-use Rattle.sc_plant.proofs.Dues.{is_out, none_next, picked_next}
-use Rattle.sc_plant.proofs.PuttingBack.{put_back_out, put_back_state}
+use Rattle.sc_recording.proofs.Dues.{is_out, none_next, picked_next}
+use Rattle.sc_recording.proofs.PuttingBack.{put_back_out, put_back_state}
 use Rattle.sc_plant.proofs.alone.play_next.Goals as goal
 
 pub play_out-played-requires-clause-out : goal.play_out-played-requires-clause-out

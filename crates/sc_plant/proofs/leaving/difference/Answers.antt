@@ -2,7 +2,7 @@ use Rattle.std.proofs.Common.{◌<◌, ℕ, List, IfNone, IfSome, subst}
 use Rattle.sc_handler.specs.declared.settlement.Settlement.{Settlement}
 use Rattle.sc_request.specs.Cores.{log_of}
 use Rattle.sc_worklog.specs.declared.logged_region.LoggedRegion.{LoggedRegion}
-use Rattle.sc_plant.specs.Regions.{AgreesIn}
+use Rattle.sc_recording.specs.Regions.{AgreesIn}
 use Rattle.sc_plant.proofs.leaving.difference.Goals as goal
 
 pub returns-clause-some : goal.returns-clause-some

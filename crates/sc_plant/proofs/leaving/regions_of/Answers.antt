@@ -2,7 +2,7 @@ use Rattle.std.proofs.Common.{◌≡◌, List, Some, true, false, sym, subst, �
 use Rattle.std.proofs.lemmas.List.Elements.{All-push}
 use Rattle.sc_worklog.specs.declared.logged_region.LoggedRegion.{LoggedRegion}
 use Rattle.sc_worklog.specs.LoggedRegions.{region_of}
-use Rattle.sc_plant.specs.Regions.{IsMadeByLog}
+use Rattle.sc_recording.specs.Regions.{IsMadeByLog}
 use Rattle.sc_plant.proofs.leaving.regions_of.Goals.{then-is_refused, else-is_refused}
 use Rattle.sc_plant.proofs.leaving.regions_of.Goals as goal
 

@@ -1,7 +1,7 @@
 use Rattle.std.proofs.Common.{◌≡◌, ◌+◌, ◌≤◌, vec_len, vec_capacity, false, Some, All}
 use Rattle.sc_worklog.specs.declared.logged_region.LoggedRegion.{LoggedRegion}
 use Rattle.sc_worklog.specs.LoggedRegions.{region_of}
-use Rattle.sc_plant.specs.Regions.{IsMadeByLog}
+use Rattle.sc_recording.specs.Regions.{IsMadeByLog}
 use Rattle.sc_plant.proofs.leaving.regions_of.Given as goal
 
 abbrev pub invariant-loop-slot : goal.invariant-loop-slot

@@ -1,8 +1,7 @@
-use Rattle.sc_plant.proofs.EndedRuns.{on_true}
 use Rattle.sc_plant.proofs.running.rounds.Goals as goal
 
-pub returns-then-is_stopped-clause-home : goal.returns-then-is_stopped-clause-home
-returns-then-is_stopped-clause-home g c = c.is_stopped.ensures.home c.if-is_stopped.true
+pub returns-then-has_ended-clause-over : goal.returns-then-has_ended-clause-over
+returns-then-has_ended-clause-over g c = λ none. c.has_ended.ensures.over c.if-has_ended.true none
 
-pub returns-then-is_over-clause-home : goal.returns-then-is_over-clause-home
-returns-then-is_over-clause-home g c = (on_true c.is_over.result _ c.if-is_over.true c.is_over.ensures.over).home
+pub returns-then-has_ended-clause-home : goal.returns-then-has_ended-clause-home
+returns-then-has_ended-clause-home g c = c.has_ended.ensures.home c.if-has_ended.true

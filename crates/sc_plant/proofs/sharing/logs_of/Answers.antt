@@ -2,7 +2,7 @@ use Rattle.std.proofs.Common.{◌∙◌, List, take, sym, subst, arith}
 use Rattle.sc_handler.specs.declared.settlement.Settlement.{Settlement}
 use Rattle.sc_handler.specs.Logged.{settlements_of}
 use Rattle.sc_plant.specs.Sharing.{AreLogs}
-use Rattle.sc_plant.proofs.Comparisons.{take_every, take_more, take_past}
+use Rattle.sc_recording.proofs.Comparisons.{take_every, take_more, take_past}
 use Rattle.sc_plant.proofs.sharing.logs_of.Goals as goal
 
 pub loop-place-init : goal.loop-place-init

@@ -1,0 +1,5 @@
+mod Bared
+pub mod Comparisons
+pub mod Dues
+pub mod Endings
+pub mod PuttingBack

@@ -1,0 +1,5 @@
+pub mod Comparing
+pub mod Due
+pub mod Ending
+pub mod Recorded
+pub mod Regions

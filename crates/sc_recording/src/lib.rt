@@ -1,0 +1,20 @@
+//! The core of a run with the record of its settlements, as it lies under a lock.
+//!
+//! A [`RecordedCore`] settles what is due and nothing else, and notes each settlement as a line of the record: its type keeps that
+//! the settlements lead from the opening of the program to the core's state, and that the lines are these settlements. Here it is
+//! said, too, whether a run is over, and whether the logs of the regions are those of the settlements.
+#![tactic(auto)]
+
+mod bare;
+mod compare;
+mod due;
+mod ending;
+mod of_program;
+mod recorded_core;
+
+pub use bare::bare_regions;
+pub use compare::first_difference;
+pub use due::{Undue, is_granting, settle_out};
+pub use ending::{MOST_LINES, Stop, has_ended, is_idle_or_full, turns_in, turns_left};
+pub use of_program::OfProgram;
+pub use recorded_core::RecordedCore;
