@@ -23,8 +23,8 @@ use Rattle.sc_world.proofs.Runs.{made-run}
 use Rattle.sc_plant.specs.declared.left.Left.{Left}
 use Rattle.sc_plant.specs.Left.{IsRun, LinesAreARecord, RunsAreOneThreads, world_of}
 use Rattle.sc_plant.specs.OneThread.{EndsIn}
-use Rattle.sc_plant.specs.Recorded as recorded
-use Rattle.sc_plant.specs.Recorded.{lines_of}
+use Rattle.sc_recording.specs.Recorded as recorded
+use Rattle.sc_recording.specs.Recorded.{lines_of}
 use Rattle.sc_auditing.specs.Audits.{IsAudited, LeadsTo, turns_of}
 use Rattle.sc_auditing.specs.Laws.{RunsAuditYes}
 use Rattle.sc_auditing.specs.Same.{AreSameRegions, IsSameAt}

@@ -22,7 +22,7 @@ use Rattle.sc_world.specs.Worlds.{PlainWorld, opened}
 use Rattle.sc_plant.specs.declared.left.Left.{Left}
 use Rattle.sc_plant.specs.Left.{IsRun, RunsAreOneThreads, world_of}
 use Rattle.sc_plant.specs.OneThread.{EndsIn}
-use Rattle.sc_plant.specs.Recorded.{lines_of, turns_of}
+use Rattle.sc_recording.specs.Recorded.{lines_of, turns_of}
 use Rattle.sc_driver.specs.Execution.{IsThreadRun, line_turns}
 
 -- the world of this state and of these regions, where no handler is out

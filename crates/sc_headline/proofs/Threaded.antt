@@ -9,7 +9,7 @@ use Rattle.sc_world.specs.Worlds.{opened}
 use Rattle.sc_world.proofs.Runs.{made-run}
 use Rattle.sc_world.specs.Reports.{report, statuses}
 use Rattle.sc_plant.specs.Left.{RunsAreOneThreads, world_of}
-use Rattle.sc_plant.specs.Recorded.{turns_of}
+use Rattle.sc_recording.specs.Recorded.{turns_of}
 use Rattle.sc_driver.specs.Execution.{IsThreadRun, line_turns}
 use Rattle.sc_driver.proofs.Threads.{thread_run, turns_of_lines}
 use Rattle.sc_headline.specs.Headline.{IsMachineRun, ReplaysAreTheMachines}

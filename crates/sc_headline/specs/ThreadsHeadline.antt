@@ -12,7 +12,7 @@ use Rattle.sc_world.specs.Worlds.{PlainWorld, opened}
 use Rattle.sc_plant.specs.declared.left.Left.{Left}
 use Rattle.sc_plant.specs.Left.{IsRun, world_of}
 use Rattle.sc_plant.specs.OneThread.{EndsIn}
-use Rattle.sc_plant.specs.Recorded.{turns_of}
+use Rattle.sc_recording.specs.Recorded.{turns_of}
 use Rattle.sc_frontend.specs.Texts.{IsLoaded}
 use Rattle.sc_headline.specs.Headline.{HaveTurns, IsMachineRun, StandsForReached}
 

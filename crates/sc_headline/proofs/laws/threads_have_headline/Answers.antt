@@ -3,7 +3,7 @@ use Rattle.sc_lockpass.specs.declared.version.Version.TheVariants.{Two}
 use Rattle.sc_request.specs.Cores.{log_of}
 use Rattle.sc_world.specs.Worlds.{opened}
 use Rattle.sc_world.proofs.Runs.{made-run}
-use Rattle.sc_plant.specs.Recorded.{turns_of}
+use Rattle.sc_recording.specs.Recorded.{turns_of}
 use Rattle.sc_headline.proofs.laws.threads_have_headline.Goals as goal
 
 pub returns : goal.returns
