@@ -65,7 +65,8 @@ impl<P: OfProgram> Scheduler<P> {
                 self.stop_for(Stop::OutOfMemory);
             }
             Played::Refused => {
-                self.put_back(task);
+                self.recorded.put_back(task.handler);
+                self.give_back(task.turns);
                 self.stop_for(Stop::OutOfMemory);
             }
         }
@@ -85,12 +86,6 @@ impl<P: OfProgram> Scheduler<P> {
         }
     }
 
-    /// The handler of a task isn't out any more, and nothing of its job is settled.
-    fn put_back(&mut self, task: &Task) {
-        self.recorded.put_back(task.handler);
-        self.give_back(task.turns);
-    }
-
     /// Settles so many turns of the job of a task. Where its handler has nothing to do, or there is no memory, which there is
     /// since it was picked, they aren't settled: then its region's log has more than its settlements, which the comparison of
     /// the logs tells.
@@ -106,15 +101,10 @@ impl<P: OfProgram> Scheduler<P> {
         self.turns = self.turns.saturating_add(turns);
     }
 
-    /// How many lines the record has once all that are out are settled.
-    fn lines_to_come(&self) -> usize {
-        let out = self.recorded.core.out_count();
-        self.recorded.lines.len().saturating_add(out)
-    }
-
-    /// Whether no more may be picked.
+    /// Whether no more may be picked, as where the record is full once all that are out are settled.
     fn is_full(&self) -> bool {
-        self.turns == 0 || self.lines_to_come() >= MOST_LINES
+        let out = self.recorded.core.out_count();
+        self.turns == 0 || self.recorded.lines.len().saturating_add(out) >= MOST_LINES
     }
 
     /// What comes next for a worker, whose task is written over.
