@@ -67,10 +67,25 @@ impl<'t> Stop<'t> {
         if is_told {
             return Ok(None);
         }
-        let before = self.before(0);
-        let beginning = Beginning::of(alloc, self.text, before)?;
+        let beginning = self.beginning(alloc, 0)?;
         push_expected(alloc, lines, &beginning)?;
-        open_construct(alloc, self.text, before)
+        open_construct(alloc, self.text, self.before(0))
+    }
+
+    /// What the text begins with before the token that stands so many before that at fault.
+    fn beginning(self, alloc: Global, back: usize) -> Result<Beginning, AllocError> {
+        let from = self.text_from(back);
+        let length = from.len().saturating_sub(self.text_from(0).len());
+        let between = first_bytes(from, length);
+        Beginning::of(alloc, self.text, self.before(back), between, self.word())
+    }
+
+    /// The word at fault; nothing where the text ends before its last class does.
+    fn word(self) -> &'t str {
+        match self.tokens.get(self.number) {
+            None => "",
+            Some(token) => word_at(self.text, token.span),
+        }
     }
 
     /// The tokens before that which stands so many before that at fault.
@@ -227,7 +242,10 @@ impl<'t> Stop<'t> {
 
     /// Whether a system goes on further with this word in place of what stands so many tokens before that at fault.
     fn is_better(self, alloc: Global, back: usize, word: &str) -> Result<bool, AllocError> {
-        let beginning = Beginning::of(alloc, self.text, self.before(back))?;
+        let beginning = self.beginning(alloc, back)?;
+        if !beginning.is_short() {
+            return Ok(false);
+        }
         let behind = if back == 0 {
             ""
         } else {

@@ -1,5 +1,6 @@
-//! Which construct is still open at a place, and how far a text is surely settled.
+//! Which construct is still open at a place, how far a text is settled, and which instructions before the place are whole.
 
+use crate::margin::Margin;
 use crate::reading::word_at;
 use crate::related::Related;
 use sc_text::{Span, Terminal, Token, TokenKind};
@@ -15,12 +16,24 @@ pub struct Layout {
     pub settled: usize,
     /// Whether that is a routine's end.
     pub is_in_class: bool,
+    /// The instructions behind that which are whole, in their order: behind each of these another one stands or may
+    /// begin.
+    pub whole: Vec<Part>,
+}
+
+/// Tokens that stand side by side: the number of the first, and of the one behind the last.
+#[derive(Clone, Copy)]
+pub struct Part {
+    pub start: usize,
+    pub end: usize,
 }
 
 /// The word that a construct began with.
 #[derive(Clone, Copy)]
 struct Opening {
     span: Span,
+    /// The whole ones of the instructions that it is in, if it is in some.
+    whole: Option<Part>,
     /// Whether it is a separate block whose `do` is still to come.
     waits_for_do: bool,
     /// The least column, from 0, at which its `end` is taken to stand, where that is the first word of its line.
@@ -64,17 +77,107 @@ impl Layout {
             early: None,
             settled: 0,
             is_in_class: false,
+            whole: Vec::new(alloc),
         };
+        let mut margin = Margin::new();
         let mut last = None;
+        let mut is_value = false;
         for (number, token) in tokens.iter().enumerate() {
+            margin.go_on(text, token.span.start);
+            if is_value && begins_behind_value(token) {
+                layout.reach(number);
+            }
             let terminal = terminal_of(token);
             if let Some(terminal) = terminal {
                 let step = step_of(terminal, last, layout.open.last());
-                layout.take(step, text, number, token.span)?;
+                layout.take(step, text, margin, number, token.span)?;
+                layout.turn(terminal, last, number)?;
             }
             last = terminal;
+            is_value = ends_value(token);
         }
+        layout.close()?;
         Ok(layout)
+    }
+
+    /// The instructions of the innermost construct are whole up to the token of this number, if it is in some.
+    fn reach(&mut self, number: usize) {
+        if let Some(opening) = self.open.last_mut()
+            && let Some(whole) = &mut opening.whole
+        {
+            whole.end = number;
+        }
+    }
+
+    /// Does what a word between the parts of a construct does, or one that begins or ends an instruction: the token of
+    /// this number, behind this one.
+    fn turn(
+        &mut self,
+        terminal: Terminal,
+        last: Option<Terminal>,
+        number: usize,
+    ) -> Result<(), AllocError> {
+        let behind = number.saturating_add(1);
+        match terminal {
+            Terminal::Do | Terminal::From | Terminal::Loop => self.begin(behind),
+            Terminal::Then if last != Some(Terminal::And) => self.begin(behind),
+            Terminal::Else if last != Some(Terminal::Or) => {
+                self.close()?;
+                self.begin(behind);
+            }
+            Terminal::Elseif | Terminal::Until | Terminal::Ensure => self.close()?,
+            Terminal::Create => self.reach(number),
+            Terminal::Semicolon => self.reach(behind),
+            _ => {}
+        }
+        Ok(())
+    }
+
+    /// The instructions of the innermost construct begin with the token of this number.
+    fn begin(&mut self, number: usize) {
+        if let Some(opening) = self.open.last_mut() {
+            opening.whole = Some(Part {
+                start: number,
+                end: number,
+            });
+        }
+    }
+
+    /// The innermost construct is in no instructions from here on.
+    fn close(&mut self) -> Result<(), AllocError> {
+        self.note_whole()?;
+        if let Some(opening) = self.open.last_mut() {
+            opening.whole = None;
+        }
+        Ok(())
+    }
+
+    /// Notes the whole ones of the instructions that the innermost construct is in. Those of constructs that have ended in
+    /// them are among them.
+    fn note_whole(&mut self) -> Result<(), AllocError> {
+        let Some(opening) = self.open.last() else {
+            return Ok(());
+        };
+        let Some(part) = opening.whole else {
+            return Ok(());
+        };
+        self.forget_from(part.start);
+        if part.start < part.end {
+            self.whole.push(part)?;
+        }
+        Ok(())
+    }
+
+    /// Forgets the instructions from the token of this number on.
+    fn forget_from(&mut self, start: usize) {
+        for _part in 0..self.whole.len() {
+            match self.whole.last() {
+                Some(part) if part.start >= start => {
+                    self.whole.pop();
+                }
+                _ => return,
+            }
+        }
     }
 
     /// Does what the token of this number does, which stands at this place.
@@ -82,14 +185,18 @@ impl Layout {
         &mut self,
         step: Step,
         text: &str,
+        margin: Margin,
         number: usize,
         span: Span,
     ) -> Result<(), AllocError> {
         match step {
             Step::Opens(waits_for_do) => {
-                let least = self.least(text, span);
+                self.reach(number);
+                self.note_whole()?;
+                let least = self.least(margin);
                 self.open.push(Opening {
                     span,
+                    whole: None,
                     waits_for_do,
                     least,
                 })?
@@ -99,34 +206,35 @@ impl Layout {
                     opening.waits_for_do = false;
                 }
             }
-            Step::Ends => self.end(text, number, span),
+            Step::Ends => self.end(text, margin, number),
             Step::GoesOn => {}
         }
         Ok(())
     }
 
     /// The least column at which the `end` of what begins here is taken to stand.
-    fn least(&self, text: &str, span: Span) -> usize {
-        let indent = indent_of(text, span);
+    fn least(&self, margin: Margin) -> usize {
         if self.open.len() == 1 {
-            indent.min(1)
+            margin.indent.min(1)
         } else {
-            indent
+            margin.indent
         }
     }
 
     /// Ends the innermost construct by an `end`, the token of this number.
-    fn end(&mut self, text: &str, number: usize, span: Span) {
+    fn end(&mut self, text: &str, margin: Margin, number: usize) {
         let Some(opening) = self.open.pop() else {
             return;
         };
-        let is_early = is_first_of_line(text, span) && indent_of(text, span) < opening.least;
+        let behind = number.saturating_add(1);
+        self.reach(behind);
+        let is_early = margin.is_blank && margin.indent < opening.least;
         if is_early && self.early.is_none() {
             self.early = Some(opening.span);
         }
         let depth = self.open.len();
         if depth == 0 || depth == 1 && !is_early && is_routine(text, opening.span) {
-            self.settle(number.saturating_add(1), depth == 1);
+            self.settle(behind, depth == 1);
         }
     }
 
@@ -134,6 +242,7 @@ impl Layout {
         self.settled = settled;
         self.is_in_class = is_in_class;
         self.early = None;
+        self.forget_from(0);
     }
 }
 
@@ -142,44 +251,34 @@ fn is_routine(text: &str, span: Span) -> bool {
     word_at(text, span).eq_ignore_ascii_case("do")
 }
 
-/// What stands in the line of a part of the text before it.
-fn before_in_line(text: &str, span: Span) -> &[u8] {
-    let before = text.as_bytes().get(..span.start).unwrap_or(&[]);
-    let mut start = before.len();
-    for byte in before.iter().rev() {
-        if *byte == b'\n' {
-            break;
-        }
-        start = start.saturating_sub(1);
-    }
-    before.get(start..).unwrap_or(&[])
-}
-
-/// How many blanks and tabs the line of a part of the text begins with.
-fn indent_of(text: &str, span: Span) -> usize {
-    indent(before_in_line(text, span))
-}
-
-/// Whether nothing but blanks and tabs stands before it in its line.
-fn is_first_of_line(text: &str, span: Span) -> bool {
-    let before = before_in_line(text, span);
-    indent(before) == before.len()
-}
-
-/// How many blanks and tabs stand at the beginning.
-fn indent(line: &[u8]) -> usize {
-    for (index, byte) in line.iter().enumerate() {
-        if !matches!(byte, b' ' | b'\t') {
-            return index;
-        }
-    }
-    line.len()
-}
-
 fn terminal_of(token: &Token) -> Option<Terminal> {
     match &token.kind {
         TokenKind::Terminal(terminal) => Some(*terminal),
         _ => None,
+    }
+}
+
+/// Whether a value may end with this token.
+fn ends_value(token: &Token) -> bool {
+    match &token.kind {
+        TokenKind::Name(_) | TokenKind::Integer(_) | TokenKind::ManifestString(_) => true,
+        TokenKind::Terminal(
+            Terminal::CloseParenthesis
+            | Terminal::Current
+            | Terminal::Result
+            | Terminal::True
+            | Terminal::False
+            | Terminal::Void,
+        ) => true,
+        TokenKind::Terminal(_) => false,
+    }
+}
+
+/// Whether an instruction begins with this token where a value ends before it.
+fn begins_behind_value(token: &Token) -> bool {
+    match &token.kind {
+        TokenKind::Name(_) | TokenKind::Terminal(Terminal::Current | Terminal::Result) => true,
+        _ => false,
     }
 }
 

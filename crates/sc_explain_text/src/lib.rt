@@ -13,6 +13,7 @@ mod grammar;
 mod instead;
 mod layout;
 mod lines;
+mod margin;
 mod nearest;
 mod omitted;
 mod reading;
