@@ -69,15 +69,7 @@ impl<'s> Refusal<'s> {
                 explain_character(lines, self.text, self.span);
                 None
             }
-            RefusalCode::NotInGrammar => {
-                match explain_grammar(alloc, lines, self.text, self.span) {
-                    Ok(related) => related,
-                    Err(_) => {
-                        lines.lack();
-                        None
-                    }
-                }
-            }
+            RefusalCode::NotInGrammar => explain_grammar(alloc, lines, self.text, self.span),
             _ => self.tell_of_text(alloc, lines),
         }
     }

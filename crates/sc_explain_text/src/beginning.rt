@@ -1,10 +1,11 @@
 //! What a text begins with, as far as that says how it may go on.
 
 use crate::layout::Layout;
+use crate::lines::Lines;
 use crate::reading::{first_bytes, tokens_of, word_at};
 use sc_parse::{ParseFault, parse};
 use sc_text::Token;
-use std::alloc::{AllocError, Global};
+use std::alloc::Global;
 
 /// The most bytes of a beginning for which it is tried how it may go on.
 const MOST: usize = 4_096;
@@ -16,10 +17,13 @@ const ROUTINE: &str = "class x feature x do end";
 const INSTRUCTION: &str = "check end";
 
 /// What a text begins with up to a place, or what goes on in the same ways and is shorter: classes and routines that end
-/// before that place are left out, and instructions that are whole there, and what is no token.
+/// before that place are left out, and instructions that are whole there, and what is no token. Where memory is refused to
+/// some of it, it is lacking.
 #[derive(Drop)]
 pub struct Beginning {
+    alloc: Global,
     text: String,
+    is_lacking: bool,
 }
 
 impl Beginning {
@@ -27,48 +31,57 @@ impl Beginning {
     /// word at fault, if the text has one there: where what is shorter doesn't go on so, nothing is left out.
     pub fn of(
         alloc: Global,
+        lines: &mut Lines,
         text: &str,
         before: &[Token],
         between: &str,
         fault: &str,
-    ) -> Result<Self, AllocError> {
-        let shorter = Self::shortened(alloc, text, before)?;
-        if !shorter.is_short() || shorter.goes_as(alloc, between, fault)? {
-            return Ok(shorter);
+    ) -> Self {
+        let shorter = Self::shortened(alloc, text, before);
+        if !shorter.is_short() || shorter.goes_as(lines, between, fault) {
+            return shorter;
         }
-        Ok(Beginning {
-            text: format!(in alloc; "{}", up_to_end(text, before))?,
-        })
+        let mut whole = Self::new(alloc);
+        whole.push_word(up_to_end(text, before));
+        whole
+    }
+
+    /// Nothing.
+    fn new(alloc: Global) -> Self {
+        Beginning {
+            alloc,
+            text: String::new(alloc),
+            is_lacking: false,
+        }
     }
 
     /// What is shorter.
-    fn shortened(alloc: Global, text: &str, before: &[Token]) -> Result<Self, AllocError> {
-        let layout = Layout::of(alloc, text, before)?;
-        let first = if layout.is_in_class { ROUTINE } else { "" };
-        let mut shorter = Beginning {
-            text: format!(in alloc; "{first}")?,
-        };
+    fn shortened(alloc: Global, text: &str, before: &[Token]) -> Self {
+        let mut shorter = Self::new(alloc);
+        let layout = Layout::of(alloc, text, before);
+        shorter.push_word(if layout.is_in_class { ROUTINE } else { "" });
         let mut from = layout.settled;
         for part in layout.whole.iter() {
-            shorter.push_words(text, before.get(from..part.start).unwrap_or(&[]))?;
-            shorter.push_word(INSTRUCTION)?;
+            shorter.push_words(text, before.get(from..part.start));
+            shorter.push_word(INSTRUCTION);
             from = part.end;
         }
-        shorter.push_words(text, before.get(from..).unwrap_or(&[]))?;
-        Ok(shorter)
+        shorter.push_words(text, before.get(from..));
+        shorter.is_lacking = shorter.is_lacking || layout.is_lacking;
+        shorter
     }
 
-    /// Adds the words of these tokens.
-    fn push_words(&mut self, text: &str, tokens: &[Token]) -> Result<(), AllocError> {
-        for token in tokens {
-            self.push_word(word_at(text, token.span))?;
+    /// Adds the words of these tokens, if there are some.
+    fn push_words(&mut self, text: &str, tokens: Option<&[Token]>) {
+        for token in tokens.unwrap_or(&[]) {
+            self.push_word(word_at(text, token.span));
         }
-        Ok(())
     }
 
-    fn push_word(&mut self, word: &str) -> Result<(), AllocError> {
-        self.text.push_str(" ")?;
-        self.text.push_str(word)
+    fn push_word(&mut self, word: &str) {
+        if self.text.push_str(" ").is_err() || self.text.push_str(word).is_err() {
+            self.is_lacking = true;
+        }
     }
 
     /// Whether it is short enough to be tried often.
@@ -77,25 +90,23 @@ impl Beginning {
     }
 
     /// Whether a system begins with it and this behind it, and none with that and the word at fault.
-    fn goes_as(&self, alloc: Global, between: &str, fault: &str) -> Result<bool, AllocError> {
-        if !self.goes_on(alloc, between)? {
-            return Ok(false);
-        }
-        if fault.is_empty() {
-            return Ok(true);
-        }
-        match joined(alloc, between, fault) {
-            Ok(behind) => Ok(!self.goes_on(alloc, &behind)?),
-            Err(error) => Err(error),
-        }
+    fn goes_as(&self, lines: &mut Lines, between: &str, fault: &str) -> bool {
+        self.goes_on(lines, between, "")
+            && (fault.is_empty() || !self.goes_on(lines, between, fault))
     }
 
-    /// Whether a system begins with it and this behind it.
-    pub fn goes_on(&self, alloc: Global, behind: &str) -> Result<bool, AllocError> {
+    /// Whether a system begins with it and these two behind it. The lines lack something where memory runs out.
+    pub fn goes_on(&self, lines: &mut Lines, behind: &str, last: &str) -> bool {
+        if self.is_lacking {
+            lines.lack();
+        }
         let before = self.text.as_str();
-        match joined(alloc, before, behind) {
-            Ok(text) => is_begun(alloc, &text),
-            Err(error) => Err(error),
+        match format!(in self.alloc; "{before} {behind} {last}") {
+            Ok(text) => is_begun(self.alloc, lines, &text),
+            Err(_) => {
+                lines.lack();
+                false
+            }
         }
     }
 }
@@ -108,45 +119,24 @@ fn up_to_end<'t>(text: &'t str, tokens: &[Token]) -> &'t str {
     }
 }
 
-/// The text with another behind it.
-fn joined(alloc: Global, before: &str, behind: &str) -> Result<String, AllocError> {
-    format!(in alloc; "{before} {behind}")
-}
-
 /// Whether a system begins with the text.
-fn is_begun(alloc: Global, text: &str) -> Result<bool, AllocError> {
-    Ok(stop_of(alloc, text)? != Stop::Inside)
-}
-
-/// Where no system goes on with a text.
-#[derive(Clone, Copy, PartialEq, Eq)]
-enum Stop {
-    /// It is a system.
-    Nowhere,
-    /// Before its end.
-    Inside,
-    /// At its end.
-    AtEnd,
-}
-
-/// Where no system goes on with the text.
-fn stop_of(alloc: Global, text: &str) -> Result<Stop, AllocError> {
-    match tokens_of(alloc, text) {
-        Ok(None) => Ok(Stop::Inside),
-        Ok(Some(tokens)) => stop_of_tokens(alloc, &tokens, text.len()),
-        Err(error) => Err(error),
+fn is_begun(alloc: Global, lines: &mut Lines, text: &str) -> bool {
+    match tokens_of(alloc, lines, text) {
+        None => false,
+        Some(tokens) => are_begun(alloc, lines, &tokens, text.len()),
     }
 }
 
-/// Where no system goes on with the tokens of a text of this length.
-fn stop_of_tokens(alloc: Global, tokens: &[Token], length: usize) -> Result<Stop, AllocError> {
+/// Whether a system begins with the tokens of a text of this length.
+fn are_begun(alloc: Global, lines: &mut Lines, tokens: &[Token], length: usize) -> bool {
     match parse(alloc, tokens) {
-        Ok(_) => Ok(Stop::Nowhere),
-        Err(ParseFault::NotInGrammar { span }) if span.start >= end_of(tokens, length) => {
-            Ok(Stop::AtEnd)
+        Ok(_) => true,
+        Err(ParseFault::NotInGrammar { span }) => span.start >= end_of(tokens, length),
+        Err(ParseFault::OutOfMemory) => {
+            lines.lack();
+            false
         }
-        Err(ParseFault::OutOfMemory) => Err(AllocError),
-        Err(_) => Ok(Stop::Inside),
+        Err(_) => false,
     }
 }
 

@@ -2,7 +2,6 @@
 
 use crate::beginning::Beginning;
 use crate::lines::Lines;
-use std::alloc::{AllocError, Global};
 
 /// What is tried, a line each: how it is called, and behind a tab a token of it.
 const TOKENS: &str = "\
@@ -73,37 +72,26 @@ a string\t\"\"
 `}`\t}";
 
 /// Adds a line that says which tokens may stand behind a beginning, where it is short enough to try them all.
-pub fn push_expected(
-    alloc: Global,
-    lines: &mut Lines,
-    beginning: &Beginning,
-) -> Result<(), AllocError> {
+pub fn push_expected(lines: &mut Lines, beginning: &Beginning) {
     if beginning.is_short() {
-        push_all_expected(alloc, lines, beginning, TOKENS)?;
+        push_all_expected(lines, beginning, TOKENS)
     }
-    Ok(())
 }
 
 /// Adds the same of these tokens.
-fn push_all_expected(
-    alloc: Global,
-    lines: &mut Lines,
-    beginning: &Beginning,
-    tokens: &str,
-) -> Result<(), AllocError> {
+fn push_all_expected(lines: &mut Lines, beginning: &Beginning, tokens: &str) {
     let mut is_first = true;
     for row in tokens.lines() {
         let (name, token) = row.split_once('\t').unwrap_or((row, row));
-        if beginning.goes_on(alloc, token)? {
-            let before = if is_first {
+        if beginning.goes_on(lines, token, "") {
+            lines.push(if is_first {
                 "help: here may stand "
             } else {
                 ", "
-            };
-            lines.push_all(&[before, name]);
+            });
+            lines.push(name);
             is_first = false;
         }
     }
-    lines.push(if is_first { "" } else { "\n" });
-    Ok(())
+    lines.push(if is_first { "" } else { "\n" })
 }

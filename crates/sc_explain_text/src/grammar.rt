@@ -6,10 +6,10 @@ use crate::foreign::{push_instead_at, push_instead_of, push_instead_of_word};
 use crate::layout::open_construct;
 use crate::lines::Lines;
 use crate::nearest::{near_word, push_meant};
-use crate::reading::{first_bytes, text_behind, tokens_of, word_at};
+use crate::reading::{tokens_of, word_at};
 use crate::related::Related;
 use sc_text::{Span, Terminal, Token, TokenKind};
-use std::alloc::{AllocError, Global};
+use std::alloc::Global;
 
 /// A text, its tokens, and the number of the first that no system has there.
 #[derive(Clone, Copy)]
@@ -22,20 +22,16 @@ struct Stop<'t> {
 
 /// Adds what is said of a text of which no system begins with the text up to the end of this part: what is written in
 /// place of a construct that isn't here, a word that was meant, or else what may stand there. Then the construct that
-/// hasn't ended, where it goes with the fault.
-///
-/// # Errors
-///
-/// That memory ran out.
+/// hasn't ended, where it goes with the fault. The lines lack something where memory runs out.
 pub fn explain_grammar(
     alloc: Global,
     lines: &mut Lines,
     text: &str,
     span: Span,
-) -> Result<Option<Related>, AllocError> {
-    match tokens_of(alloc, text) {
-        Ok(None) => Ok(None),
-        Ok(Some(tokens)) => {
+) -> Option<Related> {
+    match tokens_of(alloc, lines, text) {
+        None => None,
+        Some(tokens) => {
             let stop = Stop {
                 text,
                 tokens: tokens.as_slice(),
@@ -44,7 +40,6 @@ pub fn explain_grammar(
             };
             stop.explain(alloc, lines)
         }
-        Err(error) => Err(error),
     }
 }
 
@@ -59,33 +54,52 @@ fn number_of(tokens: &[Token], span: Span) -> usize {
 }
 
 impl<'t> Stop<'t> {
-    fn explain(self, alloc: Global, lines: &mut Lines) -> Result<Option<Related>, AllocError> {
+    fn explain(self, alloc: Global, lines: &mut Lines) -> Option<Related> {
         self.push_place(lines);
         let is_told = self.push_foreign_word(lines)
-            || self.push_meant(alloc, lines)?
+            || self.push_meant(alloc, lines)
             || self.push_foreign_sign(lines);
         if is_told {
-            return Ok(None);
+            return None;
         }
-        let beginning = self.beginning(alloc, 0)?;
-        push_expected(alloc, lines, &beginning)?;
-        open_construct(alloc, self.text, self.before(0))
+        let beginning = self.beginning(alloc, lines, 0);
+        push_expected(lines, &beginning);
+        open_construct(alloc, lines, self.text, self.before(0))
     }
 
     /// What the text begins with before the token that stands so many before that at fault.
-    fn beginning(self, alloc: Global, back: usize) -> Result<Beginning, AllocError> {
-        let from = self.text_from(back);
-        let length = from.len().saturating_sub(self.text_from(0).len());
-        let between = first_bytes(from, length);
-        Beginning::of(alloc, self.text, self.before(back), between, self.word())
+    fn beginning(self, alloc: Global, lines: &mut Lines, back: usize) -> Beginning {
+        let between = self.text_between(back, self.start(0));
+        let fault = self.word(0);
+        Beginning::of(alloc, lines, self.text, self.before(back), between, fault)
     }
 
-    /// The word at fault; nothing where the text ends before its last class does.
-    fn word(self) -> &'t str {
-        match self.tokens.get(self.number) {
+    /// The token that stands so many before that at fault; none behind the last.
+    fn token(self, back: usize) -> Option<&'t Token> {
+        self.tokens.get(self.number.saturating_sub(back))
+    }
+
+    /// How the token is spelt that stands so many before that at fault; nothing where the text ends before its last class
+    /// does.
+    fn word(self, back: usize) -> &'t str {
+        match self.token(back) {
             None => "",
             Some(token) => word_at(self.text, token.span),
         }
+    }
+
+    /// Where the token begins that stands so many before that at fault; else the end of the text.
+    fn start(self, back: usize) -> usize {
+        match self.token(back) {
+            None => self.text.len(),
+            Some(token) => token.span.start,
+        }
+    }
+
+    /// The text from the token that stands so many before that at fault to this place.
+    fn text_between(self, back: usize, end: usize) -> &'t str {
+        let start = self.start(back);
+        word_at(self.text, Span { start, end })
     }
 
     /// The tokens before that which stands so many before that at fault.
@@ -96,31 +110,21 @@ impl<'t> Stop<'t> {
 
     /// Adds which token is at fault.
     fn push_place(self, lines: &mut Lines) {
-        match self.tokens.get(self.number) {
-            None => lines.push("the text ends before its last class does\n"),
-            Some(token) => {
-                let word = word_at(self.text, token.span);
-                lines.push_all(&["no system begins with the text up to `", word, "`\n"])
-            }
+        let word = self.word(0);
+        if word.is_empty() {
+            return lines.push("the text ends before its last class does\n");
         }
+        lines.push_all(&["no system begins with the text up to `", word, "`\n"])
     }
 
     /// Adds what is written in place of a construct that a word shows, and whether there is something.
     fn push_foreign_word(self, lines: &mut Lines) -> bool {
-        self.push_word(lines) || self.push_word_in_line(lines)
+        push_instead_of_word(lines, self.word(0)) || self.push_word_in_line(lines)
     }
 
     /// Adds what is written in place of a construct that signs show, and whether there is something.
     fn push_foreign_sign(self, lines: &mut Lines) -> bool {
         self.push_real(lines) || self.push_sign(lines)
-    }
-
-    /// Adds what is written in place of a construct that the token at fault shows.
-    fn push_word(self, lines: &mut Lines) -> bool {
-        match self.tokens.get(self.number) {
-            None => false,
-            Some(token) => push_instead_of_word(lines, word_at(self.text, token.span)),
-        }
     }
 
     /// Adds what is written in place of a number with a point.
@@ -136,13 +140,16 @@ impl<'t> Stop<'t> {
     /// Adds what is written in place of signs: of several that begin at the token at fault, of those that begin at the
     /// token before it and reach over that, or of the one at fault.
     fn push_sign(self, lines: &mut Lines) -> bool {
-        let over = self.length(1).saturating_add(1);
-        for (back, least) in [(0_usize, 2_usize), (1, over), (0, 1)] {
-            if self.is_sign(back) && push_instead_at(lines, self.text_from(back), least) {
-                return true;
-            }
-        }
-        false
+        let over = self.word(1).len().saturating_add(1);
+        self.push_sign_at(lines, 0, 2)
+            || self.push_sign_at(lines, 1, over)
+            || self.push_sign_at(lines, 0, 1)
+    }
+
+    /// The same of signs of so many bytes at least that begin at the token so many before that at fault.
+    fn push_sign_at(self, lines: &mut Lines, back: usize, least: usize) -> bool {
+        let from = self.text_between(back, self.text.len());
+        self.is_sign(back) && push_instead_at(lines, from, least)
     }
 
     /// Whether so many tokens before that at fault stands no name and no number.
@@ -158,15 +165,6 @@ impl<'t> Stop<'t> {
     fn kind(self, back: usize) -> Option<&'t TokenKind> {
         let token = self.tokens.get(self.number.checked_sub(back)?)?;
         Some(&token.kind)
-    }
-
-    /// The text from the token that stands so many before that at fault.
-    fn text_from(self, back: usize) -> &'t str {
-        let number = self.number.saturating_sub(back);
-        match self.tokens.get(number) {
-            None => "",
-            Some(token) => text_behind(self.text, token.span.start),
-        }
     }
 
     /// Adds what is written in place of a construct that a word shows which stands in the line before the fault and is
@@ -219,16 +217,16 @@ impl<'t> Stop<'t> {
 
     /// Adds which word was meant, where a system goes on further with one that is near to one written here, and whether
     /// there is one.
-    fn push_meant(self, alloc: Global, lines: &mut Lines) -> Result<bool, AllocError> {
+    fn push_meant(self, alloc: Global, lines: &mut Lines) -> bool {
         for back in 0..4_usize {
             if let Some(word) = self.near(back) {
-                if self.is_better(alloc, back, word)? {
+                if self.is_better(alloc, lines, back, word) {
                     push_meant(lines, word);
-                    return Ok(true);
+                    return true;
                 }
             }
         }
-        Ok(false)
+        false
     }
 
     /// The word that is near to the name so many tokens before that at fault, if that is a token.
@@ -241,37 +239,19 @@ impl<'t> Stop<'t> {
     }
 
     /// Whether a system goes on further with this word in place of what stands so many tokens before that at fault.
-    fn is_better(self, alloc: Global, back: usize, word: &str) -> Result<bool, AllocError> {
-        let beginning = self.beginning(alloc, back)?;
-        if !beginning.is_short() {
-            return Ok(false);
-        }
-        let behind = if back == 0 {
-            ""
-        } else {
-            self.text_up_to(back - 1)
-        };
-        match format!(in alloc; "{word} {behind}") {
-            Ok(behind) => beginning.goes_on(alloc, &behind),
-            Err(error) => Err(error),
-        }
+    fn is_better(self, alloc: Global, lines: &mut Lines, back: usize, word: &str) -> bool {
+        let beginning = self.beginning(alloc, lines, back);
+        beginning.is_short() && beginning.goes_on(lines, word, self.text_behind(back))
     }
 
-    /// The text from the token that stands so many before that at fault to the end of that.
-    fn text_up_to(self, back: usize) -> &'t str {
-        let from = self.text_from(back);
-        let fault = self.text_from(0);
-        let between = from.len().saturating_sub(fault.len());
-        let length = between.saturating_add(self.length(0));
-        first_bytes(from, length)
-    }
-
-    /// How many bytes the token has that stands so many before that at fault.
-    fn length(self, back: usize) -> usize {
-        let number = self.number.saturating_sub(back);
-        match self.tokens.get(number) {
-            None => 0,
-            Some(token) => token.span.end.saturating_sub(token.span.start),
+    /// The text behind the token that stands so many before that at fault, to the end of that.
+    fn text_behind(self, back: usize) -> &'t str {
+        match back.checked_sub(1) {
+            None => "",
+            Some(back) => {
+                let end = self.start(0).saturating_add(self.word(0).len());
+                self.text_between(back, end)
+            }
         }
     }
 }

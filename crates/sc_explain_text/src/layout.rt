@@ -1,10 +1,11 @@
 //! Which construct is still open at a place, how far a text is settled, and which instructions before the place are whole.
 
+use crate::lines::Lines;
 use crate::margin::Margin;
 use crate::reading::word_at;
 use crate::related::Related;
 use sc_text::{Span, Terminal, Token, TokenKind};
-use std::alloc::{AllocError, Global};
+use std::alloc::Global;
 
 /// What tokens have opened and ended.
 #[derive(Drop)]
@@ -19,6 +20,8 @@ pub struct Layout {
     /// The instructions behind that which are whole, in their order: behind each of these another one stands or may
     /// begin.
     pub whole: Vec<Part>,
+    /// Whether memory was refused to some of it.
+    pub is_lacking: bool,
 }
 
 /// Tokens that stand side by side: the number of the first, and of the one behind the last.
@@ -49,35 +52,40 @@ enum Step {
 }
 
 /// The innermost construct that has begun in these tokens of a text and hasn't ended there, or one whose `end` was taken
-/// for another's, where the layout shows it.
+/// for another's, where the layout shows it. The lines lack something where memory runs out.
 pub fn open_construct(
     alloc: Global,
+    lines: &mut Lines,
     text: &str,
     tokens: &[Token],
-) -> Result<Option<Related>, AllocError> {
-    let layout = Layout::of(alloc, text, tokens)?;
-    match (layout.early, layout.open.last()) {
-        (Some(span), Some(_)) => Ok(Some(Related {
+) -> Option<Related> {
+    let layout = Layout::of(alloc, text, tokens);
+    if layout.is_lacking {
+        lines.lack();
+    }
+    let opening = layout.open.last()?;
+    Some(match layout.early {
+        Some(span) => Related {
             what: "what begins here has no `end` of its own, as the lines stand",
             span,
-        })),
-        (_, Some(opening)) => Ok(Some(Related {
+        },
+        None => Related {
             what: "what begins here hasn't ended",
             span: opening.span,
-        })),
-        (_, None) => Ok(None),
-    }
+        },
+    })
 }
 
 impl Layout {
     /// That of these tokens of a text.
-    pub fn of(alloc: Global, text: &str, tokens: &[Token]) -> Result<Self, AllocError> {
+    pub fn of(alloc: Global, text: &str, tokens: &[Token]) -> Self {
         let mut layout = Layout {
             open: Vec::new(alloc),
             early: None,
             settled: 0,
             is_in_class: false,
             whole: Vec::new(alloc),
+            is_lacking: false,
         };
         let mut margin = Margin::new();
         let mut last = None;
@@ -90,14 +98,14 @@ impl Layout {
             let terminal = terminal_of(token);
             if let Some(terminal) = terminal {
                 let step = step_of(terminal, last, layout.open.last());
-                layout.take(step, text, margin, number, token.span)?;
-                layout.turn(terminal, last, number)?;
+                layout.take(step, text, margin, number, token.span);
+                layout.turn(terminal, last, number);
             }
             last = terminal;
             is_value = ends_value(token);
         }
-        layout.close()?;
-        Ok(layout)
+        layout.close();
+        layout
     }
 
     /// The instructions of the innermost construct are whole up to the token of this number, if it is in some.
@@ -111,26 +119,20 @@ impl Layout {
 
     /// Does what a word between the parts of a construct does, or one that begins or ends an instruction: the token of
     /// this number, behind this one.
-    fn turn(
-        &mut self,
-        terminal: Terminal,
-        last: Option<Terminal>,
-        number: usize,
-    ) -> Result<(), AllocError> {
+    fn turn(&mut self, terminal: Terminal, last: Option<Terminal>, number: usize) {
         let behind = number.saturating_add(1);
         match terminal {
             Terminal::Do | Terminal::From | Terminal::Loop => self.begin(behind),
             Terminal::Then if last != Some(Terminal::And) => self.begin(behind),
             Terminal::Else if last != Some(Terminal::Or) => {
-                self.close()?;
-                self.begin(behind);
+                self.close();
+                self.begin(behind)
             }
-            Terminal::Elseif | Terminal::Until | Terminal::Ensure => self.close()?,
+            Terminal::Elseif | Terminal::Until | Terminal::Ensure => self.close(),
             Terminal::Create => self.reach(number),
             Terminal::Semicolon => self.reach(behind),
             _ => {}
         }
-        Ok(())
     }
 
     /// The instructions of the innermost construct begin with the token of this number.
@@ -144,62 +146,46 @@ impl Layout {
     }
 
     /// The innermost construct is in no instructions from here on.
-    fn close(&mut self) -> Result<(), AllocError> {
-        self.note_whole()?;
+    fn close(&mut self) {
+        self.note_whole();
         if let Some(opening) = self.open.last_mut() {
             opening.whole = None;
         }
-        Ok(())
     }
 
     /// Notes the whole ones of the instructions that the innermost construct is in. Those of constructs that have ended in
     /// them are among them.
-    fn note_whole(&mut self) -> Result<(), AllocError> {
-        let Some(opening) = self.open.last() else {
-            return Ok(());
-        };
-        let Some(part) = opening.whole else {
-            return Ok(());
-        };
-        self.forget_from(part.start);
-        if part.start < part.end {
-            self.whole.push(part)?;
+    fn note_whole(&mut self) {
+        if let Some(opening) = self.open.last()
+            && let Some(part) = opening.whole
+        {
+            self.forget_from(part.start);
+            if part.start < part.end && self.whole.push(part).is_err() {
+                self.is_lacking = true;
+            }
         }
-        Ok(())
     }
 
     /// Forgets the instructions from the token of this number on.
     fn forget_from(&mut self, start: usize) {
         for _part in 0..self.whole.len() {
-            match self.whole.last() {
-                Some(part) if part.start >= start => {
-                    self.whole.pop();
-                }
-                _ => return,
+            let Some(part) = self.whole.last() else {
+                return;
+            };
+            if part.start < start {
+                return;
             }
+            self.whole.pop();
         }
     }
 
     /// Does what the token of this number does, which stands at this place.
-    fn take(
-        &mut self,
-        step: Step,
-        text: &str,
-        margin: Margin,
-        number: usize,
-        span: Span,
-    ) -> Result<(), AllocError> {
+    fn take(&mut self, step: Step, text: &str, margin: Margin, number: usize, span: Span) {
         match step {
             Step::Opens(waits_for_do) => {
                 self.reach(number);
-                self.note_whole()?;
-                let least = self.least(margin);
-                self.open.push(Opening {
-                    span,
-                    whole: None,
-                    waits_for_do,
-                    least,
-                })?
+                self.note_whole();
+                self.open(margin, span, waits_for_do)
             }
             Step::Does => {
                 if let Some(opening) = self.open.last_mut() {
@@ -209,7 +195,20 @@ impl Layout {
             Step::Ends => self.end(text, margin, number),
             Step::GoesOn => {}
         }
-        Ok(())
+    }
+
+    /// Begins a construct.
+    fn open(&mut self, margin: Margin, span: Span, waits_for_do: bool) {
+        let least = self.least(margin);
+        let opened = self.open.push(Opening {
+            span,
+            whole: None,
+            waits_for_do,
+            least,
+        });
+        if opened.is_err() {
+            self.is_lacking = true;
+        }
     }
 
     /// The least column at which the `end` of what begins here is taken to stand.

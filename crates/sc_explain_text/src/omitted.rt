@@ -7,26 +7,34 @@ use std::alloc::{AllocError, Global};
 
 /// How many comments stand in a text, and whether there are notes, a line for each. Its canonical text has none of them.
 pub fn left_out(alloc: Global, text: &str) -> Result<Vec<u8>, AllocError> {
-    match tokens_of(alloc, text) {
-        Ok(None) => Ok(Vec::new(alloc)),
-        Ok(Some(tokens)) => left_out_between(alloc, text, &tokens).finish(),
-        Err(error) => Err(error),
+    let mut lines = Lines::new(alloc);
+    if let Some(tokens) = tokens_of(alloc, &mut lines, text) {
+        push_left_out(&mut lines, text, &tokens);
     }
+    lines.finish()
 }
 
-/// The same of a text of these tokens.
-fn left_out_between(alloc: Global, text: &str, tokens: &[Token]) -> Lines {
-    let mut lines = Lines::new(alloc);
+/// Adds the same of a text of these tokens.
+fn push_left_out(lines: &mut Lines, text: &str, tokens: &[Token]) {
     let comments = comment_count(text.as_bytes(), tokens);
     if comments > 0 {
         lines.push("comments left out: ");
         lines.push_number(comments as u64);
         lines.push("\n");
     }
-    if tokens.iter().any(|token| begins_note(token)) {
+    if have_note(tokens) {
         lines.push("notes left out\n");
     }
-    lines
+}
+
+/// Whether a note begins with one of these tokens.
+fn have_note(tokens: &[Token]) -> bool {
+    for token in tokens {
+        if begins_note(token) {
+            return true;
+        }
+    }
+    false
 }
 
 fn begins_note(token: &Token) -> bool {
@@ -49,8 +57,13 @@ fn comment_count(text: &[u8], tokens: &[Token]) -> usize {
 
 /// How many comments stand in a gap of a text: each runs from two dashes to the end of its line.
 fn comments_in(text: &[u8], start: usize, end: usize) -> usize {
-    let gap = text.get(start..end).unwrap_or(&[]);
-    gap.split(|byte| *byte == b'\n')
-        .filter(|line| line.contains(&b'-'))
-        .count()
+    let mut count = 0_usize;
+    let mut is_comment = false;
+    for byte in text.get(start..end).unwrap_or(&[]) {
+        if *byte == b'-' && !is_comment {
+            count = count.saturating_add(1);
+        }
+        is_comment = *byte == b'-' || is_comment && *byte != b'\n';
+    }
+    count
 }

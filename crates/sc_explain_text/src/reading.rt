@@ -1,25 +1,29 @@
 //! A text read again for what is said of it. What is wrong with it was told before; want of memory is told here.
 
+use crate::lines::Lines;
 use sc_parse::{ParseFault, parse};
 use sc_text::{LexFault, Span, Token, lex};
 use sc_tree::System;
 use std::alloc::{AllocError, Global};
 
-/// The tokens of a text, if it has some.
-pub fn tokens_of(alloc: Global, text: &str) -> Result<Option<Vec<Token>>, AllocError> {
+/// The tokens of a text, if it has some. The lines lack something where memory runs out.
+pub fn tokens_of(alloc: Global, lines: &mut Lines, text: &str) -> Option<Vec<Token>> {
     match lex(alloc, text) {
-        Ok(tokens) => Ok(Some(tokens)),
-        Err(LexFault::OutOfMemory) => Err(AllocError),
-        Err(_) => Ok(None),
+        Ok(tokens) => Some(tokens),
+        Err(LexFault::OutOfMemory) => {
+            lines.lack();
+            None
+        }
+        Err(_) => None,
     }
 }
 
 /// The system of a text, if it spells one.
 pub fn system_of(alloc: Global, text: &str) -> Result<Option<System>, AllocError> {
-    match tokens_of(alloc, text) {
-        Ok(None) => Ok(None),
-        Ok(Some(tokens)) => parsed(alloc, &tokens),
-        Err(error) => Err(error),
+    match lex(alloc, text) {
+        Ok(tokens) => parsed(alloc, &tokens),
+        Err(LexFault::OutOfMemory) => Err(AllocError),
+        Err(_) => Ok(None),
     }
 }
 
@@ -47,17 +51,6 @@ pub fn first_bytes(text: &str, count: usize) -> &str {
         Span {
             start: 0,
             end: count,
-        },
-    )
-}
-
-/// The text from a place on; nothing where that is inside of a character or behind its end.
-pub fn text_behind(text: &str, start: usize) -> &str {
-    word_at(
-        text,
-        Span {
-            start,
-            end: text.len(),
         },
     )
 }
