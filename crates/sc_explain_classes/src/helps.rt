@@ -5,20 +5,16 @@ use sc_explain_text::{Lines, is_slip, push_instead_of, push_meant, push_near_bui
 use sc_text::Span;
 use sc_tree::{Class, ClassMark, System};
 
-/// Adds what is written in place of a part of Eiffel that is left out, and whether there is something.
-pub fn push_left_out(lines: &mut Lines, text: &str, system: &System, span: Span) -> bool {
+/// Adds what is written in place of a part of Eiffel that is left out.
+pub fn push_left_out(lines: &mut Lines, text: &str, system: &System, span: Span) {
     let Some((_, class)) = class_around(&system.classes, span) else {
-        return false;
+        return;
     };
     match &class.mark {
-        Some(mark) if class.name.span == span => push_instead_of(
-            lines,
-            word_at(text, span_of(mark)),
-        ),
-        _ => {
-            lines.push(help_of_left_out(class, span));
-            true
+        Some(mark) if class.name.span == span => {
+            push_instead_of(lines, word_at(text, span_of(mark)));
         }
+        _ => lines.push(help_of_left_out(class, span)),
     }
 }
 
@@ -38,17 +34,16 @@ fn help_of_left_out(class: &Class, span: Span) -> &'static str {
     "help: features are for all, below `feature`, or for no other, below `feature {NONE}`\n"
 }
 
-/// Adds a line that asks whether another class was meant, or else what is written in place of what this name shows, and
-/// whether there is one: the first class in the text whose name one slip of the pen makes this one.
-pub fn push_near_class(lines: &mut Lines, text: &str, system: &System, name: &str) -> bool {
+/// Adds a line that asks whether another class was meant, or else what is written in place of what this name shows: the
+/// first class in the text whose name one slip of the pen makes this one.
+pub fn push_near_class(lines: &mut Lines, text: &str, system: &System, name: &str) {
     if push_instead_of(lines, name) {
-        return true;
+        return;
     }
     for class in system.classes.iter() {
         if is_slip(class.name.text.as_bytes(), name.as_bytes()) {
-            push_meant(lines, word_at(text, class.name.span));
-            return true;
+            return push_meant(lines, word_at(text, class.name.span));
         }
     }
-    push_near_built_in(lines, name)
+    push_near_built_in(lines, name);
 }

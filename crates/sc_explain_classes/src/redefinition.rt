@@ -7,71 +7,67 @@ use sc_explain_text::{Lines, word_at};
 use sc_text::Span;
 use sc_tree::{Class, Feature, FeatureKind, Name, System};
 
-/// Adds how a feature that has the name of an inherited one is declared, where the one at fault has or is inherited, and
-/// whether it is that.
-pub fn push_redefine(lines: &mut Lines, text: &str, system: &System, span: Span) -> bool {
+/// Adds how a feature that has the name of an inherited one is declared, where the one at fault has or is inherited.
+pub fn push_redefine(lines: &mut Lines, text: &str, system: &System, span: Span) {
     let Some((_, class)) = class_around(&system.classes, span) else {
-        return false;
+        return;
     };
-    let Some(feature) = feature_around(class, span) else {
-        return false;
-    };
-    if feature.name.span != span {
-        return false;
+    match feature_around(class, span) {
+        Some(feature) if feature.name.span == span => {
+            push_for_relatives(lines, text, system, class, feature)
+        }
+        _ => {}
     }
+}
+
+/// Adds the same of a feature of the class, whose name an ancestor or an heir declares too.
+fn push_for_relatives(
+    lines: &mut Lines,
+    text: &str,
+    system: &System,
+    class: &Class,
+    feature: &Feature,
+) {
     for other in system.classes.iter() {
-        if let Some(known) = declared_in(other, &feature.name.text) {
-            if inherits(system, class, other) && other.span != class.span {
+        if other.span != class.span
+            && let Some(known) = declared_in(other, &feature.name.text)
+        {
+            if inherits(system, class, other) {
                 return push_for_heir(lines, text, class, known, feature);
             }
-            if inherits(system, other, class) && other.span != class.span {
+            if inherits(system, other, class) {
                 return push_for_heir(lines, text, other, feature, known);
             }
         }
     }
-    false
 }
 
 /// Adds how a class declares a feature again that it inherits.
-fn push_for_heir(
-    lines: &mut Lines,
-    text: &str,
-    heir: &Class,
-    inherited: &Feature,
-    own: &Feature,
-) -> bool {
+fn push_for_heir(lines: &mut Lines, text: &str, heir: &Class, inherited: &Feature, own: &Feature) {
     if !is_routine(inherited) || !is_routine(own) {
-        lines.push(
+        return lines.push(
             "help: give it another name: an attribute isn't redefined, and redefines nothing\n",
         );
-        return true;
     }
-    let Some(parent) = heir.parents.first() else {
-        return false;
-    };
-    let class = word_at(text, heir.name.span);
-    let parent = word_at(text, parent.name.span);
-    let name = word_at(text, own.name.span);
-    lines.push_all(&[
-        "help: to redefine it, ",
-        class,
-        " says so: `inherit ",
-        parent,
-        " redefine ",
-        name,
-        " end`\n",
-    ]);
-    true
+    if let Some(parent) = heir.parents.first() {
+        let class = word_at(text, heir.name.span);
+        let parent = word_at(text, parent.name.span);
+        let name = word_at(text, own.name.span);
+        lines.push_all(&[
+            "help: to redefine it, ",
+            class,
+            " says so: `inherit ",
+            parent,
+        ]);
+        lines.push_all(&[" redefine ", name, " end`\n"])
+    }
 }
 
-/// Adds what a redefinition at fault lacks, and whether it is known.
-pub fn push_unfit(lines: &mut Lines, system: &System, span: Span) -> bool {
-    let said = match class_around(&system.classes, span) {
-        None => return false,
-        Some((_, class)) => lacking(system, class, span),
-    };
-    lines.push_all(&["help: ", said, "\n"]);
-    true
+/// Adds what a redefinition at fault lacks, where it is known.
+pub fn push_unfit(lines: &mut Lines, system: &System, span: Span) {
+    if let Some((_, class)) = class_around(&system.classes, span) {
+        lines.push_all(&["help: ", lacking(system, class, span), "\n"])
+    }
 }
 
 /// What a redefinition at fault in this class lacks.

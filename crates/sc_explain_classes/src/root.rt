@@ -20,15 +20,6 @@ pub fn explain_root(lines: &mut Lines, text: &str, system: &System, root: &Root)
     }
 }
 
-/// Why a procedure of a class is no root.
-#[derive(Clone, Copy)]
-enum Unfit {
-    Missing,
-    GivesValue,
-    HasFormals,
-    Unlisted,
-}
-
 /// Adds why this class isn't run from the root's procedure, and what helps.
 fn push_unfit<'s>(
     lines: &mut Lines,
@@ -38,48 +29,41 @@ fn push_unfit<'s>(
     root: &Root,
 ) {
     let procedure = root.procedure.as_str();
-    let (said, help) = words_of(why_unfit(feature_named(system, class, procedure)));
+    let (said, help) = words_of(feature_named(system, class, procedure));
     lines.push_all(&["`", procedure, "` of the class `"]);
     lines.push_all(&[word_at(text, class.name.span), "`"]);
     lines.push(said);
-    if push_other_procedure(lines, text, system, class) {
-        return;
+    if !push_other_procedure(lines, text, system, class) {
+        lines.push(help)
     }
-    lines.push(help)
 }
 
-/// What is said of a procedure that is no root for this reason, and what helps where its class has no other.
-fn words_of(why: Unfit) -> (&'static str, &'static str) {
-    match why {
-        Unfit::Missing => (
+/// What is said of a feature that is no root, or of one that is missing, and what helps where its class has no other.
+fn words_of(feature: Option<&Feature>) -> (&'static str, &'static str) {
+    let Some(feature) = feature else {
+        return (
             " isn't there\n",
             "help: declare it, as `make do .. end`, and list it under `create`\n",
-        ),
-        Unfit::GivesValue => (
+        );
+    };
+    match &feature.kind {
+        FeatureKind::Routine(routine) if routine.result_type.is_none() => {
+            if routine.formals.is_empty() {
+                (
+                    " isn't listed under `create`\n",
+                    "help: list it before the first `feature`, as `create make`\n",
+                )
+            } else {
+                (
+                    " has formals, and a run begins without actuals\n",
+                    "help: declare a procedure without formals, and list it under `create`\n",
+                )
+            }
+        }
+        _ => (
             " gives a value, and a run begins with a procedure\n",
             "help: declare a procedure without formals, and list it under `create`\n",
         ),
-        Unfit::HasFormals => (
-            " has formals, and a run begins without actuals\n",
-            "help: declare a procedure without formals, and list it under `create`\n",
-        ),
-        Unfit::Unlisted => (
-            " isn't listed under `create`\n",
-            "help: list it before the first `feature`, as `create make`\n",
-        ),
-    }
-}
-
-/// Why a feature is no root, where it isn't one or isn't listed.
-fn why_unfit(feature: Option<&Feature>) -> Unfit {
-    match feature {
-        None => Unfit::Missing,
-        Some(feature) => match &feature.kind {
-            FeatureKind::Attribute(_) => Unfit::GivesValue,
-            FeatureKind::Routine(routine) if routine.result_type.is_some() => Unfit::GivesValue,
-            FeatureKind::Routine(routine) if !routine.formals.is_empty() => Unfit::HasFormals,
-            FeatureKind::Routine(_) => Unfit::Unlisted,
-        },
     }
 }
 
@@ -128,9 +112,14 @@ fn push_other_root(lines: &mut Lines, text: &str, system: &System, root: &Root) 
 
 /// Whether a class has a procedure of this name without formals.
 fn is_root<'s>(system: &'s System, class: &'s Class, name: &str) -> bool {
-    match why_unfit(feature_named(system, class, name)) {
-        Unfit::Unlisted => true,
-        _ => false,
+    match feature_named(system, class, name) {
+        None => false,
+        Some(feature) => match &feature.kind {
+            FeatureKind::Attribute(_) => false,
+            FeatureKind::Routine(routine) => {
+                routine.result_type.is_none() && routine.formals.is_empty()
+            }
+        },
     }
 }
 
