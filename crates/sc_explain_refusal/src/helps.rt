@@ -1,56 +1,50 @@
 //! What helps with a fault, with the types and names that are found there.
 
 use crate::fresh::fresh_name;
-use crate::remark::{Making, Misfit, Remark, Wanted};
-use crate::scope::{Scope, part_of};
+use crate::scope::{Scope, part_of, push_quoted};
 use crate::site::Place;
 use crate::types::{Compared, Passed};
 use sc_class::{ClassId, FeatureEntry};
 use sc_explain_text::{Lines, is_slip, push_instead_of, push_meant, push_near_word, word_at};
 use sc_proctype::{EntityType, Tag, conforms};
-use sc_rules::Context;
+use sc_rules::{Context, Role};
 use sc_text::Span;
 
 impl<'s> Scope<'s> {
-    /// Adds what helps, where something does.
-    pub fn push_helps(&self, lines: &mut Lines, remark: &Remark) {
-        match remark {
-            Remark::Name(misfit) => self.push_name_help(lines, *misfit),
-            Remark::Assigned(types, taker) => self.push_fitting(lines, types, *taker),
-            Remark::Passed(passed) => self.push_passing(lines, passed),
-            Remark::Given(given, Wanted::Reserved) if !given.attached => {
-                self.push_question(lines, *given, Asked::Value)
-            }
-            Remark::Target(given) if given.attached => self.push_reservation(lines, *given),
-            Remark::Target(given) => self.push_question(lines, *given, Asked::Target),
-            Remark::Made(making) => self.push_making(lines, *making),
-            Remark::Old(context) => lines.push(help_of_old(*context)),
-            _ => {}
-        }
-    }
-
     /// The part of the text at fault, or what stands for it.
     fn part(&self) -> &str {
         let part = part_of(self.text, self.span);
         if part.is_empty() { ".." } else { part }
     }
 
-    fn push_name_help(&self, lines: &mut Lines, misfit: Misfit) {
+    /// Adds that what is assigned isn't assignable, where it stands for this, or for a routine, and what helps.
+    pub fn push_fixed(&self, lines: &mut Lines, role: Option<Role>) {
+        let said = match role {
+            Some(Role::Formal) => " is a formal, and nothing is assigned to one\n",
+            Some(_) => " names an object here, and nothing is assigned to it\n",
+            None => " is a routine, and nothing is assigned to one\n",
+        };
+        self.push_said(lines, said);
+        if role.is_some() {
+            return self.push_local(lines, word_at(self.text, self.span));
+        }
+        lines.push(
+            "help: `Result` is what a function gives, and an attribute or a local keeps a value\n",
+        )
+    }
+
+    /// Adds that the class has no feature of the name, and which was meant.
+    pub fn push_lacking(&self, lines: &mut Lines, class: ClassId) {
         let name = word_at(self.text, self.span);
-        match misfit {
-            Misfit::Unknown => self.push_known(lines, name),
-            Misfit::Lacking(class) => {
-                if !push_instead_of(lines, name) {
-                    self.push_near_feature(lines, class, name);
-                }
-            }
-            Misfit::Fixed(Some(_)) => self.push_local(lines, name),
-            Misfit::Fixed(None) => {
-                lines.push(
-                    "help: `Result` is what a function gives, and an attribute or a local keeps a value\n",
-                )
-            }
-            _ => {}
+        lines.push_all(&["the class `", self.class_name(class)]);
+        push_quoted(
+            lines,
+            "` has no feature ",
+            part_of(self.text, self.span),
+            "\n",
+        );
+        if !push_instead_of(lines, name) {
+            self.push_near_feature(lines, class, name);
         }
     }
 
@@ -66,8 +60,12 @@ impl<'s> Scope<'s> {
         lines.push_all(&[name, "`\n"])
     }
 
-    /// Adds a name that is known there and near to this one, or what is written in place of what it shows.
-    fn push_known(&self, lines: &mut Lines, name: &str) {
+    /// Adds that nothing is known of the name, and a name that is known there and near to it, or what is written in place of
+    /// what it shows.
+    pub fn push_unknown(&self, lines: &mut Lines) {
+        let before = "nothing that is known here has the name ";
+        push_quoted(lines, before, part_of(self.text, self.span), "\n");
+        let name = word_at(self.text, self.span);
         let class = ClassId::Declared(self.routine.class);
         let is_told = push_instead_of(lines, name)
             || self.push_near_entity(lines, name)
@@ -100,27 +98,27 @@ impl<'s> Scope<'s> {
     }
 
     /// Adds what helps where a value of one type doesn't fit the other, by what alone is between them.
-    fn push_fitting(&self, lines: &mut Lines, types: &Compared, taker: Span) {
-        let Compared { given, taken } = *types;
+    pub fn push_fitting(&self, lines: &mut Lines, types: &Compared, taker: Span) {
         let taker = part_of(self.text, taker);
-        match self.between(given, taken) {
+        match self.between(types.given, types.taken) {
             Between::More => {}
             Between::Void => {
                 let behind = "` is declared `detachable`\n";
                 lines.push_all(&["help: Void is taken where `", taker, behind])
             }
-            Between::Mark => self.push_question(lines, given, Asked::Value),
-            Between::Tag => self.push_wider(lines, taken, taker),
+            Between::Mark => self.push_question(lines, types.given, true),
+            Between::Tag => self.push_wider(lines, types.taken, taker),
         }
     }
 
-    /// Adds what helps where an actual doesn't fit its formal. Where the handler alone is between them, that may be the one of
-    /// an actual that is missing.
-    fn push_passing(&self, lines: &mut Lines, passed: &Passed) {
-        let Compared { given, taken } = passed.compared;
-        match (passed.missing, self.between(given, taken)) {
+    /// Adds that an actual doesn't fit its formal, and what helps. Where the handler alone is between them, that may be the one
+    /// of an actual that is missing.
+    pub fn push_passed(&self, lines: &mut Lines, passed: &Passed) {
+        let types = &passed.compared;
+        self.push_compared(lines, types, ", and here the formal ", passed.formal);
+        match (passed.missing, self.between(types.given, types.taken)) {
             (Some(missing), Between::Tag) => self.push_missing(lines, passed.formal, missing),
-            _ => self.push_fitting(lines, &passed.compared, passed.formal),
+            _ => self.push_fitting(lines, types, passed.formal),
         }
     }
 
@@ -167,92 +165,82 @@ impl<'s> Scope<'s> {
         }
     }
 
-    /// Adds how it is asked whether the part at fault is Void, where that is of this type.
-    fn push_question(&self, lines: &mut Lines, given: EntityType, asked: Asked) {
-        let name = fresh_name(self.text, 0);
-        let (before, behind) = match self.way_to_ask(given.tag, asked) {
-            Way::Nowhere => {
-                return lines.push(
-                    "help: an invariant is a formula over attributes of its own object\n",
-                );
+    /// Adds how it is asked whether the part at fault is Void, which is of this type, where that is enough, and else how it is
+    /// reserved too.
+    pub fn push_question(&self, lines: &mut Lines, given: EntityType, is_enough: bool) {
+        let is_own = matches!(given.tag, Tag::Own);
+        match self.context {
+            Context::Invariant => {
+                lines.push("help: an invariant is a formula over attributes of its own object\n")
             }
-            Way::Formal => return self.push_formal(lines, given, name),
-            Way::Reserved => return self.push_question_and_block(lines, name),
-            Way::OfClass => (
-                "help: let a function of the class ask: `if attached ",
-                " then Result := .. end`\n",
-            ),
-            Way::Function => (
+            Context::Body | Context::Check => self.push_question_in_body(lines, is_own, is_enough),
+            _ if is_own => {
+                let before = "help: let a function of the class ask: `if attached ";
+                self.push_named(lines, before, " then Result := .. end`\n")
+            }
+            _ => self.push_formal(lines, given),
+        }
+    }
+
+    /// The same in a body, for what is of the own handler or another.
+    fn push_question_in_body(&self, lines: &mut Lines, is_own: bool, is_enough: bool) {
+        let (before, behind) = match self.place {
+            Place::Until if is_own => (
                 "help: let a function ask: `if attached ",
                 " then Result := .. end`\n",
             ),
-            Way::Condition => ("help: ask first: `attached ", " and then ..`\n"),
-            Way::Around => ("help: ask first: `if attached ", " then .. end`\n"),
+            Place::Condition if is_enough => ("help: ask first: `attached ", " and then ..`\n"),
+            _ if is_enough => ("help: ask first: `if attached ", " then .. end`\n"),
+            _ => return self.push_question_and_block(lines),
         };
-        self.push_named(lines, before, name);
+        self.push_named(lines, before, behind)
+    }
+
+    /// Adds the part at fault under a name that isn't known, between other texts.
+    fn push_named(&self, lines: &mut Lines, before: &str, behind: &str) {
+        lines.push_all(&[before, self.part(), " as "]);
+        lines.push(fresh_name(self.text, 0));
         lines.push(behind)
     }
 
-    /// Adds the part at fault under this name, behind another text.
-    fn push_named(&self, lines: &mut Lines, before: &str, name: &str) {
-        lines.push_all(&[before, self.part(), " as ", name])
-    }
-
     /// Adds how it is asked whether the part at fault is Void, and how its handler is reserved then.
-    fn push_question_and_block(&self, lines: &mut Lines, name: &str) {
+    fn push_question_and_block(&self, lines: &mut Lines) {
         let before = "help: ask first, and reserve it: `if attached ";
-        self.push_named(lines, before, name);
-        lines.push_all(&[" then separate ", name, " as "]);
-        let other = fresh_name(self.text, 1);
-        lines.push_all(&[other, " do .. end end`\n"])
-    }
-
-    /// How it is asked there whether what has this tag is Void.
-    fn way_to_ask(&self, tag: Tag, asked: Asked) -> Way {
-        match self.context {
-            Context::Invariant => Way::Nowhere,
-            Context::Body | Context::Check => self.way_in_body(tag, asked),
-            _ if matches!(tag, Tag::Own) => Way::OfClass,
-            _ => Way::Formal,
-        }
-    }
-
-    /// How it is asked in a body whether what has this tag is Void.
-    fn way_in_body(&self, tag: Tag, asked: Asked) -> Way {
-        let is_enough = asked == Asked::Value || matches!(tag, Tag::Own | Tag::With(_));
-        match self.place {
-            Place::Until if matches!(tag, Tag::Own) => Way::Function,
-            Place::Condition if is_enough => Way::Condition,
-            _ if is_enough => Way::Around,
-            _ => Way::Reserved,
-        }
+        self.push_named(lines, before, " then separate ");
+        lines.push(fresh_name(self.text, 0));
+        lines.push(" as ");
+        lines.push(fresh_name(self.text, 1));
+        lines.push(" do .. end end`\n")
     }
 
     /// Adds how the handler of the part at fault is reserved, where that is of this type.
-    fn push_reservation(&self, lines: &mut Lines, given: EntityType) {
-        let name = fresh_name(self.text, 0);
+    pub fn push_reservation(&self, lines: &mut Lines, given: EntityType) {
         if !matches!(self.context, Context::Body | Context::Check) {
-            return self.push_formal(lines, given, name);
+            return self.push_formal(lines, given);
         }
-        let before = match self.place {
-            Place::Until => return self.push_reserving_function(lines, given.class, name),
-            Place::Condition => "help: reserve it, and ask inside: `separate ",
-            Place::Instruction => "help: reserve it: `separate ",
-        };
-        self.push_named(lines, before, name);
-        lines.push(" do .. end`\n")
+        match self.place {
+            Place::Until => self.push_reserving_function(lines, given.class),
+            Place::Condition => {
+                let before = "help: reserve it, and ask inside: `separate ";
+                self.push_named(lines, before, " do .. end`\n")
+            }
+            Place::Instruction => {
+                let before = "help: reserve it: `separate ";
+                self.push_named(lines, before, " do .. end`\n")
+            }
+        }
     }
 
     /// Adds which function reserves an object of this class each time that it is called.
-    fn push_reserving_function(&self, lines: &mut Lines, class: ClassId, name: &str) {
-        let before = "help: let a function reserve it each time: `f (";
+    fn push_reserving_function(&self, lines: &mut Lines, class: ClassId) {
+        lines.push("help: let a function reserve it each time: `f (");
+        lines.push(fresh_name(self.text, 0));
         let behind = "): BOOLEAN do Result := .. end`\n";
-        let class = self.class_name(class);
-        lines.push_all(&[before, name, ": separate ", class, behind])
+        lines.push_all(&[": separate ", self.class_name(class), behind])
     }
 
     /// Adds that a contract calls what is reserved for a formal.
-    fn push_formal(&self, lines: &mut Lines, given: EntityType, name: &str) {
+    fn push_formal(&self, lines: &mut Lines, given: EntityType) {
         if self.part().eq_ignore_ascii_case("result") {
             return lines.push(
                 "help: leave the clause out: in a contract the handlers of formals alone are reserved\n",
@@ -262,45 +250,64 @@ impl<'s> Scope<'s> {
             attached: true,
             ..given
         };
-        lines.push_all(&[
-            "help: take it as an attached formal, which is reserved: `",
-            name,
-            "` of type ",
-        ]);
+        lines.push("help: take it as an attached formal, which is reserved: `");
+        lines.push(fresh_name(self.text, 0));
+        lines.push("` of type ");
         self.push_type(lines, attached, "\n")
     }
 
-    /// Adds how an object is made.
-    fn push_making(&self, lines: &mut Lines, making: Making) {
-        let (class, is_plain) = match making {
-            Making::Plain(class) => (class, true),
-            Making::By(class) => (class, false),
+    /// Adds that no object of this class is made without a procedure, and how one is made.
+    pub fn push_unmade(&self, lines: &mut Lines, class: ClassId) {
+        let said = match class {
+            ClassId::Declared(_) => "` has a `create` list\n",
+            _ => "` is no class of which objects are created\n",
         };
-        let ClassId::Declared(number) = class else {
-            return lines.push(help_of_built_in(class));
-        };
-        let name = word_at(self.text, self.span);
-        let creators = self.routine.tables.creators(number);
-        match creators.first() {
-            None => lines.push_all(&[
+        lines.push_all(&["the class `", self.class_name(class), said]);
+        match self.first_creator(class) {
+            None => self.push_no_creator(lines, class),
+            Some(first) => {
+                lines.push("help: name a procedure that it lists: `create ");
+                lines.push_all(&[word_at(self.text, self.span), "."]);
+                lines.push_all(&[first, "`\n"])
+            }
+        }
+    }
+
+    /// Adds that no object of this class is made by what is named, and how one is made.
+    pub fn push_unlisted(&self, lines: &mut Lines, class: ClassId) {
+        self.push_said(lines, " isn't in the `create` list of the class `");
+        lines.push_all(&[self.class_name(class), "`\n"]);
+        match self.first_creator(class) {
+            None => self.push_no_creator(lines, class),
+            Some(first) => {
+                lines.push_all(&["help: it lists `", first, "`, and takes `"]);
+                lines.push_all(&[word_at(self.text, self.span), "` once that is listed too\n"])
+            }
+        }
+    }
+
+    /// The first procedure that the class lists under `create`, if it does so.
+    fn first_creator(&self, class: ClassId) -> Option<&str> {
+        match class {
+            ClassId::Declared(number) => {
+                let first = self.routine.tables.creators(number).first()?;
+                Some(first.text.as_str())
+            }
+            _ => None,
+        }
+    }
+
+    /// Adds how an object is made of a class that lists no procedure under `create`.
+    fn push_no_creator(&self, lines: &mut Lines, class: ClassId) {
+        match class {
+            ClassId::Declared(_) => lines.push_all(&[
                 "help: `create` takes the variable alone, or the class lists it: `create ",
-                name,
+                word_at(self.text, self.span),
                 "`\n",
             ]),
-            Some(first) if is_plain => lines.push_all(&[
-                "help: name a procedure that it lists: `create ",
-                name,
-                ".",
-                first.text.as_str(),
-                "`\n",
-            ]),
-            Some(first) => lines.push_all(&[
-                "help: it lists `",
-                first.text.as_str(),
-                "`, and takes `",
-                name,
-                "` once that is listed too\n",
-            ]),
+            ClassId::Integer => lines.push("help: an INTEGER begins as 0, and is assigned\n"),
+            ClassId::Boolean => lines.push("help: a BOOLEAN begins as False, and is assigned\n"),
+            _ => lines.push("help: make an object of a class of your own, and assign it\n"),
         }
     }
 }
@@ -317,15 +324,6 @@ fn push_near_among(lines: &mut Lines, features: &[FeatureEntry<'_>], name: &str)
     false
 }
 
-/// What is asked whether it is Void.
-#[derive(Clone, Copy, PartialEq, Eq)]
-enum Asked {
-    /// The target of a call, which is to be reserved too.
-    Target,
-    /// A value that is passed or assigned.
-    Value,
-}
-
 /// What is between a type and another to which it doesn't conform.
 #[derive(Clone, Copy)]
 enum Between {
@@ -337,44 +335,4 @@ enum Between {
     Tag,
     /// More than one of these, or something else.
     More,
-}
-
-/// How it is asked whether something is Void.
-#[derive(Clone, Copy)]
-enum Way {
-    /// Not at all.
-    Nowhere,
-    /// By a test around the instruction.
-    Around,
-    /// By a test in front of the condition.
-    Condition,
-    /// By a test and a separate block around the instruction.
-    Reserved,
-    /// In a function.
-    Function,
-    /// In a function of the class, which a contract calls.
-    OfClass,
-    /// By an attached formal in its place.
-    Formal,
-}
-
-/// What helps where an object is to be made of a class that every system has.
-fn help_of_built_in(class: ClassId) -> &'static str {
-    match class {
-        ClassId::Integer => "help: an INTEGER begins as 0, and is assigned\n",
-        ClassId::Boolean => "help: a BOOLEAN begins as False, and is assigned\n",
-        _ => "help: make an object of a class of your own, and assign it\n",
-    }
-}
-
-/// What helps with an `old` in this part of a class's text.
-fn help_of_old(context: Context) -> &'static str {
-    match context {
-        Context::Ensure =>
-            "help: ask before in the body, keep the answer in a local, and compare in a `check`\n",
-        Context::Old => "help: leave this one out\n",
-        Context::Require => "help: leave it out: a precondition is asked before the body\n",
-        Context::Invariant => "help: leave it out: an invariant speaks of one state\n",
-        _ => "help: keep the value in a local before\n",
-    }
 }

@@ -7,14 +7,12 @@
 mod diagnosis;
 mod fresh;
 mod helps;
-mod remark;
-mod remark_text;
 mod scope;
 mod sentences;
 mod site;
+mod telling;
 mod told;
 mod types;
-mod untold;
 mod walk;
 
 pub use diagnosis::{Diagnosis, diagnose};

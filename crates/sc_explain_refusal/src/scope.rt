@@ -6,7 +6,6 @@ use sc_explain_text::Lines;
 use sc_proctype::{EntityType, Reserved, Tag};
 use sc_rules::{Context, Role, Rule};
 use sc_text::Span;
-use sc_tree::Declaration;
 use sc_typing::{Entity, RoutineContext};
 
 /// A part of a routine at which a rule fails: the text of the system, the routine, and the names that are
@@ -24,11 +23,16 @@ pub struct Scope<'s> {
 }
 
 impl<'s> Scope<'s> {
+    /// Adds the part of the text that is at fault, in quotes, and what is said of it behind.
+    pub fn push_said(&self, lines: &mut Lines, behind: &str) {
+        push_quoted(lines, "", part_of(self.text, self.span), behind)
+    }
+
     /// Adds a type in quotes, as it is declared, with the name of the formal or the block whose handler it is of, and what
     /// stands behind it.
     pub fn push_type(&self, lines: &mut Lines, given: EntityType, behind: &'static str) {
         lines.push_all(&["`", mark_of(given)]);
-        push_handler(lines, given.tag, self.handler_of(given.tag));
+        self.push_handler(lines, given.tag);
         lines.push(self.class_name(given.class));
         lines.push_all(&["`", unknown_handler(given), behind])
     }
@@ -47,32 +51,26 @@ impl<'s> Scope<'s> {
         }
     }
 
-    /// The name of the formal or the block whose handler the tag is of, if it is one's.
-    fn handler_of(&self, tag: Tag) -> &str {
+    /// Adds what stands in a type before the name of the class: whose handler it is of, which may have a name.
+    fn push_handler(&self, lines: &mut Lines, tag: Tag) {
         match tag {
-            Tag::With(Reserved::Formal(number)) => {
-                name_of_formal(self.text, self.routine.formals, number)
+            Tag::Own | Tag::None => {}
+            Tag::Any => lines.push("separate "),
+            Tag::With(reserved) => {
+                lines.push_all(&["separate <", self.name_of(reserved), ".handler> "])
             }
-            Tag::With(Reserved::BlockName(number)) => name_of_block(&self.names, number),
-            _ => "",
         }
     }
-}
 
-/// Adds what stands in a type before the name of the class: whose handler it is of, which may have a name.
-fn push_handler(lines: &mut Lines, tag: Tag, name: &str) {
-    match tag {
-        Tag::Own | Tag::None => {}
-        Tag::Any => lines.push("separate "),
-        Tag::With(_) => lines.push_all(&["separate <", name, ".handler> "]),
-    }
-}
-
-/// The name of the formal at a number.
-fn name_of_formal<'n>(text: &'n str, formals: &[Declaration], number: usize) -> &'n str {
-    match formals.get(number) {
-        None => "..",
-        Some(formal) => part_of(text, formal.name.span),
+    /// The name of the formal or the block that something is reserved for.
+    fn name_of(&self, reserved: Reserved) -> &str {
+        match reserved {
+            Reserved::Formal(number) => match self.routine.formals.get(number) {
+                None => "..",
+                Some(formal) => part_of(self.text, formal.name.span),
+            },
+            Reserved::BlockName(number) => name_of_block(&self.names, number),
+        }
     }
 }
 

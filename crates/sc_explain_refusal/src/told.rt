@@ -1,9 +1,7 @@
 //! A sentence on one fault, with the types and names that are found in the checked tables.
 
-use crate::remark::{Misfit, Remark};
 use crate::scope::{Scope, part_of};
-use crate::site::{Aim, Found, Kind, Place, Search, Site, pass_clauses};
-use crate::untold::Untold;
+use crate::site::{Aim, Found, Kind, Place, Search, pass_clauses};
 use crate::walk::Walk;
 use sc_class::{ClassId, Root, Tables};
 use sc_explain_classes::{class_around, feature_around, let_tables_go, tables_of};
@@ -155,7 +153,7 @@ impl<'s> Walk<'s> {
     fn push_found(&mut self, lines: &mut Lines) -> bool {
         match self.search.found {
             Found::Nothing | Found::Faulty => false,
-            Found::At(site) => self.scope.push_at(lines, site),
+            Found::At(site) => self.scope.tell(lines, site),
             Found::OutOfMemory => {
                 lines.lack();
                 true
@@ -165,41 +163,18 @@ impl<'s> Walk<'s> {
 }
 
 impl<'s> Scope<'s> {
-    /// Adds what is told of what stands there, and whether there is something.
-    fn push_at(&mut self, lines: &mut Lines, site: Site<'s>) -> bool {
-        self.context = site.context;
-        self.place = site.place;
-        match self.remark(site) {
-            Ok(remark) => {
-                self.push_lines(lines, &remark);
-                true
-            }
-            Err(Untold::Nothing) => false,
-            Err(Untold::OutOfMemory) => {
-                lines.lack();
-                true
-            }
-        }
-    }
-
     /// Adds what is told of a name that the class lists under `create`, and whether it is one.
     fn push_creator(&self, lines: &mut Lines, creators: &[Name]) -> bool {
         let is_creator = is_among(self.span, creators);
         if is_creator {
-            let misfit = match self.rule {
-                Rule::UnknownName => Misfit::Lacking(ClassId::Declared(self.routine.class)),
-                _ => Misfit::Creator,
-            };
-            self.push_lines(lines, &Remark::Name(misfit));
+            match self.rule {
+                Rule::UnknownName => {
+                    self.push_lacking(lines, ClassId::Declared(self.routine.class))
+                }
+                _ => self.push_said(lines, " gives a value, and a procedure creates\n"),
+            }
         }
         is_creator
-    }
-
-    /// Adds a remark, and what helps.
-    fn push_lines(&self, lines: &mut Lines, remark: &Remark) {
-        self.push_remark(lines, remark);
-        lines.push("\n");
-        self.push_helps(lines, remark)
     }
 }
 

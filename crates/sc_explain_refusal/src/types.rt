@@ -1,20 +1,20 @@
 //! The types that a rule compares at a part of the text.
 
-ghost use Rattle.std.specs.Prelude.{◌≡◌, false, IfOk};
+ghost use Rattle.std.specs.Prelude.{◌≡◌, false, IfSome};
 ghost use Rattle.sc_rules.specs.Positions.{is_condition};
 ghost use Rattle.sc_class.specs.SystemIn.{system_in};
 ghost use Rattle.sc_explain_refusal.specs.Mismatch.{IsMismatch};
 
 use crate::scope::Scope;
-use crate::untold::Untold;
 use sc_class::{ClassId, Tables};
 use sc_combine::{Known, combine_argument};
+use sc_explain_text::Lines;
 use sc_proctype::{EntityType, Reserved, Tag, conforms};
 use sc_rules::{Context, Position};
 use sc_text::Span;
 use sc_tree::{Call, Declaration, Expr, Variable};
 use sc_typing::{Assignee, CheckFault, JudgedActual, Typing, declared_type, judged_type};
-use std::alloc::{AllocError, Global};
+use std::alloc::Global;
 
 /// What is given, and what would be taken.
 #[derive(Clone, Copy)]
@@ -33,23 +33,25 @@ pub struct Passed {
 }
 
 /// The types, where the one doesn't conform to the other.
-fn mismatch(tables: &Tables, given: EntityType, taken: EntityType) -> Result<Compared, Untold>
-    ensures { IfOk result (IsMismatch (system_in tables.now)) }
+fn mismatch(tables: &Tables, given: EntityType, taken: EntityType) -> Option<Compared>
+    ensures { IfSome result (IsMismatch (system_in tables.now)) }
 {
     let is_taken = conforms(tables, given, taken);
     if is_taken {
-        return Err(Untold::Nothing);
+        return None;
     }
-    Ok(Compared { given, taken })
+    Some(Compared { given, taken })
 }
 
-/// What is known of the handlers of the actuals of a call.
-fn known_handlers(alloc: Global, found: &[JudgedActual]) -> Result<Vec<Known>, AllocError> {
-    let mut known = Vec::with_capacity(alloc, found.len())?;
+/// What is known of the handlers of the actuals of a call. The lines lack something where memory runs out.
+fn known_handlers(alloc: Global, lines: &mut Lines, found: &[JudgedActual]) -> Vec<Known> {
+    let mut known = Vec::new(alloc);
     for actual in found {
-        known.push(known_handler(actual))?;
+        if known.push(known_handler(actual)).is_err() {
+            lines.lack();
+        }
     }
-    Ok(known)
+    known
 }
 
 /// What is known of the handler of an actual.
@@ -62,52 +64,57 @@ fn known_handler(actual: &JudgedActual) -> Known {
 
 /// The place of the name of the formal that the tag of this type names, where it is none of so many first ones.
 fn missing_formal(formals: &[Declaration], declared: EntityType, actuals: usize) -> Option<Span> {
-    let Tag::With(Reserved::Formal(number)) = declared.tag else {
-        return None;
-    };
-    if number < actuals {
-        return None;
-    }
-    match formals.get(number) {
-        None => None,
-        Some(formal) => Some(formal.name.span),
+    match declared.tag {
+        Tag::With(Reserved::Formal(number)) if number >= actuals => {
+            Some(formals.get(number)?.name.span)
+        }
+        _ => None,
     }
 }
 
-/// The type of what was judged, if it has one.
-pub fn type_found(judged: Result<Typing, CheckFault>) -> Result<EntityType, Untold> {
-    match judged?.entity_type {
-        None => Err(Untold::Nothing),
-        Some(found) => Ok(found),
+/// The type of what was judged, if it has one. The lines lack something where memory ran out.
+pub fn type_found(lines: &mut Lines, judged: Result<Typing, CheckFault>) -> Option<EntityType> {
+    match judged {
+        Ok(typing) => typing.entity_type,
+        Err(fault) => {
+            pass_over(lines, fault);
+            None
+        }
+    }
+}
+
+/// Nothing is said of what has a fault. The lines lack something where memory ran out.
+pub fn pass_over(lines: &mut Lines, fault: CheckFault) {
+    if let CheckFault::OutOfMemory = fault {
+        lines.lack()
     }
 }
 
 /// The type of the actual at a number, if it has one.
-pub fn type_of_actual(found: &[JudgedActual], number: usize) -> Result<EntityType, Untold> {
-    let Some(actual) = found.get(number) else {
-        return Err(Untold::Nothing);
-    };
-    match judged_type(actual.judged) {
-        None => Err(Untold::Nothing),
-        Some(given) => Ok(given),
-    }
+pub fn type_of_actual(found: &[JudgedActual], number: usize) -> Option<EntityType> {
+    judged_type(found.get(number)?.judged)
 }
 
 impl<'s> Scope<'s> {
     /// The types of the right side of an assignment and of its left side, where they don't conform.
-    pub fn assigned_types(&self, variable: &Variable, value: &Expr) -> Result<Compared, Untold>
-        ensures { IfOk result (IsMismatch (system_in self.now.routine.now.tables.now)) }
+    pub fn assigned_types(
+        &self,
+        lines: &mut Lines,
+        variable: &Variable,
+        value: &Expr,
+    ) -> Option<Compared>
+        ensures { IfSome result (IsMismatch (system_in self.now.routine.now.tables.now)) }
     {
         let taken = self.type_of_variable(variable)?;
-        let given = self.type_of(Context::Body, Position::Source, value)?;
+        let given = self.type_of(lines, Context::Body, Position::Source, value)?;
         mismatch(self.routine.tables, given, taken)
     }
 
     /// The types of the head of a separate block and of what a block takes, where they don't conform.
-    pub fn head_types(&self, value: &Expr) -> Result<Compared, Untold>
-        ensures { IfOk result (IsMismatch (system_in self.now.routine.now.tables.now)) }
+    pub fn head_types(&self, lines: &mut Lines, value: &Expr) -> Option<Compared>
+        ensures { IfSome result (IsMismatch (system_in self.now.routine.now.tables.now)) }
     {
-        let given = self.type_of(Context::Body, Position::Plain, value)?;
+        let given = self.type_of(lines, Context::Body, Position::Plain, value)?;
         let taken = EntityType {
             attached: true,
             tag: Tag::Any,
@@ -116,62 +123,70 @@ impl<'s> Scope<'s> {
         mismatch(self.routine.tables, given, taken)
     }
 
-    /// The types of an actual, which is given, and of its formal, where they don't conform.
+    /// The types of the actual at a number, which is given, and of its formal, where they don't conform.
     pub fn passed_types(
         &self,
+        lines: &mut Lines,
         found: &[JudgedActual],
         target: EntityType,
         formals: &[Declaration],
         number: usize,
-        given: EntityType,
-    ) -> Result<Passed, Untold>
-        ensures { IfOk result (λ it. IsMismatch (system_in self.now.routine.now.tables.now) it.compared) }
+    ) -> Option<Passed>
+        ensures { IfSome result (λ it. IsMismatch (system_in self.now.routine.now.tables.now) it.compared) }
     {
-        let Some(formal) = formals.get(number) else {
-            return Err(Untold::Nothing);
-        };
+        let given = type_of_actual(found, number)?;
+        let formal = formals.get(number)?;
         let tables = self.routine.tables;
-        let Some(declared) = declared_type(tables, formals, &formal.declared_type) else {
-            return Err(Untold::Nothing);
-        };
-        let known = known_handlers(self.routine.alloc, found)?;
-        let taken = combine_argument(target, declared, &known);
-        Ok(Passed {
+        let declared = declared_type(tables, formals, &formal.declared_type)?;
+        let taken = self.type_taken(lines, found, target, declared);
+        Some(Passed {
             compared: mismatch(tables, given, taken)?,
             formal: formal.name.span,
             missing: missing_formal(formals, declared, found.len()),
         })
     }
 
+    /// The type that a formal of this declared type takes among these actuals, behind a target of this type.
+    fn type_taken(
+        &self,
+        lines: &mut Lines,
+        found: &[JudgedActual],
+        target: EntityType,
+        declared: EntityType,
+    ) -> EntityType {
+        let known = known_handlers(self.routine.alloc, lines, found);
+        combine_argument(target, declared, &known)
+    }
+
     /// The type of an expression at this position, which is no condition's, if it has one.
     pub fn type_of(
         &self,
+        lines: &mut Lines,
         context: Context,
         position: Position,
         e: &Expr,
-    ) -> Result<EntityType, Untold>
+    ) -> Option<EntityType>
         requires { is_condition position ≡ false }
     {
-        type_found(self.routine.expression(context, position, &self.names, e))
+        type_found(
+            lines,
+            self.routine.expression(context, position, &self.names, e),
+        )
     }
 
     /// The type of an entity that is assigned or created, if it has one.
-    pub fn type_of_variable(&self, variable: &Variable) -> Result<EntityType, Untold> {
+    pub fn type_of_variable(&self, variable: &Variable) -> Option<EntityType> {
         match self.routine.assignee(&self.names, variable) {
-            Assignee::Local(Some(found)) | Assignee::Attribute(Some(found)) => Ok(found),
-            _ => Err(Untold::Nothing),
+            Assignee::Local(found) | Assignee::Attribute(found) => found,
+            Assignee::Unknown | Assignee::NotAssignable => None,
         }
     }
 
     /// The type of the target of a call, if it has one.
-    pub fn type_of_target(
-        &self,
-        context: Context,
-        call: &Call,
-    ) -> Result<Option<EntityType>, Untold> {
+    pub fn type_of_target(&self, lines: &mut Lines, call: &Call) -> Option<EntityType> {
         match &call.target {
-            None => Ok(None),
-            Some(target) => Ok(Some(self.type_of(context, Position::Plain, target)?)),
+            None => None,
+            Some(target) => self.type_of(lines, self.context, Position::Plain, target),
         }
     }
 }
