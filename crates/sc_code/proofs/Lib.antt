@@ -24,3 +24,5 @@ pub mod TypingOrigins
 pub mod TypingRoutines
 pub mod ProgramRows
 pub mod InvariantFormulas
+pub mod Joins
+pub mod JoinFacts

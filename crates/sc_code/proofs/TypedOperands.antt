@@ -8,7 +8,6 @@ use Rattle.sc_tree.specs.declared.expression.BinaryOperator.{BinaryOperator}
 use Rattle.sc_tree.specs.declared.expression.BinaryOperator.TheVariants as binary
 use Rattle.sc_tree.specs.Plain as tree
 use Rattle.sc_tree.specs.Plain.{Expr, Exprs}
-use Rattle.sc_class.specs.declared.identity.ClassId.TheVariants as class
 use Rattle.sc_class.proofs.Items.{some_is}
 use Rattle.sc_proctype.specs.declared.entity_type.EntityType.{EntityType}
 use Rattle.sc_proctype.specs.Conformance.{integer, boolean}
@@ -26,7 +25,7 @@ use Rattle.sc_rules.specs.Laws.{AllDeclared, HasResult, are_typed}
 use Rattle.sc_rules.proofs.OldOperands.{operand_of_old}
 use Rattle.sc_rules.proofs.Typings.{every_typed}
 use Rattle.sc_model.specs.Olds.{olds_of, olds_of_each}
-use Rattle.sc_code.specs.Places.{Setting, here, slot_named, unary_type, binary_type}
+use Rattle.sc_code.specs.Places.{Setting, slot_named, unary_type, binary_type}
 use Rattle.sc_code.specs.Typed.{is_old}
 
 -- ---- names

@@ -1,5 +1,5 @@
 -- The attributes of a class, and its joined invariant over them.
-use Rattle.std.specs.Prelude.{ℕ, Bool, false, List, [], ◌∷◌, Option, Some, None}
+use Rattle.std.specs.Prelude.{ℕ, false, List, [], ◌∷◌, Option, Some, None}
 use Rattle.std.specs.Option.{option_map}
 use Rattle.sc_formula.specs.Formula.{PlainFormula}
 use Rattle.sc_formula.specs.Formula as formula

@@ -12,4 +12,5 @@ pub mod Programs
 pub mod RequestRoom
 pub mod CheckedImages
 pub mod Invariants
+pub mod Superinstructions
 pub use Rattle.sc_model.specs.declared.cause.Cause

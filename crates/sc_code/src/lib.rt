@@ -13,6 +13,7 @@ mod numbers;
 mod operation;
 mod program;
 mod site;
+mod superinstruction;
 mod text_site;
 
 pub use numbers::{ClassNumber, NameNumber};
@@ -23,4 +24,5 @@ pub use program::{
     RoutineText,
 };
 pub use site::{CallSite, CreationSite, Heads, ObjectTest, Residence, TestedType};
+pub use superinstruction::{IntegerPair, Source, Superinstruction, Target, superinstructions_of};
 pub use text_site::{Assertion, NameSpan, SiteKind, TextSite};

@@ -25,3 +25,4 @@ pub mod Rows
 pub mod Loops
 pub mod Switches
 pub mod OneObject
+pub mod Loads
