@@ -26,3 +26,4 @@ pub mod ProgramRows
 pub mod InvariantFormulas
 pub mod Joins
 pub mod JoinFacts
+pub mod SuperinstructionRows
