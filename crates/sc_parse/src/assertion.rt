@@ -7,6 +7,7 @@ ghost use Rattle.sc_parse.specs.Reading.Reads.{ahead, tag_in, clause_in, clauses
 use crate::cursor::Parser;
 use crate::expression::TOP;
 use crate::fault::ParseFault;
+use crate::list::fitted;
 use crate::look::begins_with;
 use sc_text::{Terminal, Token, TokenKind};
 use sc_tree::{Clause, Name};
@@ -55,7 +56,7 @@ impl<'a> Parser<'a> {
         let mut found = Vec::new(self.alloc);
         for _turn in 0..self.rest.len() {
             if !self.begins_expression() {
-                return Ok(found);
+                return Ok(fitted(found));
             }
             let clause = self.clause(room)?;
             found.push(clause)?;

@@ -8,6 +8,7 @@ ghost use Rattle.sc_parse.specs.Reading.Reads.{ahead, expr_in, exprs_in, target_
 use crate::cursor::Parser;
 use crate::expression::{TOP, deeper};
 use crate::fault::ParseFault;
+use crate::list::fitted;
 use sc_text::Terminal;
 use sc_tree::{Call, Expr};
 
@@ -115,7 +116,7 @@ impl<'a> Parser<'a> {
         let mut height = first_height;
         for _turn in 0..self.rest.len() {
             if !self.sees(Terminal::Comma) {
-                return Ok((found, height));
+                return Ok((fitted(found), height));
             }
             self.take();
             let (expr, expr_height) = self.nested(TOP, room)?;

@@ -8,6 +8,7 @@ ghost use Rattle.sc_parse.specs.Reading.Reads.{ahead, declarations_in, names_in,
 
 use crate::cursor::Parser;
 use crate::fault::ParseFault;
+use crate::list::fitted;
 use crate::types::copied_type;
 use sc_text::Terminal;
 use sc_tree::{Declaration, DeclaredType, Name};
@@ -54,7 +55,7 @@ impl<'a> Parser<'a> {
         let mut found = first;
         for _turn in 0..self.rest.len() {
             if !(self.sees(Terminal::Semicolon) || self.sees_name()) {
-                return Ok(found);
+                return Ok(fitted(found));
             }
             self.skip(Terminal::Semicolon);
             let mut declarations = self.declaration()?;
@@ -89,7 +90,7 @@ impl<'a> Parser<'a> {
         self.take();
         for _turn in 0..self.rest.len() {
             if !self.sees_name() {
-                return Ok(found);
+                return Ok(fitted(found));
             }
             let mut declarations = self.declaration()?;
             found.append(&mut declarations)?;

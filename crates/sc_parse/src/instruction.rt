@@ -9,6 +9,7 @@ ghost use Rattle.sc_parse.specs.Reading.Reads.{ahead, variable_in, clauses_in, e
 use crate::cursor::Parser;
 use crate::expression::TOP;
 use crate::fault::ParseFault;
+use crate::list::fitted;
 use sc_text::{Span, Terminal};
 use sc_tree::{Branch, Clause, CreationCall, Expr, Head, Instr, Variable};
 
@@ -23,7 +24,7 @@ impl<'a> Parser<'a> {
         let mut found = Vec::new(self.alloc);
         for _turn in 0..self.rest.len() {
             if !self.begins_instruction() {
-                return Ok(found);
+                return Ok(fitted(found));
             }
             let instr = self.instruction(room)?;
             found.push(instr)?;

@@ -15,6 +15,7 @@ mod fault;
 mod feature;
 mod instruction;
 mod laws;
+mod list;
 mod look;
 mod operator;
 mod system;

@@ -124,6 +124,7 @@ pub exprs-returns-then-not-sees-clause-read : goal.exprs-returns-then-not-sees-c
 exprs-returns-then-not-sees-clause-read t c =
     sym c.loop-turn.invariant.same
     ∙ exprs_none (nested c.args.room) _ c.loop-turn._turn (exprs_in c.loop-turn.found) c.loop-turn.height (ahead c.loop-turn.self) _ c.loop-turn-test.true c.sees.ensures c.if-not-sees.true
+    ∙ ap (λ (es : plain.Exprs). Ok (es, c.loop-turn.height, ahead c.loop-turn.self)) (sym (ap exprs_of c.fitted.ensures))
 
 pub exprs-returns-in_err-expr-clause-read : goal.exprs-returns-in_err-expr-clause-read
 exprs-returns-in_err-expr-clause-read t c =

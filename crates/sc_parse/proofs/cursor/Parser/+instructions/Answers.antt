@@ -1,11 +1,11 @@
-use Rattle.std.proofs.Common.{ap, sym, ◌∙◌, max, suc, arith}
+use Rattle.std.proofs.Common.{ap, sym, ◌∙◌, max, suc, Ok, arith}
 use Rattle.std.proofs.lemmas.Grind.{common_steps}
 use Rattle.sc_tree.proofs.ViewLemmas.{instr_of-if, instr_of-loop, instr_of-block}
 use Rattle.sc_parse.proofs.Views.{instrs_of-push, branches_of-push}
 use Rattle.sc_parse.specs.Reading.Instructions.{conditional}
 use Rattle.sc_tree.specs.View.{instrs_of, branches_of}
 use Rattle.sc_text.specs.declared.token.Span.{Span}
-use Rattle.sc_tree.specs.Plain.{Loop, Block}
+use Rattle.sc_tree.specs.Plain.{Loop, Block, Instrs}
 use Rattle.sc_parse.specs.Reading.Reads.{ahead, expr_in, heads_in, instrs_in, branches_in}
 use Rattle.sc_parse.proofs.Turns.{instrs_begin, instrs_end, instrs_more, instrs_none, instrs_fail, branches_begin, branches_end, branches_more, branches_none, branches_fail}
 use Rattle.sc_tree.proofs.ReadingSteps.{bind_ok}
@@ -73,7 +73,8 @@ instructions-returns-then-not-begins_instruction t c =
     let q = c.loop-turn.invariant in (
       q.0,
       sym q.1 ∙ instrs_none c.args.room _ c.loop-turn._turn (instrs_in c.loop-turn.found) q.0 (ahead c.loop-turn.self) _
-          c.loop-turn-test.true c.begins_instruction.ensures c.if-not-begins_instruction.true,
+          c.loop-turn-test.true c.begins_instruction.ensures c.if-not-begins_instruction.true
+          ∙ ap (λ (is : Instrs). Ok (is, q.0, ahead c.loop-turn.self)) (sym (ap instrs_of c.fitted.ensures)),
     )
 
 pub instructions-returns-in_err-instr : goal.instructions-returns-in_err-instr

@@ -1,4 +1,5 @@
-use Rattle.std.proofs.Common.{ap, sym, ◌∙◌, max, map}
+use Rattle.std.proofs.Common.{List, Ok, ap, sym, ◌∙◌, max, map}
+use Rattle.sc_tree.specs.Plain.{Clause}
 use Rattle.sc_tree.specs.View.{clause_of}
 use Rattle.sc_parse.proofs.Views.{map-push}
 use Rattle.sc_parse.specs.Reading.Reads.{ahead, clauses_in}
@@ -25,7 +26,8 @@ returns-then-not-begins_expression c =
     let q = c.loop-turn.invariant in (
       q.0,
       sym q.1 ∙ clauses_none c.args.room _ c.loop-turn._turn (clauses_in c.loop-turn.found) q.0 (ahead c.loop-turn.self) _
-          c.loop-turn-test.true c.begins_expression.ensures c.if-not-begins_expression.true,
+          c.loop-turn-test.true c.begins_expression.ensures c.if-not-begins_expression.true
+          ∙ ap (λ (xs : List Clause). Ok (xs, q.0, ahead c.loop-turn.self)) (sym (ap (λ (xs : _). map clause_of xs) c.fitted.ensures)),
     )
 
 pub returns-in_err-clause : goal.returns-in_err-clause

@@ -1,5 +1,6 @@
-use Rattle.std.proofs.Common.{ap, sym, ◌∙◌, map}
+use Rattle.std.proofs.Common.{List, Ok, ap, sym, ◌∙◌, map}
 use Rattle.std.proofs.lemmas.List.{map-append}
+use Rattle.sc_tree.specs.Plain.{Declaration}
 use Rattle.sc_tree.specs.View.{declaration_of}
 use Rattle.sc_parse.specs.Reading.Reads.{ahead, declarations_in}
 use Rattle.sc_parse.proofs.Lists.{locals_begin, locals_absent, locals_more, locals_none, locals_fail, locals_end}
@@ -24,6 +25,7 @@ pub returns-then-not-sees_name : goal.returns-then-not-sees_name
 returns-then-not-sees_name c =
     sym c.loop-turn.invariant
     ∙ locals_none _ c.loop-turn._turn (declarations_in c.loop-turn.found) (ahead c.loop-turn.self) _ c.loop-turn-test.true c.sees_name.ensures c.if-not-sees_name.true
+    ∙ ap (λ (ds : List Declaration). Ok (ds, ahead c.loop-turn.self)) (sym (ap (λ (ds : _). map declaration_of ds) c.fitted.ensures))
 
 pub returns-in_err-declarations : goal.returns-in_err-declarations
 returns-in_err-declarations c =

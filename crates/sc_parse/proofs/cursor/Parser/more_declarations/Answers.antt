@@ -1,8 +1,9 @@
-use Rattle.std.proofs.Common.{◌≡◌, Bool, true, false, ◌||◌, ap, sym, ◌∙◌, map}
+use Rattle.std.proofs.Common.{◌≡◌, Bool, true, false, ◌||◌, List, Ok, ap, sym, ◌∙◌, map}
 use Rattle.std.proofs.lemmas.List.{map-append}
 use Rattle.std.proofs.lemmas.Result.{err_from_is_err_and}
 use Rattle.sc_text.specs.declared.token.Terminal.TheVariants as terminal
 use Rattle.sc_parse.specs.Reading.Looks.{sees, name_ahead}
+use Rattle.sc_tree.specs.Plain.{Declaration}
 use Rattle.sc_tree.specs.View.{declaration_of}
 use Rattle.sc_parse.specs.Reading.Reads.{ahead, declarations_in}
 use Rattle.sc_parse.proofs.Faults.{Fails-along}
@@ -28,6 +29,7 @@ returns-then-not-sees_name c =
       | else-sees w ↦ by_second _ _ c.sees.result w.sees_name.result _ c.sees.ensures w.if-sees.false w.sees_name.ensures w.value-is
     ] in
     sym c.loop-turn.invariant ∙ declarations_none _ c.loop-turn._turn (declarations_in c.loop-turn.found) ts _ c.loop-turn-test.true seen c.if-not-sees_name.true
+    ∙ ap (λ (ds : List Declaration). Ok (ds, ts)) (sym (ap (λ (ds : _). map declaration_of ds) c.fitted.ensures))
 
 pub returns-in_err-declarations : goal.returns-in_err-declarations
 returns-in_err-declarations c =
