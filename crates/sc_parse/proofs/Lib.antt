@@ -1,6 +1,7 @@
 pub mod Views
 pub mod Faults
 pub mod Turns
+pub mod Levels
 pub mod Steps
 pub mod Lists
 pub mod SharedExports

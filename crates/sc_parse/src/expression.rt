@@ -1,8 +1,8 @@
 //! Expressions (ECMA-367, 8.28).
 
-ghost use Rattle.std.specs.Prelude.{◌≡◌, ◌≤◌, ◌<◌, max, IfOk};
+ghost use Rattle.std.specs.Prelude.{◌≡◌, ◌≤◌, ◌<◌, max, Ok, IfOk};
 ghost use Rattle.sc_tree.specs.Plain as plain;
-ghost use Rattle.sc_parse.specs.Reading.Looks.{left};
+ghost use Rattle.sc_parse.specs.Reading.Looks.{Ahead, left};
 ghost use Rattle.sc_parse.specs.Reading.Expressions as spec;
 ghost use Rattle.sc_parse.specs.Reading.Reads.{ahead, expr_in, Reads};
 
@@ -46,16 +46,12 @@ impl<'a> Parser<'a> {
     /// An expression of the class whose tokens have at most `room` constructs around them, with the
     /// greatest number of constructs around one of them.
     #[cycle(expression)]
-    #[tactic(auto, using(crate::proofs::Turns::expr_zero, crate::proofs::Turns::expr_suc))]
     pub fn expr(&mut self, class: u8, room: u8) -> Result<(Expr, u8), ParseFault>
         ensures read { Reads expr_in (spec.expr room class (ahead self.old)) result (ahead self.new) }
         ensures high { IfOk result (λ p. p.1 ≤ room) }
     {
-        if class == 0 {
-            return self.operand(room);
-        }
-        let (left, height) = self.expr(class - 1, room)?;
-        self.operators(class - 1, room, left, height)
+        let (first, height) = self.operand(room)?;
+        self.operators_up_to(class, 0, room, first, height)
     }
 
     /// An expression inside the construct that the last token opened.
@@ -69,6 +65,30 @@ impl<'a> Parser<'a> {
             return Err(ParseFault::TooDeep { span: self.last });
         }
         self.expr(class, room - 1)
+    }
+
+    /// An expression of the class, of which one of the class `least` was read: the operators between that follow it,
+    /// those that bind tightest first, with their right operands.
+    #[cycle(expression)]
+    fn operators_up_to(
+        &mut self,
+        class: u8,
+        least: u8,
+        room: u8,
+        first: Expr,
+        first_height: u8,
+    ) -> Result<(Expr, u8), ParseFault>
+        requires ordered { least ≤ class }
+        requires high { first_height ≤ room }
+        ensures read { (ts : Ahead) → spec.expr room least ts ≡ Ok (expr_in first, first_height, ahead self.old)
+            → Reads expr_in (spec.expr room class ts) result (ahead self.new) }
+        ensures high { IfOk result (λ p. p.1 ≤ room) }
+    {
+        let Some(below) = self.next_class(least, class) else {
+            return Ok((first, first_height));
+        };
+        let (left, height) = self.operators(below, room, first, first_height)?;
+        self.operators_up_to(class, below + 1, room, left, height)
     }
 
     /// The first operand with the operators just above the class that follow it, and their right operands.

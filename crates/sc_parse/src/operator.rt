@@ -1,6 +1,6 @@
 //! Operators, and how they bind (ECMA-367, 8.28).
 
-ghost use Rattle.std.specs.Prelude.{◌≡◌};
+ghost use Rattle.std.specs.Prelude.{◌≡◌, ◌≤◌, ◌<◌, MatchOption};
 ghost use Rattle.sc_tree.specs.Grammar.Operators as grammar;
 ghost use Rattle.sc_parse.specs.Reading.Looks as spec;
 ghost use Rattle.sc_tree.specs.Internal.Reading.Looks as looks;
@@ -68,6 +68,7 @@ fn operator_of(terminal: Terminal) -> Option<BinaryOperator>
 }
 
 impl<'a> Parser<'a> {
+    ghost use Rattle.sc_parse.specs.Reading.Looks.{IsFree};
     ghost use Rattle.sc_parse.specs.Reading.Reads.{ahead};
 
     /// The operator before an operand that the next token is.
@@ -108,6 +109,24 @@ impl<'a> Parser<'a> {
             }
             operator => operator,
         }
+    }
+
+    /// The class that the operator ahead is just above, if that is one from `least` on and below `class`.
+    pub fn next_class(&self, least: u8, class: u8) -> Option<u8>
+        ensures { MatchOption result (IsFree least class (ahead self.now))
+            (λ below. (least ≤ below) × (below < class) × IsFree least below (ahead self.now)) }
+    {
+        let Some(operator) = self.any_operator() else {
+            return None;
+        };
+        let below = class_below(operator);
+        if below < least {
+            return None;
+        }
+        if class <= below {
+            return None;
+        }
+        Some(below)
     }
 
     /// The operator ahead, if it is one just above the class.

@@ -1,5 +1,5 @@
 -- What is left to read, and looks at it.
-use Rattle.std.specs.Prelude.{ℕ, ℤ, ◌||◌, Bool, if◌then◌else◌, List, [], ◌∷◌, length, Option, Result, Ok, Err}
+use Rattle.std.specs.Prelude.{ℕ, ℤ, ◌≡◌, ◌≤◌, ◌<◌, ◌||◌, Bool, if◌then◌else◌, List, [], ◌∷◌, length, Option, None, Result, Ok, Err}
 use Rattle.sc_text.specs.Kind.{Kind, NAME, STRING, kind_of, kinds_of}
 use Rattle.sc_text.specs.declared.token.Span.{Span}
 use Rattle.sc_text.specs.declared.token.Token.{Token}
@@ -130,6 +130,10 @@ operator_at q = looks.operator_at (kinds q)
 
 abbrev pub operator_ahead : ℕ → Ahead → Option BinaryOperator
 operator_ahead k q = looks.operator_ahead k (kinds q)
+
+-- No operator stands here that is just above a class from the first on and below the second.
+abbrev pub IsFree : ℕ → ℕ → Ahead → Type 0
+IsFree least class q = (k : ℕ) → least ≤ k → k < class → operator_ahead k q ≡ None
 
 abbrev pub past_all : List Terminal → Ahead → Ahead
 past_all [] q = q

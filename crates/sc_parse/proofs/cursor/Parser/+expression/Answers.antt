@@ -1,4 +1,4 @@
-use Rattle.std.proofs.Common.{◌≡◌, ℕ, refl, ◌∙◌, ap, sym, List, [], ◌∷◌, ◌++◌, Ok, arith}
+use Rattle.std.proofs.Common.{◌+◌, refl, ◌∙◌, ap, sym, List, [], ◌∷◌, ◌++◌, Ok, arith}
 use Rattle.std.proofs.lemmas.Result.{err_from_is_err_and}
 use Rattle.sc_tree.proofs.ReadingSteps.{choose_false}
 use Rattle.sc_tree.proofs.ViewLemmas.{expr_of-current, expr_of-result, expr_of-call, expr_of-object_test}
@@ -10,10 +10,45 @@ use Rattle.sc_tree.specs.View.{exprs_of}
 use Rattle.sc_parse.specs.Reading.Expressions.{nested, actuals}
 use Rattle.sc_parse.specs.Reading.Reads.{ahead, name_in, type_if_any_in, expr_in, exprs_in, target_in}
 use Rattle.sc_parse.proofs.Faults.{Fails-along, Reads-along}
-use Rattle.sc_parse.proofs.Turns.{operators_end, operators_begin, operators_deep, operators_fail, operators_done, calls_begin, calls_fail, calls_more, chain_current, chain_result, chain_fail, chain_dots, exprs_begin, exprs_more, exprs_none, exprs_fail, exprs_end, calls_none, calls_end}
+use Rattle.sc_parse.proofs.Levels.{free_of_no_class, stays, reaches, fails_higher}
+use Rattle.sc_parse.proofs.Turns.{expr_zero, operators_end, operators_begin, operators_deep, operators_fail, operators_done, calls_begin, calls_fail, calls_more, chain_current, chain_result, chain_fail, chain_dots, exprs_begin, exprs_more, exprs_none, exprs_fail, exprs_end, calls_none, calls_end}
 use Rattle.sc_parse.proofs.Parts.{object_test_read}
 use Rattle.sc_parse.proofs.Steps.{calling_is}
 use Rattle.sc_parse.proofs.cursor.Parser.+expression.Goals as goal
+
+-- ---- levels
+
+pub expr-returns-in_err-first-clause-read : goal.expr-returns-in_err-first-clause-read
+expr-returns-in_err-first-clause-read t c =
+    let ts = ahead c.args.self.now in
+    let p = err_from_is_err_and c.from_residual.result c.from_residual.ensures.1 in
+    rw (p.1, p.2)
+    (fails_higher c.args.room 0 c.args.class ts c.in_err-first.field-0.0 (omega arith)
+    (Fails-along _ _ c.in_err-first.field-0.0 (expr_zero c.args.room 0 ts refl) c.in_err-first.ensures.read))
+
+pub expr-returns-clause-read : goal.expr-returns-clause-read
+expr-returns-clause-read t c =
+    let ts = ahead c.args.self.now in
+    c.operators_up_to.ensures.read ts (expr_zero c.args.room 0 ts refl ∙ c.in_ok-first.ensures.read)
+
+pub operators_up_to-returns-in_default-clause-read : goal.operators_up_to-returns-in_default-clause-read
+operators_up_to-returns-in_default-clause-read t c =
+    λ ts given. stays c.args.room c.args.least c.args.class ts _ _ _ c.requires.ordered given (free_of_no_class c.next_class.result _ _ c.next_class.ensures c.in_default.not-Some)
+
+pub operators_up_to-returns-in_err-left-clause-read : goal.operators_up_to-returns-in_err-left-clause-read
+operators_up_to-returns-in_err-left-clause-read t c =
+    λ ts given.
+    let p = err_from_is_err_and c.from_residual.result c.from_residual.ensures.1 in
+    rw (p.1, p.2)
+    (fails_higher c.args.room (c.in-Some.below + 1) c.args.class ts c.in_err-left.field-0.0 (omega (arith, c.in-Some.ensures.1))
+    (Fails-along _ _ c.in_err-left.field-0.0 (reaches c.args.room c.args.least c.in-Some.below ts _ _ _ c.in-Some.ensures.0 given c.in-Some.ensures.2) c.in_err-left.ensures.read))
+
+pub operators_up_to-returns-clause-read : goal.operators_up_to-returns-clause-read
+operators_up_to-returns-clause-read t c =
+    λ ts given. c.operators_up_to.ensures.read ts
+    (reaches c.args.room c.args.least c.in-Some.below ts _ _ _ c.in-Some.ensures.0 given c.in-Some.ensures.2 ∙ c.in_ok-left.ensures.read)
+
+-- ---- operators
 
 pub operators-loop-turn-init : goal.operators-loop-turn-init
 operators-loop-turn-init t c = record { high = c.requires; same = operators_begin _ _ _ _ _ _ }

@@ -34,6 +34,9 @@ decreases-primary l = l.room * 1024 + 7
 abbrev pub decreases-operand : goal.decreases-operand
 decreases-operand l = l.room * 1024 + 8
 
+abbrev pub decreases-operators_up_to : goal.decreases-operators_up_to
+decreases-operators_up_to l = l.room * 1024 + (l.class - l.least) + 2
+
 abbrev pub decreases-expr : goal.decreases-expr
 decreases-expr l = l.room * 1024 + l.class + 9
 
