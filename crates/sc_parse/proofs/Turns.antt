@@ -133,6 +133,12 @@ operators_begin inner room k ts t h = ap (λ (f : ℕ). operators inner room k f
 
 -- ---- turns of calls
 
+-- where no dot stands, no call follows
+pub calls_alone : (inner : ℕ → Ahead → Read Expr) (room f : ℕ) (t : Expr) (h : ℕ) (ts : Ahead) (b : Bool) → b ≡ sees terminal.Dot ts → b ≡ false → calls inner room f t h ts ≡ Ok (t, h, ts)
+unfolding calls
+calls_alone inner room zero t h ts b q d = refl
+calls_alone inner room (suc f) t h ts b q d = choose_false (sees terminal.Dot ts) _ _ (sym q ∙ d)
+
 module _ (inner : ℕ → Ahead → Read Expr) (room n i : ℕ) (t : Expr) (h : ℕ) (ts : Ahead) where
   -- what follows a call
   abbrev pub after_call : Expr × ℕ × Ahead → Read Expr

@@ -11,7 +11,7 @@ use Rattle.sc_parse.specs.Reading.Expressions.{nested, actuals}
 use Rattle.sc_parse.specs.Reading.Reads.{ahead, name_in, type_if_any_in, expr_in, exprs_in, target_in}
 use Rattle.sc_parse.proofs.Faults.{Fails-along, Reads-along}
 use Rattle.sc_parse.proofs.Levels.{free_of_no_class, stays, reaches, fails_higher}
-use Rattle.sc_parse.proofs.Turns.{expr_zero, operators_end, operators_begin, operators_deep, operators_fail, operators_done, calls_begin, calls_fail, calls_more, chain_current, chain_result, chain_fail, chain_dots, exprs_begin, exprs_more, exprs_none, exprs_fail, exprs_end, calls_none, calls_end}
+use Rattle.sc_parse.proofs.Turns.{expr_zero, operators_end, operators_begin, operators_deep, operators_fail, operators_done, calls_begin, calls_fail, calls_more, chain_current, chain_result, chain_fail, chain_dots, calls_alone, exprs_begin, exprs_more, exprs_none, exprs_fail, exprs_end, calls_none, calls_end}
 use Rattle.sc_parse.proofs.Parts.{object_test_read}
 use Rattle.sc_parse.proofs.Steps.{calling_is}
 use Rattle.sc_parse.proofs.cursor.Parser.+expression.Goals as goal
@@ -118,6 +118,11 @@ chain-returns-in_err-head-clause-read t c =
     rw (p.1, p.2)
     (chain_fail (nested c.args.room) c.args.room (ahead c.args.self.now) _ c.sees.ensures c.if-sees.false _ c.sees-2.ensures _ _ c.if-sees-2.false c.next_start-start.ensures refl c.in_err-head.field-0.0
     c.in_err-head.ensures.read)
+
+pub chain-returns-then-not-sees-clause-read : goal.chain-returns-then-not-sees-clause-read
+chain-returns-then-not-sees-clause-read t c =
+    chain_dots (nested c.args.room) c.args.room (ahead c.args.self.now) _ c.sees.ensures c.if-sees.false _ c.sees-2.ensures _ _ c.if-sees-2.false c.next_start-start.ensures refl _ _ _ c.in_ok-head.ensures.read
+    ∙ calls_alone (nested c.args.room) c.args.room _ _ _ _ _ c.sees-3.ensures c.if-not-sees.true
 
 pub chain-returns-clause-read : goal.chain-returns-clause-read
 chain-returns-clause-read t c =
