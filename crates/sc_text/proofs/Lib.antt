@@ -5,3 +5,4 @@ pub mod PartLengths
 pub mod Sound
 pub mod Strings
 pub mod Whole
+pub mod WordLengths
