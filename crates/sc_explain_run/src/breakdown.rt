@@ -2,12 +2,13 @@
 
 use crate::history::{Turn, last_before, served_before, turn_at};
 use crate::moments::Moment;
+use crate::naming::{Asked, asked_feature, push_feature, push_place};
+use crate::origin::RunSource;
 use crate::supplier::supplier_of;
 use crate::words::{class_name, push_clause, push_false, push_routine, push_site};
 use sc_code::{RoutineText, SiteKind, TextSite};
 use sc_excerpt::excerpt;
 use sc_explain_text::Lines;
-use sc_explain_waiting::{Asked, RunSource, asked_feature, push_feature, push_place};
 use sc_lockpass::HandlerNumber;
 use sc_model::Cause;
 use sc_region::{Breakdown, BrokenInvariant, Errand, Point};

@@ -3,12 +3,13 @@
 use crate::breakdown::push_failing;
 use crate::limit::{Limit, push_limit};
 use crate::moments::{Kind, Moment, moments_of};
+use crate::origin::RunSource;
 use crate::replay::Replay;
+use crate::telling::push_waits;
 use sc_audit::RecordLine;
 use sc_code::Program;
 use sc_explain::find;
 use sc_explain_text::Lines;
-use sc_explain_waiting::{RunSource, push_waits};
 use sc_lockpass::{HandlerNumber, Version};
 use sc_model::{Cause, Status};
 use sc_source::source::Source;

@@ -1,7 +1,7 @@
 //! What the turns of a run tell of one handler.
 
+use crate::naming::{Asked, asked_by};
 use sc_code::ClassNumber;
-use sc_explain_waiting::{Asked, asked_by};
 use sc_handler::Log;
 use sc_lockpass::HandlerNumber;
 use sc_model::Cause;

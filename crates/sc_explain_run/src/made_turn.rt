@@ -1,13 +1,13 @@
 //! What one turn did, in words.
 
 use crate::history::{Ended, Turn, granted_at, turn_at};
+use crate::naming::{Asked, push_place, stand_of};
+use crate::origin::RunSource;
 use crate::printed::push_printed;
 use crate::waiting::Waiting;
+use crate::waits::{MOST_NEEDED, keeper_of, needed_at};
 use sc_explain::find;
 use sc_explain_text::Lines;
-use sc_explain_waiting::{
-    Asked, MOST_NEEDED, RunSource, keeper_of, needed_at, push_place, stand_of,
-};
 use sc_lockpass::HandlerNumber;
 use sc_model::{Cause, Status};
 use sc_region::Errand;

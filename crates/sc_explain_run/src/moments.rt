@@ -1,17 +1,16 @@
 //! What there was in front of a turn of a run: what is lost behind it.
 
+use crate::clause::{push_attributes, push_false_clause, push_operation_values};
 use crate::failure::Played;
 use crate::history::{
     Begun, Ended, Served, Turn, last_before, refused_before, served_before, turn_at,
 };
+use crate::naming::{asked_by, push_callers, push_name, push_request, push_stand};
+use crate::origin::RunSource;
 use crate::replay::Replay;
 use crate::supplier::supplier_of;
 use sc_audit::RecordLine;
 use sc_explain_text::Lines;
-use sc_explain_waiting::{
-    RunSource, asked_by, push_attributes, push_callers, push_false_clause, push_name,
-    push_operation_values, push_request, push_stand,
-};
 use sc_handler::Log;
 use sc_lockpass::HandlerNumber;
 use sc_model::{Cause, Status};

@@ -1,7 +1,7 @@
 //! Which handler a failed one needed.
 
 use crate::history::{Ended, created_last, turn_at, wanted_at};
-use sc_explain_waiting::MOST_NEEDED;
+use crate::waits::MOST_NEEDED;
 use sc_lockpass::HandlerNumber;
 use sc_model::Status;
 use sc_world::World;

@@ -1,11 +1,11 @@
 //! A run that is told as it goes on.
 
 use crate::made_turn::{Earlier, MadeTurn};
+use crate::origin::RunSource;
 use crate::waiting::Waiting;
 use sc_audit::RecordLine;
 use sc_code::Program;
 use sc_explain_text::Lines;
-use sc_explain_waiting::RunSource;
 use sc_lockpass::Version;
 use sc_source::source::Source;
 use sc_world::{Turned, World};

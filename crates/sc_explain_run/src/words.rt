@@ -1,8 +1,8 @@
 //! What stands at a place of a routine, in words.
 
+use crate::origin::RunSource;
 use sc_code::{Assertion, RoutineText, SiteKind, TextSite};
 use sc_explain_text::{Lines, binary_spelling};
-use sc_explain_waiting::RunSource;
 use sc_model::Cause;
 use sc_text::Span;
 use sc_tree::UnaryOperator;
