@@ -147,7 +147,8 @@ impl<'r> RunSource<'r> {
     /// The place of the first operation of a routine, of those before one, that was made of the same part of the text.
     fn first_place(&self, routine: usize, place: usize, whole: Span) -> usize {
         let mut first = place;
-        for before in (0..place).rev() {
+        for behind in 0..place {
+            let before = place - 1 - behind;
             match self.span_at(routine, before) {
                 Some(span) if whole.start <= span.start && span.end <= whole.end => first = before,
                 _ => return first,

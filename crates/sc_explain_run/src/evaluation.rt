@@ -330,8 +330,9 @@ impl<'r> Evaluation<'r> {
 
     /// The attribute of this number of an object, with what it got on the way.
     fn attribute(&self, object: Reference, number: usize) -> Option<Value> {
-        for place in (0..self.writes.len()).rev() {
-            if let Some(write) = self.writes.get(place)
+        let count = self.writes.len();
+        for behind in 0..count {
+            if let Some(write) = self.writes.get(count - 1 - behind)
                 && write.object.handler == object.handler
                 && write.object.number == object.number
                 && write.attribute == number

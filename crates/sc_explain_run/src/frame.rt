@@ -41,8 +41,9 @@ impl Values {
         for value in top.slots.iter() {
             values.push(*value);
         }
-        for count in (0..top.operands.len()).rev() {
-            if let Some(value) = top.operands.under(count) {
+        let count = top.operands.len();
+        for below in 0..count {
+            if let Some(value) = top.operands.under(count - 1 - below) {
                 values.push(value);
             }
         }

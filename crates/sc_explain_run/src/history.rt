@@ -143,7 +143,8 @@ pub fn wanted_at(log: &Log, place: usize, number: usize) -> Option<HandlerNumber
 
 /// The place of the last turn of a handler in front of a place.
 pub fn last_before(log: &Log, handler: HandlerNumber, end: usize) -> Option<usize> {
-    for place in (0..end).rev() {
+    for behind in 0..end {
+        let place = end - 1 - behind;
         if log.handler_at(place) == Some(handler) {
             return Some(place);
         }
@@ -153,7 +154,8 @@ pub fn last_before(log: &Log, handler: HandlerNumber, end: usize) -> Option<usiz
 
 /// The place of the last turn of a handler in front of a place by which it has refused a request that is waited for.
 pub fn refused_before(log: &Log, handler: HandlerNumber, end: usize) -> Option<usize> {
-    for place in (0..end).rev() {
+    for behind in 0..end {
+        let place = end - 1 - behind;
         if log.handler_at(place) == Some(handler)
             && let Ended::Done { is_refused: true } = turn_at(log, place)?.ended
         {
@@ -167,7 +169,8 @@ pub fn refused_before(log: &Log, handler: HandlerNumber, end: usize) -> Option<u
 /// The request that the handler has taken last in front of a place among those that haven't ended.
 pub fn served_before(log: &Log, handler: HandlerNumber, end: usize) -> Option<Served> {
     let mut ended = 0_usize;
-    for place in (0..end).rev() {
+    for behind in 0..end {
+        let place = end - 1 - behind;
         if log.handler_at(place) == Some(handler) {
             let turn = turn_at(log, place)?;
             if let Ended::Done { .. } = turn.ended {
@@ -186,7 +189,9 @@ pub fn served_before(log: &Log, handler: HandlerNumber, end: usize) -> Option<Se
 
 /// The handler that was last created for this one, and has begun.
 pub fn created_last(log: &Log, creator: HandlerNumber) -> Option<HandlerNumber> {
-    for place in (0..log.len()).rev() {
+    let end = log.len();
+    for behind in 0..end {
+        let place = end - 1 - behind;
         if let Begun::Takes(served) = turn_at(log, place)?.begun
             && served.asked.poster == Some(creator)
             && matches!(served.asked.errand, Errand::Makes(_))

@@ -9,7 +9,9 @@ use sc_world::World;
 /// The handler that this one asked last, or a failed one of those that it was to reserve last.
 pub fn supplier_of(world: &World<'_>, handler: HandlerNumber) -> Option<HandlerNumber> {
     let log = world.log();
-    for place in (0..log.len()).rev() {
+    let end = log.len();
+    for behind in 0..end {
+        let place = end - 1 - behind;
         if log.handler_at(place) == Some(handler) {
             match turn_at(log, place)?.ended {
                 Ended::Asks { supplier, .. } => return Some(supplier),
