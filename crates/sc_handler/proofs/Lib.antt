@@ -1,4 +1,6 @@
 mod SameValues
 mod SameLists
 mod Sames
+mod Packing
 mod Entries
+mod Places

@@ -1,11 +1,10 @@
 -- Values that are equal are the same.
-use Rattle.std.proofs.Common.{rules, ◌≡◌, ◌∙◌, ℕ, List, Bool, true, sym, ap, take}
+use Rattle.std.proofs.Common.{rules, ◌≡◌, ◌∙◌, List, Bool, true, sym, ap}
 use Rattle.arrayvec.specs.ArrayVec.{ArrayVec}
 use lib.Pointwise.{pointwise, pointwise_decides}
 use Rattle.sc_region.specs.declared.value.Value.{Value}
 use Rattle.sc_region.specs.declared.value.Value.TheVariants.{Integer, Boolean, Void, Attached}
 use Rattle.sc_region.specs.contracts.value.ValuePartialEq.TheImpl.{eq-value}
-use Rattle.sc_handler.specs.Packed.{first_of_all}
 
 abbrev Decides : Value → Value → Type 0
 Decides x y = (eq-value.it x y ≡ true → x ≡ y) × (x ≡ y → eq-value.it x y ≡ true)
@@ -28,14 +27,9 @@ decides (Attached r) (Boolean c) = search rules
 decides (Attached r) Void = search rules
 decides (Attached r) (Attached s) = search rules
 
--- so many of some actuals are as many of others
-pub same_first : (b : Bool) (m n : ℕ) (vs us : List Value) → b ≡ pointwise eq-value.it (take m vs) (take n us) →
-    (b ≡ true → first_of_all m vs ≡ first_of_all n us) × (first_of_all m vs ≡ first_of_all n us → b ≡ true)
-same_first b m n vs us is =
-    let both = pointwise_decides {E = eq-value.it} decides (take m vs) (take n us) in (
-      λ e. ap (λ (xs : List Value). record { items = xs }) (both.0 (sym is ∙ e)),
-      λ e. is ∙ both.1 (ap (λ (v : ArrayVec Value). v.items) e),
-    )
+pub same_lists : (b : Bool) (vs us : List Value) → b ≡ pointwise eq-value.it vs us → (b ≡ true → vs ≡ us) × (vs ≡ us → b ≡ true)
+same_lists b vs us is =
+    let both = pointwise_decides {E = eq-value.it} decides vs us in (λ e. both.0 (sym is ∙ e), λ e. is ∙ both.1 e)
 
 -- values that are told to be equal, or not, are those of two arrays
 pub same_values : (r : Bool) (a b : ArrayVec Value) (xs ys : List Value) → xs ≡ a.items → ys ≡ b.items → r ≡ pointwise eq-value.it xs ys →

@@ -1,29 +1,32 @@
--- What an entry of the log tells, with the actuals and the handlers of all entries beside it.
-use Rattle.std.specs.Prelude.{ℕ, ◌+◌, ◌≤◌, List, drop}
+-- What an entry of the log tells, with what all entries have in common beside it.
+use Rattle.std.specs.Prelude.{ℕ, ◌+◌, ◌<◌, ◌≤◌, List, drop, get_or, length}
 use Rattle.sc_region.specs.declared.value.Value.{Value}
-use Rattle.sc_handler.specs.declared.agreement.Beside.{Beside}
+use Rattle.sc_handler.specs.declared.logged.Beside.{Beside}
 use Rattle.sc_handler.specs.declared.logged.LogEntry.{LogEntry}
+use Rattle.sc_handler.specs.declared.packed.PackedJob.TheVariants.{Go}
+use Rattle.sc_handler.specs.declared.packed.PackedWant.TheVariants.{Continue}
+use Rattle.sc_handler.specs.declared.packed.PackedSettlement.{PackedSettlement}
 use Rattle.sc_handler.specs.declared.settlement.Settlement.{Settlement}
-use Rattle.sc_handler.specs.Packed.{actuals_in_job, actuals_in_want, handlers_in_job, handlers_in_want, unpacked_job, unpacked_want}
+use Rattle.sc_handler.specs.Packed.{unpacked, values_in, values_in_job, values_in_want}
 
--- its job's actuals lie from its place on, and its want's behind them; so do its handlers
-abbrev pub settlement_in : List Value → List ℕ → LogEntry → Settlement
-settlement_in vs ks e = record {
-  handler = e.handler;
-  job = unpacked_job e.job (drop e.first_actual vs) (drop e.first_handler ks);
-  turns = e.turns;
-  want = unpacked_want e.want (drop (e.first_actual + actuals_in_job e.job) vs)
-      (drop (e.first_handler + handlers_in_job e.job) ks);
-}
+-- a packed settlement in the place of one that isn't there
+abbrev pub no_settlement : PackedSettlement
+no_settlement = record { handler = 0; turns = 0; job = Go; want = Continue }
+
+-- the one of the number that it has
+abbrev pub packed_in : List PackedSettlement → LogEntry → PackedSettlement
+packed_in ps e = get_or ps e.packed no_settlement
+
+-- its values lie from its place on
+abbrev pub settlement_in : List PackedSettlement → List Value → LogEntry → Settlement
+settlement_in ps vs e = unpacked (packed_in ps e) (drop e.first_value vs)
 
 abbrev pub settlement_beside : Beside → LogEntry → Settlement
-settlement_beside all e = settlement_in all.actuals.now all.handlers.now e
+settlement_beside all e = settlement_in all.packed.now all.values.now e
 
--- What it tells of lies among so many actuals and handlers, and each list of it has at most 16.
-pub record IsWithin (values numbers : ℕ) (e : LogEntry) : Type 0 where
-  pub actuals : e.first_actual + actuals_in_job e.job + actuals_in_want e.want ≤ values
-  pub handlers : e.first_handler + handlers_in_job e.job + handlers_in_want e.want ≤ numbers
-  pub job_actuals : actuals_in_job e.job ≤ 16
-  pub job_handlers : handlers_in_job e.job ≤ 16
-  pub want_actuals : actuals_in_want e.want ≤ 16
-  pub want_handlers : handlers_in_want e.want ≤ 16
+-- What it tells is there, with so many values in all, and its job and its want have at most 16 each.
+pub record IsWithin (ps : List PackedSettlement) (count : ℕ) (e : LogEntry) : Type 0 where
+  pub packed : e.packed < length ps
+  pub values : e.first_value + values_in (packed_in ps e) ≤ count
+  pub job_values : values_in_job (packed_in ps e).job ≤ 16
+  pub want_values : values_in_want (packed_in ps e).want ≤ 16

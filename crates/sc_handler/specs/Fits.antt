@@ -1,5 +1,5 @@
 -- Whether what a handler's turns ask fits the job that they were made under.
-use Rattle.std.specs.Prelude.{ℕ, zero, suc, Bool, true, false, not, ◌&&◌, List, [], ◌∷◌, Option, ◌==◌}
+use Rattle.std.specs.Prelude.{ℕ, zero, suc, Bool, true, false, not, ◌&&◌, List, [], ◌∷◌, ◌==◌}
 use Rattle.sc_lockpass.specs.Rights.{is_handler}
 use Rattle.sc_model.specs.declared.cause.Cause.TheVariants as cause
 use Rattle.sc_region.specs.declared.job.Errand.{Errand}

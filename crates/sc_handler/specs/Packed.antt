@@ -1,20 +1,22 @@
--- Jobs and wants without their actuals and handlers, and with them again.
-use Rattle.std.specs.Prelude.{ℕ, List, [], length, take}
+-- Settlements, jobs and wants without their values, and with them again.
+use Rattle.std.specs.Prelude.{ℕ, ◌+◌, Bool, if◌then◌else◌, List, [], ◌++◌, Option, Some, None, is_some, option_to_list, length, take, drop, slice_get}
 use Rattle.arrayvec.specs.ArrayVec.{ArrayVec}
 use Rattle.sc_region.specs.declared.value.Value.{Value}
+use Rattle.sc_region.specs.declared.value.Value.TheVariants.{Void}
 use Rattle.sc_region.specs.declared.job.Request.{Request}
 use Rattle.sc_region.specs.declared.job.Job.{Job}
 use Rattle.sc_region.specs.declared.job.Job.TheVariants as job
 use Rattle.sc_region.specs.declared.job.Want.{Want}
 use Rattle.sc_region.specs.declared.job.Want.TheVariants as want
-use Rattle.sc_handler.specs.declared.agreement.Beside.{Beside}
 use Rattle.sc_handler.specs.declared.packed.PackedRequest.{PackedRequest}
 use Rattle.sc_handler.specs.declared.packed.PackedJob.{PackedJob}
 use Rattle.sc_handler.specs.declared.packed.PackedJob.TheVariants as packed
 use Rattle.sc_handler.specs.declared.packed.PackedWant.{PackedWant}
 use Rattle.sc_handler.specs.declared.packed.PackedWant.TheVariants as packed_as
+use Rattle.sc_handler.specs.declared.packed.PackedSettlement.{PackedSettlement}
+use Rattle.sc_handler.specs.declared.settlement.Settlement.{Settlement}
 
--- ---- requests
+-- ---- requests and values
 
 abbrev pub packed_request : Request → PackedRequest
 packed_request r = record {
@@ -38,138 +40,145 @@ unpacked_request p vs = record {
   is_waited = p.is_waited;
 }
 
+-- the first value, where there is to be one
+abbrev pub value_if : Bool → List Value → Option Value
+value_if is_there vs = if is_there then slice_get vs 0 else None
+
+abbrev pub count_if : Bool → ℕ
+count_if is_there = if is_there then 1 else 0
+
 -- ---- jobs
 
 abbrev pub packed_job : Job → PackedJob
 packed_job (job.Take r) = packed.Take (packed_request r)
-packed_job (job.Reply v) = packed.Reply v
+packed_job (job.Reply v) = packed.Reply (is_some v)
 packed_job job.Failed = packed.Failed
 packed_job job.Refused = packed.Refused
-packed_job (job.Granted ks) = packed.Granted (length ks.items)
+packed_job (job.Granted ks) = packed.Granted ks
 packed_job (job.Made k) = packed.Made k
 packed_job job.Go = packed.Go
 
-abbrev pub job_actuals : Job → List Value
-job_actuals (job.Take r) = r.actuals.items
-job_actuals (job.Reply v) = []
-job_actuals job.Failed = []
-job_actuals job.Refused = []
-job_actuals (job.Granted ks) = []
-job_actuals (job.Made k) = []
-job_actuals job.Go = []
+-- the value of the answer that it takes, or some value
+abbrev pub replied : Job → Value
+replied (job.Take r) = Void
+replied (job.Reply None) = Void
+replied (job.Reply (Some v)) = v
+replied job.Failed = Void
+replied job.Refused = Void
+replied (job.Granted ks) = Void
+replied (job.Made k) = Void
+replied job.Go = Void
 
-abbrev pub job_handlers : Job → List ℕ
-job_handlers (job.Take r) = []
-job_handlers (job.Reply v) = []
-job_handlers job.Failed = []
-job_handlers job.Refused = []
-job_handlers (job.Granted ks) = ks.items
-job_handlers (job.Made k) = []
-job_handlers job.Go = []
+abbrev pub job_values : Job → List Value
+job_values (job.Take r) = r.actuals.items
+job_values (job.Reply v) = option_to_list v
+job_values job.Failed = []
+job_values job.Refused = []
+job_values (job.Granted ks) = []
+job_values (job.Made k) = []
+job_values job.Go = []
 
-abbrev pub actuals_in_job : PackedJob → ℕ
-actuals_in_job (packed.Take p) = p.actuals
-actuals_in_job (packed.Reply v) = 0
-actuals_in_job packed.Failed = 0
-actuals_in_job packed.Refused = 0
-actuals_in_job (packed.Granted n) = 0
-actuals_in_job (packed.Made k) = 0
-actuals_in_job packed.Go = 0
+abbrev pub values_in_job : PackedJob → ℕ
+values_in_job (packed.Take p) = p.actuals
+values_in_job (packed.Reply has_value) = count_if has_value
+values_in_job packed.Failed = 0
+values_in_job packed.Refused = 0
+values_in_job (packed.Granted ks) = 0
+values_in_job (packed.Made k) = 0
+values_in_job packed.Go = 0
 
-abbrev pub handlers_in_job : PackedJob → ℕ
-handlers_in_job (packed.Take p) = 0
-handlers_in_job (packed.Reply v) = 0
-handlers_in_job packed.Failed = 0
-handlers_in_job packed.Refused = 0
-handlers_in_job (packed.Granted n) = n
-handlers_in_job (packed.Made k) = 0
-handlers_in_job packed.Go = 0
-
--- the job that has the first of these actuals and handlers
-abbrev pub unpacked_job : PackedJob → List Value → List ℕ → Job
-unpacked_job (packed.Take p) vs ks = job.Take (unpacked_request p vs)
-unpacked_job (packed.Reply v) vs ks = job.Reply v
-unpacked_job packed.Failed vs ks = job.Failed
-unpacked_job packed.Refused vs ks = job.Refused
-unpacked_job (packed.Granted n) vs ks = job.Granted (first_of_all n ks)
-unpacked_job (packed.Made k) vs ks = job.Made k
-unpacked_job packed.Go vs ks = job.Go
+-- the job that has the first of these values
+abbrev pub unpacked_job : PackedJob → List Value → Job
+unpacked_job (packed.Take p) vs = job.Take (unpacked_request p vs)
+unpacked_job (packed.Reply has_value) vs = job.Reply (value_if has_value vs)
+unpacked_job packed.Failed vs = job.Failed
+unpacked_job packed.Refused vs = job.Refused
+unpacked_job (packed.Granted ks) vs = job.Granted ks
+unpacked_job (packed.Made k) vs = job.Made k
+unpacked_job packed.Go vs = job.Go
 
 -- ---- wants
 
 abbrev pub packed_want : Want → PackedWant
 packed_want want.Continue = packed_as.Continue
-packed_want (want.Reserve ks) = packed_as.Reserve (length ks.items)
+packed_want (want.Reserve ks) = packed_as.Reserve ks
 packed_want (want.Post r) = packed_as.Post (packed_request r)
 packed_want (want.Ask r passes) = packed_as.Ask (packed_request r) passes
 packed_want (want.Create class procedure actuals passes) =
     packed_as.Create class procedure (length actuals.items) passes
-packed_want (want.Release ks) = packed_as.Release (length ks.items)
-packed_want (want.Wait ks) = packed_as.Wait (length ks.items)
-packed_want (want.Done v ks refused) = packed_as.Done v (length ks.items) refused
+packed_want (want.Release ks) = packed_as.Release ks
+packed_want (want.Wait ks) = packed_as.Wait ks
+packed_want (want.Done v ks refused) = packed_as.Done ks (is_some v) refused
 packed_want (want.Fail why) = packed_as.Fail why
 
-abbrev pub want_actuals : Want → List Value
-want_actuals want.Continue = []
-want_actuals (want.Reserve ks) = []
-want_actuals (want.Post r) = r.actuals.items
-want_actuals (want.Ask r passes) = r.actuals.items
-want_actuals (want.Create class procedure actuals passes) = actuals.items
-want_actuals (want.Release ks) = []
-want_actuals (want.Wait ks) = []
-want_actuals (want.Done v ks refused) = []
-want_actuals (want.Fail why) = []
+-- the value of its reply, or some value
+abbrev pub reply_of : Want → Value
+reply_of want.Continue = Void
+reply_of (want.Reserve ks) = Void
+reply_of (want.Post r) = Void
+reply_of (want.Ask r passes) = Void
+reply_of (want.Create class procedure actuals passes) = Void
+reply_of (want.Release ks) = Void
+reply_of (want.Wait ks) = Void
+reply_of (want.Done None ks refused) = Void
+reply_of (want.Done (Some v) ks refused) = v
+reply_of (want.Fail why) = Void
 
-abbrev pub want_handlers : Want → List ℕ
-want_handlers want.Continue = []
-want_handlers (want.Reserve ks) = ks.items
-want_handlers (want.Post r) = []
-want_handlers (want.Ask r passes) = []
-want_handlers (want.Create class procedure actuals passes) = []
-want_handlers (want.Release ks) = ks.items
-want_handlers (want.Wait ks) = ks.items
-want_handlers (want.Done v ks refused) = ks.items
-want_handlers (want.Fail why) = []
+abbrev pub want_values : Want → List Value
+want_values want.Continue = []
+want_values (want.Reserve ks) = []
+want_values (want.Post r) = r.actuals.items
+want_values (want.Ask r passes) = r.actuals.items
+want_values (want.Create class procedure actuals passes) = actuals.items
+want_values (want.Release ks) = []
+want_values (want.Wait ks) = []
+want_values (want.Done v ks refused) = option_to_list v
+want_values (want.Fail why) = []
 
-abbrev pub actuals_in_want : PackedWant → ℕ
-actuals_in_want packed_as.Continue = 0
-actuals_in_want (packed_as.Reserve n) = 0
-actuals_in_want (packed_as.Post p) = p.actuals
-actuals_in_want (packed_as.Ask p passes) = p.actuals
-actuals_in_want (packed_as.Create class procedure n passes) = n
-actuals_in_want (packed_as.Release n) = 0
-actuals_in_want (packed_as.Wait n) = 0
-actuals_in_want (packed_as.Done v n refused) = 0
-actuals_in_want (packed_as.Fail why) = 0
+abbrev pub values_in_want : PackedWant → ℕ
+values_in_want packed_as.Continue = 0
+values_in_want (packed_as.Reserve ks) = 0
+values_in_want (packed_as.Post p) = p.actuals
+values_in_want (packed_as.Ask p passes) = p.actuals
+values_in_want (packed_as.Create class procedure n passes) = n
+values_in_want (packed_as.Release ks) = 0
+values_in_want (packed_as.Wait ks) = 0
+values_in_want (packed_as.Done ks has_reply refused) = count_if has_reply
+values_in_want (packed_as.Fail why) = 0
 
-abbrev pub handlers_in_want : PackedWant → ℕ
-handlers_in_want packed_as.Continue = 0
-handlers_in_want (packed_as.Reserve n) = n
-handlers_in_want (packed_as.Post p) = 0
-handlers_in_want (packed_as.Ask p passes) = 0
-handlers_in_want (packed_as.Create class procedure n passes) = 0
-handlers_in_want (packed_as.Release n) = n
-handlers_in_want (packed_as.Wait n) = n
-handlers_in_want (packed_as.Done v n refused) = n
-handlers_in_want (packed_as.Fail why) = 0
+-- the want that has the first of these values
+abbrev pub unpacked_want : PackedWant → List Value → Want
+unpacked_want packed_as.Continue vs = want.Continue
+unpacked_want (packed_as.Reserve ks) vs = want.Reserve ks
+unpacked_want (packed_as.Post p) vs = want.Post (unpacked_request p vs)
+unpacked_want (packed_as.Ask p passes) vs = want.Ask (unpacked_request p vs) passes
+unpacked_want (packed_as.Create class procedure n passes) vs = want.Create class procedure (first_of_all n vs) passes
+unpacked_want (packed_as.Release ks) vs = want.Release ks
+unpacked_want (packed_as.Wait ks) vs = want.Wait ks
+unpacked_want (packed_as.Done ks has_reply refused) vs = want.Done (value_if has_reply vs) ks refused
+unpacked_want (packed_as.Fail why) vs = want.Fail why
 
--- the want that has the first of these actuals and handlers
-abbrev pub unpacked_want : PackedWant → List Value → List ℕ → Want
-unpacked_want packed_as.Continue vs ks = want.Continue
-unpacked_want (packed_as.Reserve n) vs ks = want.Reserve (first_of_all n ks)
-unpacked_want (packed_as.Post p) vs ks = want.Post (unpacked_request p vs)
-unpacked_want (packed_as.Ask p passes) vs ks = want.Ask (unpacked_request p vs) passes
-unpacked_want (packed_as.Create class procedure n passes) vs ks = want.Create class procedure (first_of_all n vs) passes
-unpacked_want (packed_as.Release n) vs ks = want.Release (first_of_all n ks)
-unpacked_want (packed_as.Wait n) vs ks = want.Wait (first_of_all n ks)
-unpacked_want (packed_as.Done v n refused) vs ks = want.Done v (first_of_all n ks) refused
-unpacked_want (packed_as.Fail why) vs ks = want.Fail why
+-- ---- settlements
 
--- ---- beside the entries of a log
+-- so many turns of a handler that was out with the job, the last of which asks this
+abbrev pub packed_of : ℕ → Job → ℕ → Want → PackedSettlement
+packed_of h j turns w = record { handler = h; turns = turns; job = packed_job j; want = packed_want w }
 
--- the job or the want with the actuals and the handlers that lie there
-abbrev pub job_beside : Beside → PackedJob → Job
-job_beside rest p = unpacked_job p rest.actuals.now rest.handlers.now
+abbrev pub packed_settlement : Settlement → PackedSettlement
+packed_settlement s = packed_of s.handler s.job s.turns s.want
 
-abbrev pub want_beside : Beside → PackedWant → Want
-want_beside rest p = unpacked_want p rest.actuals.now rest.handlers.now
+-- those of its job, then those of its want
+abbrev pub values_of : Settlement → List Value
+values_of s = job_values s.job ++ want_values s.want
+
+abbrev pub values_in : PackedSettlement → ℕ
+values_in p = values_in_job p.job + values_in_want p.want
+
+-- the settlement that has the first of these values
+abbrev pub unpacked : PackedSettlement → List Value → Settlement
+unpacked p vs = record {
+  handler = p.handler;
+  job = unpacked_job p.job vs;
+  turns = p.turns;
+  want = unpacked_want p.want (drop (values_in_job p.job) vs);
+}

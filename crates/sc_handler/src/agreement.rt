@@ -1,50 +1,67 @@
-//! Whether what two logs have packed is the same.
-ghost use Rattle.std.specs.Prelude.{◌≡◌, ◌≤◌, ◌↔◌, IsTrue, length};
-ghost use Rattle.sc_handler.specs.Packed.{actuals_in_job, actuals_in_want, first_of_all, handlers_in_job, handlers_in_want, job_beside, unpacked_request, want_beside};
+//! Whether what two logs have packed is the same, and whether it is what a settlement comes to.
+ghost use Rattle.std.specs.Prelude.{◌≡◌, ◌≤◌, ◌↔◌, IsTrue, length, take};
+ghost use Rattle.sc_handler.specs.Packed.{packed_job, packed_of, packed_request, packed_want, unpacked, values_in};
 
-use crate::packed::{PackedJob, PackedRequest, PackedWant};
+use crate::packed::{PackedJob, PackedRequest, PackedSettlement, PackedWant};
+use arrayvec::ArrayVec;
 use sc_lockpass::HandlerNumber;
-use sc_region::{Errand, Value};
+use sc_region::{Errand, Job, Request, Value, Want};
 
-/// What lies beside the entries of a log, from the place on where that of a job or of a want begins.
-#[derive(Clone, Copy)]
-pub(crate) struct Beside<'a> {
-    pub(crate) actuals: &'a [Value],
-    pub(crate) handlers: &'a [HandlerNumber],
+/// Whether two packed settlements tell the same, each with the first of its values.
+pub(crate) fn same_told(
+    a: &PackedSettlement,
+    values: &[Value],
+    b: &PackedSettlement,
+    its: &[Value],
+) -> bool
+    requires there { values_in a.now ≤ length values.now }
+    requires its_there { values_in b.now ≤ length its.now }
+    ensures { IsTrue result ↔ unpacked a.now values.now ≡ unpacked b.now its.now }
+{
+    same_packed(a, b) && same_first(values, a.values(), its, b.values())
 }
 
-/// Whether two jobs are the same.
-pub(crate) fn same_job(a: &PackedJob, of: Beside<'_>, b: &PackedJob, its: Beside<'_>) -> bool
-    requires actuals { actuals_in_job a.now ≤ length of.actuals.now }
-    requires handlers { handlers_in_job a.now ≤ length of.handlers.now }
-    requires its_actuals { actuals_in_job b.now ≤ length its.actuals.now }
-    requires its_handlers { handlers_in_job b.now ≤ length its.handlers.now }
-    ensures { IsTrue result ↔ job_beside of.entry a.now ≡ job_beside its.entry b.now }
+/// Whether so many of some values are as many of others.
+fn same_first(values: &[Value], count: usize, its: &[Value], its_count: usize) -> bool
+    requires there { count ≤ length values.now }
+    requires its_there { its_count ≤ length its.now }
+    ensures { IsTrue result ↔ take count values.now ≡ take its_count its.now }
+{
+    same_values(&values[..count], &its[..its_count])
+}
+
+/// Whether two packed settlements are the same.
+pub(crate) fn same_packed(a: &PackedSettlement, b: &PackedSettlement) -> bool
+    ensures { IsTrue result ↔ a.now ≡ b.now }
+{
+    a.handler == b.handler
+        && a.turns == b.turns
+        && same_job(&a.job, &b.job)
+        && same_want(&a.want, &b.want)
+}
+
+fn same_job(a: &PackedJob, b: &PackedJob) -> bool
+    ensures { IsTrue result ↔ a.now ≡ b.now }
 {
     match (a, b) {
-        (PackedJob::Take(x), PackedJob::Take(y)) => same_request(x, of.actuals, y, its.actuals),
-        (PackedJob::Reply(x), PackedJob::Reply(y)) => x == y,
+        (PackedJob::Take(x), PackedJob::Take(y)) => same_request(x, y),
+        (PackedJob::Reply { has_value: x }, PackedJob::Reply { has_value: y }) => x == y,
         (PackedJob::Failed, PackedJob::Failed) => true,
         (PackedJob::Refused, PackedJob::Refused) => true,
-        (PackedJob::Granted(x), PackedJob::Granted(y)) => {
-            same_handlers(of.handlers, *x, its.handlers, *y)
-        }
+        (PackedJob::Granted(x), PackedJob::Granted(y)) => same_handlers(x, y),
         (PackedJob::Made(x), PackedJob::Made(y)) => x == y,
         (PackedJob::Go, PackedJob::Go) => true,
         _ => false,
     }
 }
 
-/// Whether two requests are the same, each with the first of these actuals.
-fn same_request(a: &PackedRequest, actuals: &[Value], b: &PackedRequest, its: &[Value]) -> bool
-    requires there { a.now.actuals ≤ length actuals.now }
-    requires its_there { b.now.actuals ≤ length its.now }
-    ensures { IsTrue result ↔ unpacked_request a.now actuals.now ≡ unpacked_request b.now its.now }
+fn same_request(a: &PackedRequest, b: &PackedRequest) -> bool
+    ensures { IsTrue result ↔ a.now ≡ b.now }
 {
     a.poster == b.poster
         && a.target == b.target
         && same_errand(a.errand, b.errand)
-        && same_actuals(actuals, a.actuals, its, b.actuals)
+        && a.actuals == b.actuals
         && a.is_waited == b.is_waited
 }
 
@@ -58,43 +75,13 @@ pub(crate) fn same_errand(a: Errand, b: Errand) -> bool
     }
 }
 
-/// Whether so many of some actuals are as many of others.
-fn same_actuals(actuals: &[Value], count: u8, its: &[Value], its_count: u8) -> bool
-    requires there { count ≤ length actuals.now }
-    requires its_there { its_count ≤ length its.now }
-    ensures { IsTrue result ↔ first_of_all count actuals.now ≡ first_of_all its_count its.now }
-{
-    actuals[..count as usize] == its[..its_count as usize]
-}
-
-/// Whether so many of some handlers are as many of others.
-fn same_handlers(
-    handlers: &[HandlerNumber],
-    count: u8,
-    its: &[HandlerNumber],
-    its_count: u8,
-) -> bool
-    requires there { count ≤ length handlers.now }
-    requires its_there { its_count ≤ length its.now }
-    ensures { IsTrue result ↔ first_of_all count handlers.now ≡ first_of_all its_count its.now }
-{
-    handlers[..count as usize] == its[..its_count as usize]
-}
-
-/// Whether two wants are the same.
-pub(crate) fn same_want(a: &PackedWant, of: Beside<'_>, b: &PackedWant, its: Beside<'_>) -> bool
-    requires actuals { actuals_in_want a.now ≤ length of.actuals.now }
-    requires handlers { handlers_in_want a.now ≤ length of.handlers.now }
-    requires its_actuals { actuals_in_want b.now ≤ length its.actuals.now }
-    requires its_handlers { handlers_in_want b.now ≤ length its.handlers.now }
-    ensures { IsTrue result ↔ want_beside of.entry a.now ≡ want_beside its.entry b.now }
+fn same_want(a: &PackedWant, b: &PackedWant) -> bool
+    ensures { IsTrue result ↔ a.now ≡ b.now }
 {
     match (a, b) {
         (PackedWant::Continue, PackedWant::Continue) => true,
-        (PackedWant::Reserve(x), PackedWant::Reserve(y)) => {
-            same_handlers(of.handlers, *x, its.handlers, *y)
-        }
-        (PackedWant::Post(x), PackedWant::Post(y)) => same_request(x, of.actuals, y, its.actuals),
+        (PackedWant::Reserve(x), PackedWant::Reserve(y)) => same_handlers(x, y),
+        (PackedWant::Post(x), PackedWant::Post(y)) => same_request(x, y),
         (
             PackedWant::Ask {
                 request: x,
@@ -104,7 +91,7 @@ pub(crate) fn same_want(a: &PackedWant, of: Beside<'_>, b: &PackedWant, its: Bes
                 request: y,
                 passes: q,
             },
-        ) => same_request(x, of.actuals, y, its.actuals) && p == q,
+        ) => same_request(x, y) && p == q,
         (
             PackedWant::Create {
                 class: c,
@@ -118,26 +105,135 @@ pub(crate) fn same_want(a: &PackedWant, of: Beside<'_>, b: &PackedWant, its: Bes
                 actuals: y,
                 passes: q,
             },
-        ) => c == d && f == g && same_actuals(of.actuals, *x, its.actuals, *y) && p == q,
-        (PackedWant::Release(x), PackedWant::Release(y)) => {
-            same_handlers(of.handlers, *x, its.handlers, *y)
-        }
-        (PackedWant::Wait(x), PackedWant::Wait(y)) => {
-            same_handlers(of.handlers, *x, its.handlers, *y)
-        }
+        ) => c == d && f == g && x == y && p == q,
+        (PackedWant::Release(x), PackedWant::Release(y)) => same_handlers(x, y),
+        (PackedWant::Wait(x), PackedWant::Wait(y)) => same_handlers(x, y),
         (
             PackedWant::Done {
-                reply: v,
                 released: x,
+                has_reply: v,
                 refused: p,
             },
             PackedWant::Done {
+                released: y,
+                has_reply: w,
+                refused: q,
+            },
+        ) => same_handlers(x, y) && v == w && p == q,
+        (PackedWant::Fail(x), PackedWant::Fail(y)) => x == y,
+        _ => false,
+    }
+}
+
+fn same_handlers(a: &ArrayVec<HandlerNumber, 16>, b: &ArrayVec<HandlerNumber, 16>) -> bool
+    ensures { IsTrue result ↔ a.now ≡ b.now }
+{
+    have_same(a, b)
+}
+
+/// Whether the same handlers are in two arrays, one after another.
+fn have_same(a: &ArrayVec<HandlerNumber, 16>, b: &ArrayVec<HandlerNumber, 16>) -> bool
+    ensures { IsTrue result ↔ a.now.items ≡ b.now.items }
+{
+    a.as_slice() == b.as_slice()
+}
+
+/// Whether the same values are in two slices, one after another.
+pub(crate) fn same_values(a: &[Value], b: &[Value]) -> bool
+    ensures { IsTrue result ↔ a.now ≡ b.now }
+{
+    a == b
+}
+
+// ---- what isn't packed yet
+
+/// Whether this is what packing these turns of a handler comes to.
+pub(crate) fn is_packed(
+    packed: &PackedSettlement,
+    handler: HandlerNumber,
+    job: &Job,
+    turns: u32,
+    want: &Want,
+) -> bool
+    ensures { IsTrue result ↔ packed.now ≡ packed_of handler job.now turns want.now }
+{
+    packed.handler == handler
+        && packed.turns == turns
+        && is_packed_job(&packed.job, job)
+        && is_packed_want(&packed.want, want)
+}
+
+fn is_packed_job(packed: &PackedJob, job: &Job) -> bool
+    ensures { IsTrue result ↔ packed.now ≡ packed_job job.now }
+{
+    match (packed, job) {
+        (PackedJob::Take(x), Job::Take(y)) => is_packed_request(x, y),
+        (PackedJob::Reply { has_value }, Job::Reply(value)) => *has_value == value.is_some(),
+        (PackedJob::Failed, Job::Failed) => true,
+        (PackedJob::Refused, Job::Refused) => true,
+        (PackedJob::Granted(x), Job::Granted(y)) => same_handlers(x, y),
+        (PackedJob::Made(x), Job::Made(y)) => x == y,
+        (PackedJob::Go, Job::Go) => true,
+        _ => false,
+    }
+}
+
+fn is_packed_request(packed: &PackedRequest, request: &Request) -> bool
+    ensures { IsTrue result ↔ packed.now ≡ packed_request request.now }
+{
+    packed.poster == request.poster
+        && packed.target == request.target
+        && same_errand(packed.errand, request.errand)
+        && packed.actuals as usize == request.actuals.as_slice().len()
+        && packed.is_waited == request.is_waited
+}
+
+fn is_packed_want(packed: &PackedWant, want: &Want) -> bool
+    ensures { IsTrue result ↔ packed.now ≡ packed_want want.now }
+{
+    match (packed, want) {
+        (PackedWant::Continue, Want::Continue) => true,
+        (PackedWant::Reserve(x), Want::Reserve(y)) => same_handlers(x, y),
+        (PackedWant::Post(x), Want::Post(y)) => is_packed_request(x, y),
+        (
+            PackedWant::Ask {
+                request: x,
+                passes: p,
+            },
+            Want::Ask {
+                request: y,
+                passes: q,
+            },
+        ) => is_packed_request(x, y) && p == q,
+        (
+            PackedWant::Create {
+                class: c,
+                procedure: f,
+                actuals: x,
+                passes: p,
+            },
+            Want::Create {
+                class: d,
+                procedure: g,
+                actuals: y,
+                passes: q,
+            },
+        ) => c == d && f == g && *x as usize == y.as_slice().len() && p == q,
+        (PackedWant::Release(x), Want::Release(y)) => same_handlers(x, y),
+        (PackedWant::Wait(x), Want::Wait(y)) => same_handlers(x, y),
+        (
+            PackedWant::Done {
+                released: x,
+                has_reply: v,
+                refused: p,
+            },
+            Want::Done {
                 reply: w,
                 released: y,
                 refused: q,
             },
-        ) => v == w && same_handlers(of.handlers, *x, its.handlers, *y) && p == q,
-        (PackedWant::Fail(x), PackedWant::Fail(y)) => x == y,
+        ) => same_handlers(x, y) && *v == w.is_some() && p == q,
+        (PackedWant::Fail(x), Want::Fail(y)) => x == y,
         _ => false,
     }
 }

@@ -32,11 +32,7 @@ fn write_posting(hasher: &mut FoldHasher, posting: &Posting) {
 }
 
 fn write_request(hasher: &mut FoldHasher, request: &Request) {
-    let errand = match request.errand {
-        Errand::Calls(feature) => feature as u64,
-        Errand::Makes(procedure) => 1 << 63 | procedure.unwrap_or(NameNumber::MAX) as u64,
-    };
-    hasher.write_u64(errand);
+    hasher.write_u64(errand_word(request.errand));
     hasher.write_u64(word_of(request.poster) | (request.is_waited as u64) << 32);
     hasher.write_u64(reference_word(request.target));
     for actual in request.actuals.as_slice() {
@@ -77,7 +73,14 @@ fn answer_word(answer: Option<Answer>) -> u64 {
     }
 }
 
-fn value_word(value: Value) -> u64 {
+pub(crate) fn errand_word(errand: Errand) -> u64 {
+    match errand {
+        Errand::Calls(feature) => feature as u64,
+        Errand::Makes(procedure) => 1 << 63 | procedure.unwrap_or(NameNumber::MAX) as u64,
+    }
+}
+
+pub(crate) fn value_word(value: Value) -> u64 {
     match value {
         Value::Integer(integer) => integer.cast_unsigned(),
         Value::Boolean(boolean) => 1 << 62 | boolean as u64,
@@ -86,6 +89,6 @@ fn value_word(value: Value) -> u64 {
     }
 }
 
-fn reference_word(reference: Reference) -> u64 {
+pub(crate) fn reference_word(reference: Reference) -> u64 {
     reference.number as u64 | (reference.handler as u64) << 32 | (reference.class as u64) << 48
 }

@@ -15,10 +15,12 @@ mod hashing;
 mod job_kind;
 mod job_slot;
 mod logged;
+mod marks;
 mod packed;
 mod postings;
 mod same;
 mod settlement;
+mod sharing;
 
 pub use changes::Dropped;
 pub use copy::{copy_handlers, copy_values};

@@ -1,41 +1,44 @@
 //! The log of settlements.
-ghost use Rattle.std.specs.Prelude.{◌≡◌, ◌≤◌, ◌+◌, ◌++◌, ◌==◌, ◌↔◌, IsTrue, drop, length, vec_capacity, vec_len};
+ghost use Rattle.std.specs.Prelude.{◌≡◌, ◌<◌, ◌≤◌, ◌+◌, ◌*◌, ◌^◌, ◌++◌, ◌==◌, ◌↔◌, IsTrue, length, vec_len};
 ghost use Rattle.std.specs.List.{All};
-ghost use Rattle.sc_handler.specs.Entries.{IsWithin, settlement_beside, settlement_in};
-ghost use Rattle.sc_handler.specs.Packed.{actuals_in_job, handlers_in_job};
+ghost use Rattle.sc_handler.specs.Entries.{IsWithin, packed_in, settlement_beside, settlement_in};
 
-use crate::agreement::{Beside, same_job, same_want};
-use crate::packed::{
-    PackedJob, PackedWant, job_actuals, job_handlers, pack_job, pack_want, want_actuals,
-    want_handlers,
-};
+use crate::agreement::same_told;
+use crate::packed::{PackedSettlement, answer_in, job_values, reply_in, want_values};
 use crate::settlement::Settlement;
+use crate::sharing::{Recent, number_of, place_of};
 use sc_lockpass::HandlerNumber;
 use sc_region::{Job, Value, Want};
 use std::alloc::{AllocError, Global};
 
-/// A settlement, but for its actuals and handlers.
+/// A settlement: where the log has what it tells.
 #[derive(Clone, Copy)]
 struct LogEntry {
-    handler: HandlerNumber,
-    turns: u32,
-    job: PackedJob,
-    want: PackedWant,
-    /// Where the actuals of its job begin. Those of its want lie behind them.
-    first_actual: usize,
-    /// Where the handlers of its job begin. Those of its want lie behind them.
-    first_handler: usize,
+    /// The number of the packed settlement.
+    packed: u32,
+    /// Where its values begin.
+    first_value: u32,
 }
 
 /// Settlements, the first one first.
 ///
-/// Each takes an entry, and what its requests and lists of handlers have lies beside, with that of the others.
+/// Each takes an entry of 8 bytes. What it tells lies beside, where those that come again share it: the settlement without its
+/// values is mostly one that came before, and so are the values of an answer, which its supplier's settlement has, too.
 #[derive(Drop)]
 pub struct Log {
     entries: Vec<LogEntry>,
-    actuals: Vec<Value>,
-    handlers: Vec<HandlerNumber>,
-    ghost within: { All (IsWithin (length actuals.items) (length handlers.items)) entries.items },
+    packed: Vec<PackedSettlement>,
+    values: Vec<Value>,
+    recently_packed: Recent,
+    recent_values: Recent,
+    ghost within: { All (IsWithin packed.items (length values.items)) entries.items },
+}
+
+/// What lies beside the entries of a log.
+#[derive(Clone, Copy)]
+struct Beside<'a> {
+    packed: &'a [PackedSettlement],
+    values: &'a [Value],
 }
 
 impl Log {
@@ -50,8 +53,10 @@ impl Log {
     {
         Log {
             entries: Vec::new(alloc),
-            actuals: Vec::new(alloc),
-            handlers: Vec::new(alloc),
+            packed: Vec::new(alloc),
+            values: Vec::new(alloc),
+            recently_packed: Recent::new(alloc),
+            recent_values: Recent::new(alloc),
         }
     }
 
@@ -73,7 +78,8 @@ impl Log {
     pub fn handler_at(&self, place: usize) -> Option<HandlerNumber>
         ensures { result ≡ option_map (λ s. s.handler) (slice_get (settlements_of self.now) place) }
     {
-        Some(self.entries.get(place)?.handler)
+        let entry = *self.entries.get(place)?;
+        Some(packed_at(entry, self.packed.as_slice()).handler)
     }
 
     /// The settlement at a place. The time that it takes doesn't depend on how many there are.
@@ -81,7 +87,7 @@ impl Log {
         ensures { result ≡ slice_get (settlements_of self.now) place }
     {
         let entry = *self.entries.get(place)?;
-        Some(settlement_at(entry, self.actuals.as_slice(), self.handlers.as_slice()))
+        Some(settlement_at(entry, self.packed.as_slice(), self.values.as_slice()))
     }
 
     /// Whether the settlement at a place is that at a place of another log. Where there is none at both, it is, too.
@@ -90,7 +96,7 @@ impl Log {
     {
         match (self.entries.get(place), other.entries.get(its_place)) {
             (Some(entry), Some(its_entry)) => {
-                same_settlement(entry, self.beside(), its_entry, other.beside())
+                same_settlement(*entry, self.beside(), *its_entry, other.beside())
             }
             (None, None) => true,
             _ => false,
@@ -99,12 +105,12 @@ impl Log {
 
     /// What lies beside all its entries.
     fn beside(&self) -> Beside<'_>
-        ensures actuals { result.actuals.now ≡ self.now.actuals.items }
-        ensures handlers { result.handlers.now ≡ self.now.handlers.items }
+        ensures packed { result.packed.now ≡ self.now.packed.items }
+        ensures values { result.values.now ≡ self.now.values.items }
     {
         Beside {
-            actuals: self.actuals.as_slice(),
-            handlers: self.handlers.as_slice(),
+            packed: self.packed.as_slice(),
+            values: self.values.as_slice(),
         }
     }
 
@@ -128,24 +134,38 @@ impl Log {
         requires few { more ≤ 1024 }
         ensures { IsTrue result ↔ HasPlaces more self.now }
     {
-        self.entries.capacity() - self.entries.len() >= more
-            && self.actuals.capacity() - self.actuals.len() >= 32 * more
-            && self.handlers.capacity() - self.handlers.len() >= 32 * more
+        self.has_numbers(more)
+            && self.entries.capacity() - self.entries.len() >= more
+            && self.packed.capacity() - self.packed.len() >= more
+            && self.values.capacity() - self.values.len() >= 32 * more
+    }
+
+    /// Whether there are numbers of 32 bits for so many settlements.
+    fn has_numbers(&self, more: usize) -> bool
+        requires few { more ≤ 1024 }
+        ensures { IsTrue result ↔ (vec_len self.now.packed + more ≤ 2 ^ 32) × (vec_len self.now.values + 32 * more ≤ 2 ^ 32) }
+    {
+        self.packed.len() <= (1 << 32) - more && self.values.len() <= (1 << 32) - 32 * more
     }
 
     /// Takes memory for so many settlements.
     #[inline(never)]
     fn grow(&mut self, more: usize) -> Result<(), AllocError>
         requires few { more ≤ 1024 }
+        requires lacking { HasPlaces more self.old → ⊥ }
         ensures ok { OnOk result (HasPlaces more self.new) }
-        ensures err { OnErr result (HasPlaces more self.old → ⊥) }
         ensures settlements { settlements_of self.new ≡ settlements_of self.old }
         ensures len { vec_len self.new.entries ≡ vec_len self.old.entries }
         ensures kept { (n : ℕ) → HasPlaces n self.old → HasPlaces n self.new }
     {
+        if !self.has_numbers(more) {
+            return Err(AllocError);
+        }
+        self.recently_packed.reserve()?;
+        self.recent_values.reserve()?;
         self.entries.reserve(more)?;
-        self.actuals.reserve(32 * more)?;
-        self.handlers.reserve(32 * more)
+        self.packed.reserve(more)?;
+        self.values.reserve(32 * more)
     }
 
     /// Adds the settlement of a handler, where there is room.
@@ -155,94 +175,54 @@ impl Log {
         ensures len { vec_len self.new.entries ≡ vec_len self.old.entries + 1 }
         ensures kept { (n : ℕ) → HasPlaces (n + 1) self.old → HasPlaces n self.new }
     {
+        let answer = [answer_in(job)];
+        let reply = [reply_in(want)];
         let entry = LogEntry {
-            handler,
-            turns,
-            job: pack_job(job),
-            want: pack_want(want),
-            first_actual: self.actuals.len(),
-            first_handler: self.handlers.len(),
+            packed: number_of(
+                &mut self.packed,
+                &mut self.recently_packed,
+                handler,
+                job,
+                turns,
+                want,
+            ),
+            first_value: place_of(
+                &mut self.values,
+                &mut self.recent_values,
+                job_values(job, &answer),
+                want_values(want, &reply),
+            ),
         };
-        append(&mut self.actuals, job_actuals(job));
-        append(&mut self.actuals, want_actuals(want));
-        append(&mut self.handlers, job_handlers(job));
-        append(&mut self.handlers, want_handlers(want));
         self.entries.push_reserved(entry);
     }
 }
 
-/// Adds to the end, where there is room.
-fn append<T: Copy>(items: &mut Vec<T>, more: &[T])
-    requires { vec_len items.old + length more.now ≤ vec_capacity items.old }
-    ensures items { items.new.items ≡ items.old.items ++ more.now }
-    ensures len { vec_len items.new ≡ vec_len items.old + length more.now }
-    ensures capacity { vec_capacity items.old ≤ vec_capacity items.new }
+/// The packed settlement of an entry.
+fn packed_at(entry: LogEntry, packed: &[PackedSettlement]) -> &PackedSettlement
+    requires { entry.packed < length packed.now }
+    ensures { result.now ≡ packed_in packed.now entry }
 {
-    if more.is_empty() {
-        return;
-    }
-    append_some(items, more);
+    &packed[entry.packed as usize]
 }
 
-#[inline(never)]
-fn append_some<T: Copy>(items: &mut Vec<T>, more: &[T])
-    requires { vec_len items.old + length more.now ≤ vec_capacity items.old }
-    ensures items { items.new.items ≡ items.old.items ++ more.now }
-    ensures len { vec_len items.new ≡ vec_len items.old + length more.now }
-    ensures capacity { vec_capacity items.old ≤ vec_capacity items.new }
+/// What the entry tells, with what lies beside all entries.
+fn settlement_at(entry: LogEntry, packed: &[PackedSettlement], values: &[Value]) -> Settlement
+    requires { IsWithin packed.now (length values.now) entry }
+    ensures { result ≡ settlement_in packed.now values.now entry }
 {
-    let _ = items.extend_from_slice(more);
+    packed_at(entry, packed).unpack(&values[entry.first_value as usize..])
 }
 
-/// What the entry tells, with the actuals and the handlers of all entries.
-fn settlement_at(entry: LogEntry, actuals: &[Value], handlers: &[HandlerNumber]) -> Settlement
-    requires { IsWithin (length actuals.now) (length handlers.now) entry }
-    ensures { result ≡ settlement_in actuals.now handlers.now entry }
+/// Whether two entries tell the same, each with what lies beside those of its log.
+fn same_settlement(a: LogEntry, all: Beside<'_>, b: LogEntry, its: Beside<'_>) -> bool
+    requires within { IsWithin all.packed.now (length all.values.now) a }
+    requires its_within { IsWithin its.packed.now (length its.values.now) b }
+    ensures { IsTrue result ↔ settlement_beside all.entry a ≡ settlement_beside its.entry b }
 {
-    let job_actuals = &actuals[entry.first_actual..];
-    let job_handlers = &handlers[entry.first_handler..];
-    let want_actuals = &actuals[entry.first_actual + entry.job.actuals()..];
-    let want_handlers = &handlers[entry.first_handler + entry.job.handlers()..];
-    Settlement {
-        handler: entry.handler,
-        job: entry.job.unpack(job_actuals, job_handlers),
-        turns: entry.turns,
-        want: entry.want.unpack(want_actuals, want_handlers),
-    }
-}
-
-/// Whether two entries tell the same, each with the actuals and the handlers of all entries of its log.
-fn same_settlement(a: &LogEntry, all: Beside<'_>, b: &LogEntry, its: Beside<'_>) -> bool
-    requires within { IsWithin (length all.actuals.now) (length all.handlers.now) a.now }
-    requires its_within { IsWithin (length its.actuals.now) (length its.handlers.now) b.now }
-    ensures { IsTrue result ↔ settlement_beside all.entry a.now ≡ settlement_beside its.entry b.now }
-{
-    a.handler == b.handler
-        && a.turns == b.turns
-        && same_job(&a.job, beside_job(a, all), &b.job, beside_job(b, its))
-        && same_want(&a.want, beside_want(a, all), &b.want, beside_want(b, its))
-}
-
-/// What lies beside an entry, from where that of its job begins.
-fn beside_job<'a>(entry: &LogEntry, all: Beside<'a>) -> Beside<'a>
-    requires { IsWithin (length all.actuals.now) (length all.handlers.now) entry.now }
-    ensures actuals { result.actuals.now ≡ drop entry.now.first_actual all.entry.actuals.now }
-    ensures handlers { result.handlers.now ≡ drop entry.now.first_handler all.entry.handlers.now }
-{
-    Beside {
-        actuals: &all.actuals[entry.first_actual..],
-        handlers: &all.handlers[entry.first_handler..],
-    }
-}
-
-/// What lies beside an entry, from where that of its want begins.
-fn beside_want<'a>(entry: &LogEntry, all: Beside<'a>) -> Beside<'a>
-    requires { IsWithin (length all.actuals.now) (length all.handlers.now) entry.now }
-    ensures actuals { result.actuals.now ≡ drop (entry.now.first_actual + actuals_in_job entry.now.job) all.entry.actuals.now }
-    ensures handlers { result.handlers.now ≡ drop (entry.now.first_handler + handlers_in_job entry.now.job) all.entry.handlers.now }
-{
-    Beside {
-        actuals: &all.actuals[entry.first_actual + entry.job.actuals()..],
-        handlers: &all.handlers[entry.first_handler + entry.job.handlers()..],
-    }
+    same_told(
+        packed_at(a, all.packed),
+        &all.values[a.first_value as usize..],
+        packed_at(b, its.packed),
+        &its.values[b.first_value as usize..],
+    )
 }

@@ -1,14 +1,16 @@
-//! Jobs and wants as an entry of the log has them: without their actuals and handlers, which lie in lists of their own, so
-//! that an entry is small.
-ghost use Rattle.std.specs.Prelude.{◌≡◌, ◌≤◌, length};
-ghost use Rattle.sc_handler.specs.Packed.{actuals_in_job, actuals_in_want, first_of_all, handlers_in_job, handlers_in_want, job_actuals, job_handlers, packed_job, packed_request, packed_want, unpacked_job, unpacked_request, unpacked_want, want_actuals, want_handlers};
+//! Settlements, jobs and wants as the log has them: without their values, which lie in a list of their own, so that those
+//! that differ in values alone are kept once.
+ghost use Rattle.std.specs.Prelude.{◌≡◌, ◌<◌, ◌≤◌, ◌∷◌, [], length};
+ghost use Rattle.sc_handler.specs.Packed.{first_of_all, job_values, packed_job, packed_of, packed_request, packed_want, replied, reply_of, unpacked, unpacked_job, unpacked_request, unpacked_want, value_if, values_in, values_in_job, values_in_want, want_values};
 
+use crate::copy::copy_handlers;
+use crate::settlement::Settlement;
 use arrayvec::ArrayVec;
 use sc_lockpass::HandlerNumber;
 use sc_model::Cause;
 use sc_region::{ClassNumber, Errand, Job, NameNumber, Reference, Request, Value, Want};
 
-/// A request as an entry has it: with how many actuals there are in place of them.
+/// A request without its actuals: with how many there are in place of them.
 #[derive(Clone, Copy)]
 pub(crate) struct PackedRequest {
     pub(crate) poster: Option<HandlerNumber>,
@@ -18,23 +20,23 @@ pub(crate) struct PackedRequest {
     pub(crate) is_waited: bool,
 }
 
-/// A job as an entry has it: with how many actuals or handlers there are in place of them.
-#[derive(Clone, Copy)]
+/// A job without its values: with how many there are in place of them.
+#[derive(Drop)]
 pub(crate) enum PackedJob {
     Take(PackedRequest),
-    Reply(Option<Value>),
+    Reply { has_value: bool },
     Failed,
     Refused,
-    Granted(u8),
+    Granted(ArrayVec<HandlerNumber, 16>),
     Made(HandlerNumber),
     Go,
 }
 
-/// A want as an entry has it: with how many actuals or handlers there are in place of them.
-#[derive(Clone, Copy)]
+/// A want without its values: with how many there are in place of them.
+#[derive(Drop)]
 pub(crate) enum PackedWant {
     Continue,
-    Reserve(u8),
+    Reserve(ArrayVec<HandlerNumber, 16>),
     Post(PackedRequest),
     Ask {
         request: PackedRequest,
@@ -46,14 +48,59 @@ pub(crate) enum PackedWant {
         actuals: u8,
         passes: bool,
     },
-    Release(u8),
-    Wait(u8),
+    Release(ArrayVec<HandlerNumber, 16>),
+    Wait(ArrayVec<HandlerNumber, 16>),
     Done {
-        reply: Option<Value>,
-        released: u8,
+        released: ArrayVec<HandlerNumber, 16>,
+        has_reply: bool,
         refused: bool,
     },
     Fail(Cause),
+}
+
+/// A settlement without its values. Those of its job come first, and those of its want behind them.
+#[derive(Drop)]
+pub(crate) struct PackedSettlement {
+    pub(crate) handler: HandlerNumber,
+    pub(crate) turns: u32,
+    pub(crate) job: PackedJob,
+    pub(crate) want: PackedWant,
+}
+
+impl PackedSettlement {
+    /// How many values there are.
+    pub(crate) fn values(&self) -> usize
+        ensures { result ≡ values_in self.now }
+    {
+        self.job.values() + self.want.values()
+    }
+
+    /// The settlement that has the first of these values. Its job has the first of them.
+    pub(crate) fn unpack(&self, values: &[Value]) -> Settlement
+        requires few_in_job { values_in_job self.now.job ≤ 16 }
+        requires few_in_want { values_in_want self.now.want ≤ 16 }
+        requires there { values_in self.now ≤ length values.now }
+        ensures { result ≡ unpacked self.now values.now }
+    {
+        Settlement {
+            handler: self.handler,
+            job: self.job.unpack(values),
+            turns: self.turns,
+            want: self.want.unpack(&values[self.job.values()..]),
+        }
+    }
+}
+
+/// These turns of a handler, packed.
+pub(crate) fn pack(handler: HandlerNumber, job: &Job, turns: u32, want: &Want) -> PackedSettlement
+    ensures { result ≡ packed_of handler job.now turns want.now }
+{
+    PackedSettlement {
+        handler,
+        turns,
+        job: pack_job(job),
+        want: pack_want(want),
+    }
 }
 
 // ---- requests
@@ -96,89 +143,83 @@ fn first_actuals(actuals: &[Value], count: u8) -> ArrayVec<Value, 16>
     first
 }
 
-/// So many of these handlers.
-fn first_handlers(handlers: &[HandlerNumber], count: u8) -> ArrayVec<HandlerNumber, 16>
-    requires few { count ≤ 16 }
-    requires there { count ≤ length handlers.now }
-    ensures { result ≡ first_of_all count handlers.now }
+/// The first of these values, where there is to be one.
+fn first_value(values: &[Value], is_there: bool) -> Option<Value>
+    ensures { result ≡ value_if is_there values.now }
 {
-    let mut first = ArrayVec::new();
-    let _ = first.try_extend_from_slice(&handlers[..count as usize]);
-    first
+    if is_there {
+        return values.first().copied();
+    }
+    None
 }
 
 // ---- jobs
 
-pub(crate) fn pack_job(job: &Job) -> PackedJob
+fn pack_job(job: &Job) -> PackedJob
     ensures { result ≡ packed_job job.now }
 {
     match job {
         Job::Take(request) => PackedJob::Take(pack_request(request)),
-        Job::Reply(value) => PackedJob::Reply(*value),
+        Job::Reply(value) => PackedJob::Reply {
+            has_value: value.is_some(),
+        },
         Job::Failed => PackedJob::Failed,
         Job::Refused => PackedJob::Refused,
-        Job::Granted(handlers) => PackedJob::Granted(handlers.as_slice().len() as u8),
+        Job::Granted(handlers) => PackedJob::Granted(copy_handlers(handlers)),
         Job::Made(made) => PackedJob::Made(*made),
         Job::Go => PackedJob::Go,
     }
 }
 
-/// The actuals of a job.
-pub(crate) fn job_actuals(job: &Job) -> &[Value]
-    ensures actuals { result.now ≡ job_actuals job.now }
+/// The value of the answer that a job takes, or some value.
+pub(crate) fn answer_in(job: &Job) -> Value
+    ensures { result ≡ replied job.now }
+{
+    match job {
+        Job::Reply(Some(value)) => *value,
+        _ => Value::Void,
+    }
+}
+
+/// The values of a job, the answer of which is this one.
+pub(crate) fn job_values<'a>(job: &'a Job, answer: &'a [Value]) -> &'a [Value]
+    requires { answer.now ≡ replied job.now ∷ [] }
+    ensures values { result.now ≡ job_values job.now }
     ensures few { length result.now ≤ 16 }
 {
     match job {
         Job::Take(request) => request.actuals.as_slice(),
-        _ => &[],
-    }
-}
-
-/// The handlers of a job.
-pub(crate) fn job_handlers(job: &Job) -> &[HandlerNumber]
-    ensures handlers { result.now ≡ job_handlers job.now }
-    ensures few { length result.now ≤ 16 }
-{
-    match job {
-        Job::Granted(handlers) => handlers.as_slice(),
+        Job::Reply(Some(_)) => answer,
         _ => &[],
     }
 }
 
 impl PackedJob {
-    pub(crate) fn actuals(self) -> usize
-        ensures { result ≡ actuals_in_job self }
+    /// How many values there are.
+    pub(crate) fn values(&self) -> usize
+        ensures count { result ≡ values_in_job self.now }
+        ensures few { result < 256 }
     {
         match self {
             PackedJob::Take(request) => request.actuals as usize,
+            PackedJob::Reply { has_value: true } => 1,
             _ => 0,
         }
     }
 
-    pub(crate) fn handlers(self) -> usize
-        ensures { result ≡ handlers_in_job self }
+    /// The job that has the first of these values.
+    pub(crate) fn unpack(&self, values: &[Value]) -> Job
+        requires few { values_in_job self.now ≤ 16 }
+        requires there { values_in_job self.now ≤ length values.now }
+        ensures { result ≡ unpacked_job self.now values.now }
     {
         match self {
-            PackedJob::Granted(count) => count as usize,
-            _ => 0,
-        }
-    }
-
-    /// The job that has the first of these actuals and handlers.
-    pub(crate) fn unpack(self, actuals: &[Value], handlers: &[HandlerNumber]) -> Job
-        requires few_actuals { actuals_in_job self ≤ 16 }
-        requires actuals { actuals_in_job self ≤ length actuals.now }
-        requires few_handlers { handlers_in_job self ≤ 16 }
-        requires handlers { handlers_in_job self ≤ length handlers.now }
-        ensures { result ≡ unpacked_job self actuals.now handlers.now }
-    {
-        match self {
-            PackedJob::Take(request) => Job::Take(unpack_request(request, actuals)),
-            PackedJob::Reply(value) => Job::Reply(value),
+            PackedJob::Take(request) => Job::Take(unpack_request(*request, values)),
+            PackedJob::Reply { has_value } => Job::Reply(first_value(values, *has_value)),
             PackedJob::Failed => Job::Failed,
             PackedJob::Refused => Job::Refused,
-            PackedJob::Granted(count) => Job::Granted(first_handlers(handlers, count)),
-            PackedJob::Made(made) => Job::Made(made),
+            PackedJob::Granted(handlers) => Job::Granted(copy_handlers(handlers)),
+            PackedJob::Made(made) => Job::Made(*made),
             PackedJob::Go => Job::Go,
         }
     }
@@ -186,12 +227,12 @@ impl PackedJob {
 
 // ---- wants
 
-pub(crate) fn pack_want(want: &Want) -> PackedWant
+fn pack_want(want: &Want) -> PackedWant
     ensures { result ≡ packed_want want.now }
 {
     match want {
         Want::Continue => PackedWant::Continue,
-        Want::Reserve(handlers) => PackedWant::Reserve(handlers.as_slice().len() as u8),
+        Want::Reserve(handlers) => PackedWant::Reserve(copy_handlers(handlers)),
         Want::Post(request) => PackedWant::Post(pack_request(request)),
         Want::Ask { request, passes } => PackedWant::Ask {
             request: pack_request(request),
@@ -208,24 +249,39 @@ pub(crate) fn pack_want(want: &Want) -> PackedWant
             actuals: actuals.as_slice().len() as u8,
             passes: *passes,
         },
-        Want::Release(handlers) => PackedWant::Release(handlers.as_slice().len() as u8),
-        Want::Wait(handlers) => PackedWant::Wait(handlers.as_slice().len() as u8),
+        Want::Release(handlers) => PackedWant::Release(copy_handlers(handlers)),
+        Want::Wait(handlers) => PackedWant::Wait(copy_handlers(handlers)),
         Want::Done {
             reply,
             released,
             refused,
         } => PackedWant::Done {
-            reply: *reply,
-            released: released.as_slice().len() as u8,
+            released: copy_handlers(released),
+            has_reply: reply.is_some(),
             refused: *refused,
         },
         Want::Fail(why) => PackedWant::Fail(*why),
     }
 }
 
-/// The actuals of a want.
-pub(crate) fn want_actuals(want: &Want) -> &[Value]
-    ensures actuals { result.now ≡ want_actuals want.now }
+/// The value of the reply that a want has, or some value.
+pub(crate) fn reply_in(want: &Want) -> Value
+    ensures { result ≡ reply_of want.now }
+{
+    match want {
+        Want::Done {
+            reply: Some(value),
+            released: _,
+            refused: _,
+        } => *value,
+        _ => Value::Void,
+    }
+}
+
+/// The values of a want, the reply of which is this one.
+pub(crate) fn want_values<'a>(want: &'a Want, reply: &'a [Value]) -> &'a [Value]
+    requires { reply.now ≡ reply_of want.now ∷ [] }
+    ensures values { result.now ≡ want_values want.now }
     ensures few { length result.now ≤ 16 }
 {
     match want {
@@ -237,31 +293,20 @@ pub(crate) fn want_actuals(want: &Want) -> &[Value]
             actuals,
             passes: _,
         } => actuals.as_slice(),
-        _ => &[],
-    }
-}
-
-/// The handlers of a want.
-pub(crate) fn want_handlers(want: &Want) -> &[HandlerNumber]
-    ensures handlers { result.now ≡ want_handlers want.now }
-    ensures few { length result.now ≤ 16 }
-{
-    match want {
-        Want::Reserve(handlers) | Want::Release(handlers) | Want::Wait(handlers) => {
-            handlers.as_slice()
-        }
         Want::Done {
-            reply: _,
-            released,
+            reply: Some(_),
+            released: _,
             refused: _,
-        } => released.as_slice(),
+        } => reply,
         _ => &[],
     }
 }
 
 impl PackedWant {
-    pub(crate) fn actuals(self) -> usize
-        ensures { result ≡ actuals_in_want self }
+    /// How many values there are.
+    pub(crate) fn values(&self) -> usize
+        ensures count { result ≡ values_in_want self.now }
+        ensures few { result < 256 }
     {
         match self {
             PackedWant::Post(request) => request.actuals as usize,
@@ -271,66 +316,53 @@ impl PackedWant {
                 procedure: _,
                 actuals,
                 passes: _,
-            } => actuals as usize,
-            _ => 0,
-        }
-    }
-
-    pub(crate) fn handlers(self) -> usize
-        ensures { result ≡ handlers_in_want self }
-    {
-        match self {
-            PackedWant::Reserve(count) | PackedWant::Release(count) | PackedWant::Wait(count) => {
-                count as usize
-            }
+            } => *actuals as usize,
             PackedWant::Done {
-                reply: _,
-                released,
+                released: _,
+                has_reply: true,
                 refused: _,
-            } => released as usize,
+            } => 1,
             _ => 0,
         }
     }
 
-    /// The want that has the first of these actuals and handlers.
-    pub(crate) fn unpack(self, actuals: &[Value], handlers: &[HandlerNumber]) -> Want
-        requires few_actuals { actuals_in_want self ≤ 16 }
-        requires actuals { actuals_in_want self ≤ length actuals.now }
-        requires few_handlers { handlers_in_want self ≤ 16 }
-        requires handlers { handlers_in_want self ≤ length handlers.now }
-        ensures { result ≡ unpacked_want self actuals.now handlers.now }
+    /// The want that has the first of these values.
+    pub(crate) fn unpack(&self, values: &[Value]) -> Want
+        requires few { values_in_want self.now ≤ 16 }
+        requires there { values_in_want self.now ≤ length values.now }
+        ensures { result ≡ unpacked_want self.now values.now }
     {
         match self {
             PackedWant::Continue => Want::Continue,
-            PackedWant::Reserve(count) => Want::Reserve(first_handlers(handlers, count)),
-            PackedWant::Post(request) => Want::Post(unpack_request(request, actuals)),
+            PackedWant::Reserve(handlers) => Want::Reserve(copy_handlers(handlers)),
+            PackedWant::Post(request) => Want::Post(unpack_request(*request, values)),
             PackedWant::Ask { request, passes } => Want::Ask {
-                request: unpack_request(request, actuals),
-                passes,
+                request: unpack_request(*request, values),
+                passes: *passes,
             },
             PackedWant::Create {
                 class,
                 procedure,
-                actuals: count,
+                actuals,
                 passes,
             } => Want::Create {
-                class,
-                procedure,
-                actuals: first_actuals(actuals, count),
-                passes,
+                class: *class,
+                procedure: *procedure,
+                actuals: first_actuals(values, *actuals),
+                passes: *passes,
             },
-            PackedWant::Release(count) => Want::Release(first_handlers(handlers, count)),
-            PackedWant::Wait(count) => Want::Wait(first_handlers(handlers, count)),
+            PackedWant::Release(handlers) => Want::Release(copy_handlers(handlers)),
+            PackedWant::Wait(handlers) => Want::Wait(copy_handlers(handlers)),
             PackedWant::Done {
-                reply,
                 released,
+                has_reply,
                 refused,
             } => Want::Done {
-                reply,
-                released: first_handlers(handlers, released),
-                refused,
+                reply: first_value(values, *has_reply),
+                released: copy_handlers(released),
+                refused: *refused,
             },
-            PackedWant::Fail(why) => Want::Fail(why),
+            PackedWant::Fail(why) => Want::Fail(*why),
         }
     }
 }

@@ -1,16 +1,18 @@
 -- Room for settlements: what one takes is kept for each handler that is out.
-use Rattle.std.specs.Prelude.{◌≡◌, ◌≤◌, ◌+◌, ◌*◌, ℕ, Bool, true, false, Result, Ok, Err, length, vec_len, vec_capacity}
+use Rattle.std.specs.Prelude.{◌≡◌, ◌≤◌, ◌+◌, ◌*◌, ◌^◌, ℕ, Bool, true, false, Result, Ok, Err, length, vec_len, vec_capacity}
 use Rattle.sc_request.specs.declared.center.Core as coded
 use Rattle.sc_request.specs.declared.settlement.SettleFault.{SettleFault}
 use Rattle.sc_request.specs.declared.settlement.SettleFault.TheVariants.{NotOut, OutOfMemory}
 
--- There is room to settle each handler that is out, and so many more: a place in some queue, and in the log an entry
--- and as many actuals and handlers as the two lists of a settlement may have.
+-- There is room to settle each handler that is out, and so many more: a place in some queue, and in the log an entry,
+-- a packed settlement and as many values as the two lists of a settlement may have, with a number of 32 bits for each.
 pub record HasRoomFor (more : ℕ) (c : coded.Core) : Type 0 where
   pub places : c.outs + more ≤ length c.spare
   pub entries : vec_len c.log.entries + (c.outs + more) ≤ vec_capacity c.log.entries
-  pub actuals : vec_len c.log.actuals + 32 * (c.outs + more) ≤ vec_capacity c.log.actuals
-  pub handlers : vec_len c.log.handlers + 32 * (c.outs + more) ≤ vec_capacity c.log.handlers
+  pub packed : vec_len c.log.packed + (c.outs + more) ≤ vec_capacity c.log.packed
+  pub values : vec_len c.log.values + 32 * (c.outs + more) ≤ vec_capacity c.log.values
+  pub packed_numbers : vec_len c.log.packed + (c.outs + more) ≤ 2 ^ 32
+  pub value_numbers : vec_len c.log.values + 32 * (c.outs + more) ≤ 2 ^ 32
 
 -- ---- what a settlement answers
 

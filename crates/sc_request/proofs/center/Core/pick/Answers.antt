@@ -26,4 +26,4 @@ returns-clause-below c =
     omega (arith, within, below)
 
 pub returns-clause-room : goal.returns-clause-room
-returns-clause-room c = λ n r. c.send_out.ensures.room n (record { places = r.places; entries = r.entries; actuals = r.actuals; handlers = r.handlers })
+returns-clause-room c = λ n r. c.send_out.ensures.room n (record { places = r.places; entries = r.entries; packed = r.packed; values = r.values; packed_numbers = r.packed_numbers; value_numbers = r.value_numbers })

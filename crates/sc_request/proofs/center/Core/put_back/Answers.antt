@@ -126,13 +126,17 @@ returns-clause-home c = λ is n r.
     let counted = s.counted in
     let places = r.places in
     let entries = r.entries in
-    let actuals = r.actuals in
-    let handlers = r.handlers in
+    let packed = r.packed in
+    let values = r.values in
+    let packed_numbers = r.packed_numbers in
+    let value_numbers = r.value_numbers in
     record {
       places = omega (arith, counted, some, places);
       entries = omega (arith, counted, some, entries);
-      actuals = omega (arith, counted, some, actuals);
-      handlers = omega (arith, counted, some, handlers);
+      packed = omega (arith, counted, some, packed);
+      values = omega (arith, counted, some, values);
+      packed_numbers = omega (arith, counted, some, packed_numbers);
+      value_numbers = omega (arith, counted, some, value_numbers);
     }
 
 pub returns-clause-outs : goal.returns-clause-outs

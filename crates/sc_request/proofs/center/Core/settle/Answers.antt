@@ -25,8 +25,10 @@ returns-then-is_err-clause-short c = λ r.
     absurd (on_err c.make_room_for_one.result _ (sym c.is_err.ensures.value ∙ c.if-is_err.true) c.make_room_for_one.ensures.room
     (omega (arith, counted, out, places)) (record {
       entries = omega (arith, counted, out, r.entries);
-      actuals = omega (arith, counted, out, r.actuals);
-      handlers = omega (arith, counted, out, r.handlers);
+      packed = omega (arith, counted, out, r.packed);
+      values = omega (arith, counted, out, r.values);
+      packed_numbers = omega (arith, counted, out, r.packed_numbers);
+      value_numbers = omega (arith, counted, out, r.value_numbers);
     }))
 
 pub settle_out-requires-clause-out : goal.settle_out-requires-clause-out

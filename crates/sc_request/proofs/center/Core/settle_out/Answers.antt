@@ -164,14 +164,18 @@ returns-clause-room c = λ n r.
     let places = r.places in
     let rest = c.push.ensures.kept (out_total (slice_set xs h (with_job None x)) + n) (record {
       entries = omega (arith, total, counted, r.entries);
-      actuals = omega (arith, total, counted, r.actuals);
-      handlers = omega (arith, total, counted, r.handlers);
+      packed = omega (arith, total, counted, r.packed);
+      values = omega (arith, total, counted, r.values);
+      packed_numbers = omega (arith, total, counted, r.packed_numbers);
+      value_numbers = omega (arith, total, counted, r.value_numbers);
     }) in
     record {
       places = omega (arith, total, counted, spared, places);
       entries = omega (arith, total, counted, rest.entries);
-      actuals = omega (arith, total, counted, rest.actuals);
-      handlers = omega (arith, total, counted, rest.handlers);
+      packed = omega (arith, total, counted, rest.packed);
+      values = omega (arith, total, counted, rest.values);
+      packed_numbers = omega (arith, total, counted, rest.packed_numbers);
+      value_numbers = omega (arith, total, counted, rest.value_numbers);
     }
 
 pub returns-clause-outs : goal.returns-clause-outs
