@@ -52,8 +52,11 @@ impl<'w, 'r, T: Tell> Tracing<'w, 'r, T> {
         self.is_lacking
     }
 
-    /// Tells of the lines of a record that weren't gone through.
+    /// Tells of the lines of a record that weren't gone through, where turns are told.
     pub fn follow(&mut self, lines: &[RecordLine]) {
+        if !self.is_told() {
+            return;
+        }
         for line in lines.get(self.seen..).unwrap_or(&[]) {
             self.tell_line(*line);
         }
