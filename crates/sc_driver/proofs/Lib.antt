@@ -1,3 +1,8 @@
 pub mod ReplayLemmas
 pub mod Threads
+mod Misfits
+mod Turns
+mod SameWorlds
+mod SameReports
 mod Rows
+mod AuditRows

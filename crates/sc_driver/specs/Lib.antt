@@ -1,1 +1,4 @@
 pub mod Execution
+pub mod Misfits
+pub mod Audits
+pub mod Laws

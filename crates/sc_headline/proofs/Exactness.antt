@@ -7,12 +7,12 @@ use Rattle.sc_code.specs.declared.program.Image.{Image}
 use Rattle.sc_world.specs.Worlds.{PlainWorld}
 use Rattle.sc_plant.specs.declared.left.Left.{Left}
 use Rattle.sc_plant.specs.Left.{world_of}
-use Rattle.sc_auditing.specs.declared.auditing.AuditFault.{AuditFault}
-use Rattle.sc_auditing.specs.declared.auditing.AuditFault.TheVariants.{BadRecord, Differs, OutOfMemory}
-use Rattle.sc_auditing.specs.Audits.{DiffersAt, IsAudited, LeadsTo, TellsWhy, turns_of}
-use Rattle.sc_auditing.specs.Laws.{MisfitsAreNoRecord, OneMisfit, RunsAuditYes}
-use Rattle.sc_auditing.specs.Misfits.{IsFirstMisfit}
-use Rattle.sc_auditing.specs.Same.{FirstDiffers, IsSame}
+use Rattle.sc_driver.specs.declared.auditing.AuditFault.{AuditFault}
+use Rattle.sc_driver.specs.declared.auditing.AuditFault.TheVariants.{BadRecord, Differs, OutOfMemory}
+use Rattle.sc_driver.specs.Audits.{DiffersAt, IsAudited, LeadsTo, TellsWhy, turns_of}
+use Rattle.sc_driver.specs.Laws.{MisfitsAreNoRecord, OneMisfit, RunsAuditYes}
+use Rattle.sc_driver.specs.Misfits.{IsFirstMisfit}
+use Rattle.sc_recording.specs.Same.{FirstDiffers, IsSame}
 use Rattle.sc_frontend.specs.Texts.{IsLoaded}
 use Rattle.sc_refines_world.specs.Functional.{RunsAreFunctional}
 use Rattle.sc_headline.specs.Exactly.{AuditsAreExact, EndsApart, EndsInLeft, IsAnswer, IsExact, OneWorld, RunsAreAnsweredYes}

@@ -3,7 +3,7 @@ use Rattle.std.specs.Prelude.{ℕ, List}
 use Rattle.sc_class.specs.ClassNames.{Root}
 use Rattle.sc_code.specs.declared.program.Image.{Image}
 use Rattle.sc_plant.specs.declared.left.Left.{Left}
-use Rattle.sc_auditing.specs.Audits.{IsAudited}
+use Rattle.sc_driver.specs.Audits.{IsAudited}
 use Rattle.sc_frontend.specs.Texts.{IsLoaded}
 use Rattle.sc_headline.specs.Headline.{StandsForReached}
 

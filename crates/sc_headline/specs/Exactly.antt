@@ -8,11 +8,11 @@ use Rattle.sc_world.specs.Turning.{Runs}
 use Rattle.sc_world.specs.Worlds.{PlainWorld, opened}
 use Rattle.sc_plant.specs.declared.left.Left.{Left}
 use Rattle.sc_plant.specs.Left.{IsRun, world_of}
-use Rattle.sc_auditing.specs.declared.auditing.AuditFault.{AuditFault}
-use Rattle.sc_auditing.specs.declared.auditing.AuditFault.TheVariants.{BadRecord, Differs, OutOfMemory}
-use Rattle.sc_auditing.specs.Audits.{IsAudited, LeadsTo, TellsWhy}
-use Rattle.sc_auditing.specs.Misfits.{IsFirstMisfit}
-use Rattle.sc_auditing.specs.Same.{FirstDiffers, IsSame}
+use Rattle.sc_driver.specs.declared.auditing.AuditFault.{AuditFault}
+use Rattle.sc_driver.specs.declared.auditing.AuditFault.TheVariants.{BadRecord, Differs, OutOfMemory}
+use Rattle.sc_driver.specs.Audits.{IsAudited, LeadsTo, TellsWhy}
+use Rattle.sc_driver.specs.Misfits.{IsFirstMisfit}
+use Rattle.sc_recording.specs.Same.{FirstDiffers, IsSame}
 use Rattle.sc_frontend.specs.Texts.{IsLoaded}
 
 -- From the opening of a text's program, turns of the same handlers in the same order lead to one world.

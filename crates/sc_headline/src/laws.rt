@@ -7,7 +7,7 @@ ghost use Rattle.sc_headline.specs.Searched.{FoundOrdersAreTheMachines, Searches
 ghost use Rattle.sc_headline.specs.ThreadsHeadline.{ThreadsHaveHeadline, ThreadsMakeTurns, ThreadsReportAsMachine};
 ghost use Rattle.sc_world.specs.Views.{world_of};
 
-use sc_auditing::laws::{misfits_are_no_record, one_misfit, runs_audit_yes};
+use sc_driver::laws::{misfits_are_no_record, one_misfit, runs_audit_yes};
 use sc_plant::laws::runs_are_one_threads;
 use sc_refines_world::laws::{
     anew_runs_as_machine, attempts_have_headline, idle_world_is_idle, machine_has_headline,

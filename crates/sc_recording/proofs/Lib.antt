@@ -3,3 +3,4 @@ pub mod Comparisons
 pub mod Dues
 pub mod Endings
 pub mod PuttingBack
+mod SameHandlers

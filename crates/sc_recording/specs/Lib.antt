@@ -3,3 +3,4 @@ pub mod Due
 pub mod Ending
 pub mod Recorded
 pub mod Regions
+pub mod Same

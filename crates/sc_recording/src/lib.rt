@@ -2,7 +2,8 @@
 //!
 //! A [`RecordedCore`] settles what is due and nothing else, and notes each settlement as a line of the record: its type keeps that
 //! the settlements lead from the opening of the program to the core's state, and that the lines are these settlements. Here it is
-//! said, too, whether a run is over, and whether the logs of the regions are those of the settlements.
+//! said, too, whether a run is over, whether the logs of the regions are those of the settlements, and of which handler one thread's
+//! world and what is left don't have the same.
 #![tactic(auto)]
 
 mod bare;
@@ -11,6 +12,7 @@ mod due;
 mod ending;
 mod of_program;
 mod recorded_core;
+mod same;
 
 pub use bare::bare_regions;
 pub use compare::first_difference;
@@ -18,3 +20,4 @@ pub use due::{Undue, is_granting, settle_out};
 pub use ending::{MOST_LINES, Stop, has_ended, is_idle_or_full, turns_in, turns_left};
 pub use of_program::OfProgram;
 pub use recorded_core::RecordedCore;
+pub use same::first_that_differs;

@@ -2,8 +2,8 @@
 use Rattle.std.proofs.Common.{◌≡◌, ◌∙◌, ◌<◌, ◌⊎◌, inl, inr, ℕ, Bool, true, false, List, [], ◌++◌, Option, Some, None, Result, Ok, Err, IfOk, length, refl, ap, sym, subst}
 use Rattle.sc_model.specs.declared.status.Status.{Status}
 use Rattle.sc_plant.specs.declared.left.Left.{Left}
-use Rattle.sc_auditing.specs.declared.auditing.AuditFault.{AuditFault}
-use Rattle.sc_auditing.specs.Audits.{TellsWhy}
+use Rattle.sc_driver.specs.declared.auditing.AuditFault.{AuditFault}
+use Rattle.sc_driver.specs.Audits.{TellsWhy}
 use Rattle.sc_serve.specs.declared.serve.Exit.TheVariants.{Broken}
 use Rattle.std.specs.Option.{option_map}
 use Rattle.std.specs.Prelude.{IfErr, IfSome, OnOk}

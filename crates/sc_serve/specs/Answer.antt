@@ -26,9 +26,9 @@ use Rattle.sc_driver.specs.Execution.{IsReplay, IsRunOf, IsThreadRun}
 use Rattle.sc_plant.specs.declared.left.Left.{Left}
 use Rattle.sc_plant.specs.declared.bounds.Bounds.{Bounds}
 use Rattle.sc_plant.specs.Bounded.{IsBoundedRun}
-use Rattle.sc_auditing.specs.declared.auditing.AuditFault.{AuditFault}
-use Rattle.sc_auditing.specs.declared.auditing.AuditFault.TheVariants as auditing
-use Rattle.sc_auditing.specs.Audits.{IsAudited, TellsWhy}
+use Rattle.sc_driver.specs.declared.auditing.AuditFault.{AuditFault}
+use Rattle.sc_driver.specs.declared.auditing.AuditFault.TheVariants as auditing
+use Rattle.sc_driver.specs.Audits.{IsAudited, TellsWhy}
 use Rattle.sc_class.specs.ClassNames.{Root}
 use Rattle.sc_class.specs.View.{root_of}
 use Rattle.sc_frontend.specs.declared.rejection.Rejection.{Rejection}

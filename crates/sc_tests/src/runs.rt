@@ -3,9 +3,8 @@
 use crate::programs::program_of;
 use crate::rows::{expect_text, text_of};
 use sc_audit::Record;
-use sc_auditing::{AuditFault, audit};
 use sc_code::Program;
-use sc_driver::{RunReport, replay};
+use sc_driver::{AuditFault, RunReport, audit, replay};
 use sc_lockpass::HandlerNumber;
 use sc_plant::{Gate, Left, RunFault, run};
 use std::alloc::{AllocError, Global};

@@ -1,4 +1,4 @@
-use Rattle.sc_auditing.specs.Audits.{turns_of}
+use Rattle.sc_driver.specs.Audits.{turns_of}
 use Rattle.sc_headline.proofs.laws.audited_worlds_have_headline.Goals as goal
 
 pub returns : goal.returns

@@ -1,5 +1,5 @@
 use Rattle.std.proofs.Common.{rules}
-use Rattle.sc_auditing.specs.declared.auditing.AuditFault.TheVariants.{BadRecord, Differs}
+use Rattle.sc_driver.specs.declared.auditing.AuditFault.TheVariants.{BadRecord, Differs}
 use Rattle.sc_lower.specs.Lowerings.{image_of}
 use Rattle.sc_serve.proofs.AnswerLemmas.{told_of_audit}
 use Rattle.sc_serve.proofs.running.judge.Goals as goal

@@ -1,5 +1,0 @@
-mod Misfits
-mod Turns
-mod SameWorlds
-mod SameReports
-mod Rows

@@ -1,5 +1,0 @@
-use Rattle.sc_auditing.proofs.Misfits.{misfits-are-no-record}
-use Rattle.sc_auditing.proofs.laws.misfits_are_no_record.Goals as goal
-
-pub returns : goal.returns
-returns c = misfits-are-no-record

@@ -1,4 +1,0 @@
-pub mod Same
-pub mod Misfits
-pub mod Audits
-pub mod Laws
