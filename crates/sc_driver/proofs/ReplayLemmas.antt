@@ -1,7 +1,7 @@
--- Lines of a record, one after the other.
-use Rattle.std.proofs.Common.{◌≡◌, ◌<◌, ◌+◌, ℕ, List, [], ◌∷◌, ◌++◌, length, replicate, take, get_or, ap, sym, ◌∙◌, subst}
+-- Laws of replays.
+use Rattle.std.proofs.Common.{◌≡◌, ◌+◌, ℕ, List, ◌∷◌, ◌++◌, replicate, Result, Ok, Err, IfOk, ap, sym, ◌∙◌, subst}
 use Rattle.std.specs.List.{flat_map}
-use Rattle.std.proofs.lemmas.List.{append_assoc, flat_map_more, replicate-append-replicate, take_more}
+use Rattle.std.proofs.lemmas.List.{append_assoc, replicate-append-replicate}
 use Rattle.std.proofs.lemmas.Grind.{flat_map-append}
 use Rattle.sc_lockpass.specs.declared.version.Version.{Version}
 use Rattle.sc_audit.specs.declared.line.RecordLine.{RecordLine}
@@ -9,23 +9,15 @@ use Rattle.sc_code.specs.declared.program.Image.{Image}
 use Rattle.sc_model.specs.declared.status.Status.{Status}
 use Rattle.sc_world.specs.Turning.{Runs}
 use Rattle.sc_world.specs.Worlds.{PlainWorld, opened}
+use Rattle.sc_driver.specs.declared.execution.RunReport.{RunReport}
 use Rattle.sc_driver.specs.Execution.{EmptyReplayLeavesOpening, IsReplay, Leaves, LinesMayBeSplit, line_turns}
 
--- turns, and others behind them
-runs-join : (hs ks : List ℕ) (x y z : PlainWorld) → Runs hs x y → Runs ks y z → Runs (hs ++ ks) x z
-runs-join [] ks x y z same runs = subst (λ (w : PlainWorld). Runs ks w z) same runs
-runs-join (h ∷ hs) ks x y z first runs = (first.0, first.1, runs-join hs ks first.0 y z first.2 runs)
-
--- the turns of the line at a place, behind those of the lines before it
-pub lines-more : (lines : List RecordLine) (i : ℕ) (d : RecordLine) (x y z : PlainWorld) → i < length lines →
-    Runs (flat_map line_turns (take i lines)) x y → Runs (line_turns (get_or lines i d)) y z → Runs (flat_map line_turns (take (i + 1) lines)) x z
-lines-more lines i d x y z below runs turns =
-    let line = get_or lines i d in
-    let all : flat_map line_turns (take i lines) ++ line_turns line ≡ flat_map line_turns (take (i + 1) lines) =
-    flat_map_more line_turns [] (take i lines) line ∙ ap (flat_map line_turns) (sym (take_more lines i d below)) in
-    subst (λ (hs : List ℕ). Runs hs x z) all (runs-join (flat_map line_turns (take i lines)) (line_turns line) x y z runs turns)
-
--- ---- laws
+-- what is told of the world that the turns of the lines lead to
+pub replayed : {E : Type 0} (p : Image) (v : Version) (lines : List RecordLine) (w : PlainWorld) (r : Result RunReport E) →
+    Runs (flat_map line_turns lines) (opened p v) w → IfOk r (λ told. Leaves w told.report.items told.statuses.items) →
+    IfOk r (λ told. IsReplay p v lines told.report.items told.statuses.items)
+replayed p v lines w (Ok told) runs leaves = record { world = w; runs = runs; leaves = leaves }
+replayed p v lines w (Err e) runs leaves = tt
 
 -- a replay of other lines that stand for the same turns
 same-turns : (p : Image) (v : Version) (xs ys : List RecordLine) (text : List ℕ) (statuses : List Status) →

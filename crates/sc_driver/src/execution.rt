@@ -5,6 +5,7 @@ ghost use Rattle.sc_lower.specs.Lowerings.{image_of};
 ghost use Rattle.sc_world.specs.Views.{world_of};
 ghost use Rattle.sc_driver.specs.Execution.{EmptyReplayLeavesOpening, IsReplay, Leaves, LinesMayBeSplit};
 
+use crate::playing::play;
 use sc_audit::Record;
 use sc_code::Program;
 use sc_model::Status;
@@ -23,10 +24,7 @@ pub fn replay(alloc: Global, program: &Program, recorded: &Record) -> Result<Run
     ensures { let turns = recorded.now.lines.items in IfOk result (λ outcome.
         IsReplay (image_of program.now) recorded.now.version turns outcome.report.items outcome.statuses.items) }
 {
-    let mut world = World::open(alloc, program, recorded.version)?;
-    for line in &recorded.lines {
-        world.turns_of(line.handler, line.turns)?;
-    }
+    let world = play(alloc, program, recorded.version, &recorded.lines)?;
     outcome_of(&world)
 }
 

@@ -1,7 +1,9 @@
-use Rattle.sc_driver.proofs.ReplayLemmas.{lines-more}
+use Rattle.sc_lower.specs.Lowerings.{image_of}
+use Rattle.sc_world.specs.Views.{world_of}
+use Rattle.sc_driver.proofs.ReplayLemmas.{replayed}
 use Rattle.sc_driver.proofs.execution.replay.Goals as goal
 
-pub loop-line-preserved : goal.loop-line-preserved
-loop-line-preserved c =
-    lines-more c.deref-line-items.result.now c.loop-line.line-index (record { handler = 0; turns = 0 }) _ _ _ c.loop-line-test.true
-    c.loop-line.invariant c.in_ok-turns_of.ensures.ok
+pub returns : goal.returns
+returns c =
+    replayed (image_of c.args.program.now) c.args.recorded.now.version c.args.recorded.now.lines.items (world_of c.in_ok-world.world)
+    c.outcome_of.result (rw c.deref.ensures.value at c.in_ok-world.ensures) c.outcome_of.ensures
