@@ -175,7 +175,7 @@ fn audited<R: Abort>(
     match audit(alloc, program, left) {
         Ok(()) => replayed(rt, alloc, program, left),
         Err(AuditFault::OutOfMemory) => Err(Fail::from(AllocError)),
-        Err(why) => panic!(rt; "the audit of a run: {why}"),
+        Err(_) => panic!(rt; "the audit of a run doesn't say yes"),
     }
 }
 
