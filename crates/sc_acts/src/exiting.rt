@@ -84,7 +84,8 @@ fn hand_over(store: &mut Store<'_>, value: Option<Value>)
 }
 
 /// The topmost frame goes, and what called its routine goes on.
-fn give_back(store: &mut Store<'_>, origin: Origin, value: Option<Value>)
+#[inline(always)]
+pub fn give_back(store: &mut Store<'_>, origin: Origin, value: Option<Value>)
     ensures { store.new ≡ returned origin value store.old }
 {
     store.pop();

@@ -23,6 +23,6 @@ mod versions;
 pub use act::{Act, Calling, RemoteCall, RemoteCreation};
 pub use acting::act_on;
 pub use beginning::ask_beginning;
-pub use exiting::{copy_handlers, hand_to, is_unset};
+pub use exiting::{copy_handlers, give_back, hand_to, is_unset, meets};
 pub use steps::{end_round_on, unless_failed};
 pub use versions::{routine_of, version_in};

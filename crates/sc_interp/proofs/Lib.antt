@@ -26,3 +26,4 @@ pub mod Loops
 pub mod Switches
 pub mod OneObject
 pub mod Loads
+pub mod Away

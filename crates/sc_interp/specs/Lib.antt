@@ -9,3 +9,4 @@ pub mod Told
 pub mod Laws
 pub mod Running
 pub mod Joining
+pub mod Away

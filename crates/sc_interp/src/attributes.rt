@@ -17,6 +17,7 @@ use sc_model::Cause;
 use sc_region::{ObjectNumber, Reference, Store, Value};
 
 /// The number of the attribute of this name of the object.
+#[inline(always)]
 fn attribute_number(store: &Store<'_>, object: ObjectNumber, name: NameNumber) -> Option<usize>
     ensures { result ≡ named_attribute store.now object name }
 {
@@ -28,6 +29,7 @@ fn attribute_number(store: &Store<'_>, object: ObjectNumber, name: NameNumber) -
 }
 
 /// The attribute of this name of the object.
+#[inline(always)]
 pub fn attribute_value(store: &Store<'_>, object: ObjectNumber, name: NameNumber) -> Option<Value>
     ensures { IsAttribute store.now object name result }
 {
@@ -66,6 +68,7 @@ pub fn push_attribute(
 }
 
 /// The operand of the topmost routine under the last so many, if there is one.
+#[inline(always)]
 pub fn value_under(store: &Store<'_>, count: usize) -> Option<Value>
     ensures { result ≡ option_and_then (λ (a : PlainActivation). slice_get a.operands.values count) (top_activation store.now.frames) }
 {

@@ -16,6 +16,7 @@ use sc_model::Cause;
 use sc_region::{Activation, Reference};
 
 /// Whether there is a name of the number.
+#[inline(always)]
 pub fn has_name(pool: &ConstantPool, name: NameNumber) -> bool
     ensures { slice_get (pool_of pool.now).names name ≡ (if result then Some (listed (pool_of pool.now).names name) else None) }
 {
@@ -33,6 +34,7 @@ fn has_procedure(pool: &ConstantPool, procedure: Option<NameNumber>) -> bool
 }
 
 /// The call's site of the number, where it and its name are there.
+#[inline(always)]
 pub fn call_at(program: &Program, number: usize) -> Option<CallSite>
     ensures site { let pool = pool_of program.now.image.pool in
         option_map (call_in pool) result ≡ option_and_then (call_of pool) (slice_get pool.calls number) }
@@ -63,6 +65,7 @@ fn creation_at(program: &Program, number: usize) -> Option<CreationSite>
 }
 
 /// Whether there is room for what comes where the last so many operands are gone, if anything comes.
+#[inline(always)]
 pub fn has_room(activation: &Activation, count: usize, gives: bool) -> bool
     ensures { let operands = (activation_of activation.now).operands in
         result ≡ (not gives || nat_lt (length (drop count operands.values)) operands.depth) }

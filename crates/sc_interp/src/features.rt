@@ -30,6 +30,7 @@ pub enum FoundFeature {
 }
 
 /// What the feature of this name of an object of this handler is, if there are both.
+#[inline(always)]
 pub fn feature_of(store: &Store<'_>, object: Reference, name: NameNumber) -> Option<FoundFeature>
     ensures { IsFeature store.now object name result }
 {
@@ -48,6 +49,7 @@ pub fn feature_of(store: &Store<'_>, object: Reference, name: NameNumber) -> Opt
 }
 
 /// How many operands a call takes, with its target.
+#[inline(always)]
 fn past(activation: &Activation, site: CallSite) -> usize
     requires { site.count < length (activation_of activation.now).operands.values }
     ensures { result ≡ site.count + 1 }
@@ -60,6 +62,7 @@ fn past(activation: &Activation, site: CallSite) -> usize
 }
 
 /// The handler fails, where the operands of the call are gone.
+#[inline(never)]
 fn refuse(activation: &mut Activation, site: CallSite, why: Cause) -> Hop
     requires { site.count < length (activation_of activation.old).operands.values }
     ensures gone { activation_of activation.new ≡ record (activation_of activation.old) {
@@ -73,6 +76,7 @@ fn refuse(activation: &mut Activation, site: CallSite, why: Cause) -> Hop
 }
 
 /// Whether there is room for what comes where the operands of the call are gone, if anything comes.
+#[inline(always)]
 fn has_room_past(activation: &Activation, site: CallSite, gives: bool) -> bool
     requires { site.count < length (activation_of activation.now).operands.values }
     ensures { let operands = (activation_of activation.now).operands in
@@ -82,6 +86,7 @@ fn has_room_past(activation: &Activation, site: CallSite, gives: bool) -> bool
 }
 
 /// The value of an attribute comes in the place of the call's operands: F7 where it is still Void and may not be.
+#[inline(always)]
 fn read_in_place(
     activation: &mut Activation,
     count: usize,
@@ -102,6 +107,7 @@ fn read_in_place(
 }
 
 /// An attribute of the target is read.
+#[inline(always)]
 fn read_on(activation: &mut Activation, count: usize, site: CallSite, value: Option<Value>) -> Hop
     requires { site.count < length (activation_of activation.old).operands.values }
     ensures calls { ReadsAttribute count site value result (activation_of activation.old) (activation_of activation.new) }
@@ -115,6 +121,7 @@ fn read_on(activation: &mut Activation, count: usize, site: CallSite, value: Opt
 }
 
 /// A routine of the target is entered.
+#[inline(always)]
 fn enter_on(activation: &mut Activation, object: Reference, site: CallSite) -> Hop
     requires { site.count < length (activation_of activation.old).operands.values }
     ensures calls { EntersRoutine object site result (activation_of activation.old) (activation_of activation.new) }
@@ -136,6 +143,7 @@ fn enter_on(activation: &mut Activation, object: Reference, site: CallSite) -> H
 }
 
 /// A feature of an object of another handler is asked for.
+#[inline(never)]
 fn request_on(activation: &mut Activation, object: Reference, site: CallSite) -> Hop
     requires { site.count < length (activation_of activation.old).operands.values }
     ensures calls { RequestsFeature object site result (activation_of activation.old) (activation_of activation.new) }
@@ -160,6 +168,7 @@ fn request_on(activation: &mut Activation, object: Reference, site: CallSite) ->
 }
 
 /// The feature of the target, which is of this handler, is called.
+#[inline(always)]
 fn call_found(
     activation: &mut Activation,
     count: usize,
@@ -181,6 +190,7 @@ fn call_found(
 }
 
 /// The target, whose object has this feature, is called from the object `me`.
+#[inline(always)]
 fn call_on(
     activation: &mut Activation,
     me: Reference,
@@ -210,6 +220,7 @@ fn call_on(
 }
 
 /// What the feature of this name of the target is, where that is an object.
+#[inline(always)]
 fn feature_at(store: &Store<'_>, target: Value, name: NameNumber) -> Option<FoundFeature>
     ensures { IsFeatureAt store.now target name result }
 {
@@ -220,6 +231,7 @@ fn feature_at(store: &Store<'_>, target: Value, name: NameNumber) -> Option<Foun
 }
 
 /// The call's site of the number, where it and its name are there.
+#[inline(always)]
 fn site_at(store: &Store<'_>, number: usize) -> Option<CallSite>
     ensures site { IsSite store.now number result }
     ensures there { IfSome result (λ site. IsCallIn store.now.program site) }
@@ -228,6 +240,7 @@ fn site_at(store: &Store<'_>, number: usize) -> Option<CallSite>
 }
 
 /// The call is made on the target, which lies under its actuals.
+#[inline(always)]
 fn call_target(
     store: &mut Store<'_>,
     me: Reference,
@@ -252,6 +265,7 @@ fn call_target(
 }
 
 /// A feature of a target is called from the object `me`, by the number of the call's site.
+#[inline(always)]
 pub fn call_feature(store: &mut Store<'_>, me: Reference, count: usize, number: usize) -> Hop
     ensures plays { Plays me count (coded.CallFeature number) result store.old store.new }
     ensures remains { Remains store.old store.new }

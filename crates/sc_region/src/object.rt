@@ -106,6 +106,7 @@ impl Objects {
     }
 
     /// The object of the number, to be changed.
+    #[inline(always)]
     pub fn get_mut(&mut self, number: usize) -> Option<&mut Object>
         ensures* writes_back { sem 𝓛 (LendsObject self.entry number result) }
         ensures value { option_map (λ object. object_of object.now) result ≡ object_numbered number self.old }
@@ -115,6 +116,7 @@ impl Objects {
     }
 
     /// The class of the object of the number.
+    #[inline(always)]
     pub fn class_of(&self, number: usize) -> Option<ClassNumber>
         ensures { result ≡ option_map (λ (o : PlainObject). o.class) (object_numbered number self.now) }
     {

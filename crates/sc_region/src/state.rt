@@ -228,6 +228,7 @@ pub fn enter(
 }
 
 /// The topmost routine calls that of the number on an object.
+#[inline(always)]
 pub fn call(
     state: &mut State<'_>,
     current: Reference,
@@ -255,6 +256,7 @@ pub fn call(
 }
 
 /// The stack is full: the topmost routine fails in its call, not at it.
+#[inline(never)]
 fn overflow(state: &mut State<'_>, call: OwnCall)
     ensures { state_of state.new ≡ failed cause.StackFull (state_of state.old) }
 {
@@ -265,6 +267,7 @@ fn overflow(state: &mut State<'_>, call: OwnCall)
 }
 
 /// The topmost frame goes, and the one below it is the topmost now.
+#[inline(always)]
 pub fn leave(state: &mut State<'_>)
     ensures { state_of state.new ≡ left (state_of state.old) }
 {

@@ -1,16 +1,16 @@
 //! The store of a handler.
-ghost use Rattle.std.specs.Prelude.{◌≡◌, ◌<◌, ◌≤◌, ◌↔◌, ◌&&◌, IfNone, IfSome, OnOk, OnErr, IsTrue, is_some, length};
+ghost use Rattle.std.specs.Prelude.{◌≡◌, ◌<◌, ◌≤◌, ◌↔◌, ◌&&◌, IfNone, IfSome, OnOk, OnErr, IsTrue, is_some, length, nat_lt, not};
 ghost use Rattle.sc_region.specs.Calls.{calls, top_operands};
 ghost use Rattle.sc_region.specs.Objects.{PlainObject, object_numbered, attribute_of};
 ghost use Rattle.sc_region.specs.Classes.{MeetsAt};
-ghost use Rattle.sc_region.specs.Stores.{AreSame, SettledObjectsMeet, new_store, is_settled, failed, written, entered, left, born, born_for, made, made_for, printed};
+ghost use Rattle.sc_region.specs.Stores.{AreSame, SettledObjectsMeet, new_store, is_settled, failed, written, entered, left, born, born_for, made, made_for, max_frames, printed};
 ghost use Rattle.sc_region.specs.declared.frame.Origin.TheVariants as origin;
 
 use crate::breakdown::Breakdown;
 use crate::frame::{Activation, Origin, OwnCall};
 use crate::object::Objects;
 use crate::stack::Stack;
-use crate::state::{self, State};
+use crate::state::{self, MAX_FRAMES, State};
 use crate::value::{ObjectNumber, Reference, Value};
 use sc_code::{ClassNumber, Program};
 use sc_lockpass::HandlerNumber;
@@ -71,6 +71,7 @@ impl<'p> Store<'p> {
     }
 
     /// The program that the store is of.
+    #[inline(always)]
     pub fn program(&self) -> &'p Program
         ensures { result.now.image ≡ self.now.program }
     {
@@ -78,11 +79,13 @@ impl<'p> Store<'p> {
     }
 
     /// The allocator that what grows takes its memory from.
+    #[inline(always)]
     pub fn alloc(&self) -> Global {
         self.state.alloc
     }
 
     /// The number of the class of an object, or None where there is no object. It takes constant time.
+    #[inline(always)]
     pub fn class_of(&self, number: ObjectNumber) -> Option<ClassNumber>
         ensures { result ≡ option_map (λ (o : PlainObject). o.class) (object_numbered number self.now.objects) }
     {
@@ -186,6 +189,7 @@ impl<'p> Store<'p> {
     /// The topmost routine calls that of the number on an object: its last operands are the actuals, in place. F16 where
     /// there is no such routine, or it has another number of formals; F11 where the stack is full. Err where there is no
     /// memory; nothing has changed then.
+    #[inline(always)]
     pub fn call(
         &mut self,
         current: Reference,
@@ -200,7 +204,16 @@ impl<'p> Store<'p> {
         state::call(&mut self.state, current, routine, call)
     }
 
+    /// Whether there are as many frames as there may be.
+    #[inline(always)]
+    pub fn is_full(&self) -> bool
+        ensures { result ≡ not (nat_lt (length self.now.frames) max_frames) }
+    {
+        self.state.stack.height() >= MAX_FRAMES
+    }
+
     /// The topmost frame goes, where there is one: F1 where its object is settled now and breaks its invariant.
+    #[inline(always)]
     pub fn pop(&mut self)
         ensures { self.new ≡ left self.old }
     {
@@ -247,6 +260,7 @@ impl<'p> Store<'p> {
     }
 
     /// The object on which the topmost routine runs, if there is a frame.
+    #[inline(always)]
     pub fn current(&self) -> Option<Reference>
         ensures { result ≡ top_current self.now.frames }
     {
@@ -254,6 +268,7 @@ impl<'p> Store<'p> {
     }
 
     /// Where the topmost routine stands, if there is a frame.
+    #[inline(always)]
     pub fn top(&self) -> Option<&Activation>
         ensures { option_map (λ activation. activation_of activation.now) result ≡ top_activation self.now.frames }
     {
@@ -267,6 +282,7 @@ impl<'p> Store<'p> {
     }
 
     /// The same of the topmost routine, to be changed.
+    #[inline(always)]
     pub fn top_mut(&mut self) -> Option<&mut Activation>
         ensures* writes_back { sem 𝓛 (LendsTop self.entry result) }
         ensures value { option_map (λ activation. activation_of activation.now) result ≡ top_activation self.old.frames }
@@ -298,6 +314,7 @@ impl<'p> Store<'p> {
     }
 
     /// The failure that the store has ended in.
+    #[inline(always)]
     pub fn failure(&self) -> Option<Cause>
         ensures { result ≡ self.now.failure }
     {
