@@ -7,7 +7,7 @@ ghost use Rattle.sc_code.specs.Programs.{pool_of};
 ghost use Rattle.sc_region.specs.Frames.{PlainActivation, activation_of, top_activation};
 ghost use Rattle.sc_interp.specs.Features.{CallsFound, CallsSeen, EntersRoutine, IsFeature, IsFeatureAt, IsSite, IsUnder, ReadsAttribute, ReadsInPlace, RequestsFeature};
 ghost use Rattle.sc_interp.specs.Playing.{Plays, Remains};
-ghost use Rattle.sc_interp.specs.Standing.{Stays};
+ghost use Rattle.sc_interp.specs.Standing.{Stays, stepped};
 ghost use Rattle.sc_acts.specs.Tables.{listed};
 ghost use Rattle.sc_interp.specs.Told.{IsCallIn, IsDone, IsTold, OnComes, Tells};
 
@@ -87,22 +87,21 @@ fn has_room_past(activation: &Activation, site: CallSite, gives: bool) -> bool
 
 /// The value of an attribute comes in the place of the call's operands: F7 where it is still Void and may not be.
 #[inline(always)]
-fn read_in_place(
+pub fn read_target(
     activation: &mut Activation,
     count: usize,
     site: CallSite,
     is_attached: bool,
     value: Option<Value>,
-) -> Hop
+) -> Result<(), Cause>
     requires { site.count < length (activation_of activation.old).operands.values }
-    ensures calls { ReadsInPlace count site is_attached value result (activation_of activation.old) (activation_of activation.new) }
+    ensures calls { ReadsInPlace count site is_attached value (stepped result) (activation_of activation.old) (activation_of activation.new) }
     ensures stays { Stays (activation_of activation.old) (activation_of activation.new) }
-    ensures done { IsDone result }
 {
     activation.operands.drop_last(site.count);
     match activation.operands.pop() {
-        Some(_target) => stepped(replace(activation, count, read(is_attached, value))),
-        None => Hop::Failed(Cause::BadCode),
+        Some(_target) => replace(activation, count, read(is_attached, value)),
+        None => Err(Cause::BadCode),
     }
 }
 
@@ -116,7 +115,7 @@ fn read_on(activation: &mut Activation, count: usize, site: CallSite, value: Opt
 {
     match site.gives {
         None => refuse(activation, site, Cause::BadCode),
-        Some(is_attached) => read_in_place(activation, count, site, is_attached, value),
+        Some(is_attached) => stepped(read_target(activation, count, site, is_attached, value)),
     }
 }
 
@@ -232,7 +231,7 @@ fn feature_at(store: &Store<'_>, target: Value, name: NameNumber) -> Option<Foun
 
 /// The call's site of the number, where it and its name are there.
 #[inline(always)]
-fn site_at(store: &Store<'_>, number: usize) -> Option<CallSite>
+pub fn site_at(store: &Store<'_>, number: usize) -> Option<CallSite>
     ensures site { IsSite store.now number result }
     ensures there { IfSome result (λ site. IsCallIn store.now.program site) }
 {
