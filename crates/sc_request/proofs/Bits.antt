@@ -1,8 +1,8 @@
--- Sets of numbers as the bits of words: one is taken out, another set is added, and the least from a number on is found.
-use Rattle.std.proofs.Common.{◌≡◌, ◌≢◌, ℕ, zero, suc, ◌+◌, ◌-◌, ◌*◌, ◌/◌, ◌%◌, ◌^◌, ◌<◌, ◌≤◌, ◌==◌, ◌&&◌, ◌||◌, Bool, true, false, not, List, length, max, slice_index_or, slice_set, bit_and, bit_or, w64, inl, inr, refl, sym, ap, ◌∙◌, arith, get_or-set_same, get_or-set_other}
+-- Sets of numbers as the bits of words: one is taken out, another set is added or taken out, and the least from a number on is found.
+use Rattle.std.proofs.Common.{◌≡◌, ◌≢◌, ℕ, zero, suc, ◌+◌, ◌-◌, ◌*◌, ◌/◌, ◌%◌, ◌^◌, ◌<◌, ◌≤◌, ◌==◌, ◌&&◌, ◌||◌, Bool, true, false, not, List, [], length, max, min, slice_index_or, slice_set, bit_and, bit_or, bit_xor, w64, inl, inr, refl, sym, ap, ◌∙◌, arith, get_or-set_same, get_or-set_other}
 use Rattle.std.proofs.lemmas.Bool.{cases_eq, cases_lt, eq-eqb, ne_eqb}
 use Rattle.std.proofs.lemmas.Nat.{shr-shr, shr_le}
-use Rattle.std.proofs.lemmas.Nat.Bits.{bit_at_or, bit_at-zero, bit_at-lt, bit_at_above, bit_at-trailing_zeros, bit_at_clear_same, bit_at_clear_other}
+use Rattle.std.proofs.lemmas.Nat.Bits.{bit_at_and, bit_at_or, bit_at_xor, bit_at-zero, bit_at-lt, bit_at_above, bit_at-trailing_zeros, bit_at_clear_same, bit_at_clear_other}
 use Rattle.std.specs.Int.{bit_at, bit_not, trailing_zeros}
 use Rattle.sc_lockpass.specs.Tables.{is_member}
 use Rattle.sc_request.specs.Candidates.{HasNoneIn, IsFirstIn}
@@ -60,6 +60,36 @@ pub added_past : (old other new : List ℕ) (k : ℕ) → slice_index_or new (k 
 added_past old other new k e none =
     let empty : is_member other k ≡ false = ap (λ w. bit_at w (k % 64) == 1) none ∙ ap (λ x. x == 1) (bit_at-zero (k % 64)) in
     ap (λ w. bit_at w (k % 64) == 1) e ∙ sym (or-false (is_member old k)) ∙ ap (λ b. is_member old k || b) (sym empty)
+
+-- ---- another set is taken out
+
+left_bits : (x y : ℕ) → x < 2 → y < 2 → ((x + min x y) % 2 == 1) ≡ (not (y == 1) && x == 1)
+left_bits zero zero l u = refl
+left_bits zero (suc zero) l u = refl
+left_bits (suc zero) zero l u = refl
+left_bits (suc zero) (suc zero) l u = refl
+left_bits (suc (suc x)) y l u = absurd (omega (arith, l))
+left_bits x (suc (suc y)) l u = absurd (omega (arith, u))
+
+pub taken_out_here : (old other new : List ℕ) (k : ℕ) →
+    slice_index_or new (k / 64) 0 ≡ bit_xor (slice_index_or old (k / 64) 0) (bit_and (slice_index_or old (k / 64) 0) (slice_index_or other (k / 64) 0)) →
+    is_member new k ≡ (not (is_member other k) && is_member old k)
+taken_out_here old other new k e =
+    let a = slice_index_or old (k / 64) 0 in
+    let b = slice_index_or other (k / 64) 0 in
+    ap (λ w. bit_at w (k % 64) == 1) e
+    ∙ ap (λ x. x == 1) (bit_at_xor a (bit_and a b) (k % 64) ∙ ap (λ x. (bit_at a (k % 64) + x) % 2) (bit_at_and a b (k % 64)))
+    ∙ left_bits (bit_at a (k % 64)) (bit_at b (k % 64)) (bit_at-lt a (k % 64)) (bit_at-lt b (k % 64))
+
+pub taken_out_past : (old other new : List ℕ) (k : ℕ) → slice_index_or new (k / 64) 0 ≡ slice_index_or old (k / 64) 0 → slice_index_or other (k / 64) 0 ≡ 0 →
+    is_member new k ≡ (not (is_member other k) && is_member old k)
+taken_out_past old other new k e none =
+    let empty : is_member other k ≡ false = ap (λ w. bit_at w (k % 64) == 1) none ∙ ap (λ x. x == 1) (bit_at-zero (k % 64)) in
+    ap (λ w. bit_at w (k % 64) == 1) e ∙ ap (λ b. not b && is_member old k) (sym empty)
+
+-- nothing is in a set without words
+pub none_in_nothing : (k : ℕ) → is_member [] k ≡ false
+none_in_nothing k = ap (λ x. x == 1) (bit_at-zero (k % 64))
 
 -- ---- the least from a number on
 

@@ -29,6 +29,8 @@ mod Ended
 mod Fallen
 mod Untouched
 mod Reservers
+mod KeptStages
+mod Waiters
 mod Elsewhere
 mod Posters
 mod Quiet

@@ -69,7 +69,7 @@ made_count h (HasMade i) s = refl
 made_count h (Reserves ks mark) s = refl
 made_count h (Awaits i c) s = refl
 
-begun_count : (h : ℕ) (j : Job) (s : State) → (begun h j s).count ≡ s.count
+pub begun_count : (h : ℕ) (j : Job) (s : State) → (begun h j s).count ≡ s.count
 begun_count h (job.Take r) s = refl
 begun_count h (job.Reply v) s = refl
 begun_count h job.Failed s = refl
@@ -307,14 +307,14 @@ awaited_count : (b : Bool) (h i : ℕ) (s : State) → (awaits_if b h i s).count
 awaited_count true h i s = refl
 awaited_count false h i s = refl
 
-sends_count : (h k : ℕ) (r : Request) (passing waits : Bool) (s : State) → (sends h k r passing waits s).count ≡ s.count
+pub sends_count : (h k : ℕ) (r : Request) (passing waits : Bool) (s : State) → (sends h k r passing waits s).count ≡ s.count
 sends_count h k r passing waits s = passed_count passing h k _ ∙ awaited_count waits h k s
 
 asks_count : (h k : ℕ) (r : Request) (passing : Bool) (s : State) → Counts k s (asks h r passing s)
 asks_count h k r passing s =
     asks_so (Counts k s) h r passing s (λ why. refl) (λ waits. ap (λ n. nat_lt k n) (sends_count h r.target.handler r passing waits s))
 
-made_with : (passing : Bool) (h m : ℕ) (r : Request) (s : State) → (creates_with passing h m r s).count ≡ s.count
+pub made_with : (passing : Bool) (h m : ℕ) (r : Request) (s : State) → (creates_with passing h m r s).count ≡ s.count
 made_with true h m r s = refl
 made_with false h m r s = refl
 
@@ -335,7 +335,7 @@ returned_count (Some p) s = refl
 finished_count : (p : Posted) (a : Answer) (s : State) → (finish p a s).count ≡ s.count
 finished_count p a s = answered_count p.request.is_waited p.request.poster a (return_rights p.passed s) ∙ returned_count p.passed s
 
-ends_count : (h : ℕ) (v : Option Value) (ks : List ℕ) (refused : Bool) (es : List Service) (s : State) → (ends h v ks refused es s).count ≡ s.count
+pub ends_count : (h : ℕ) (v : Option Value) (ks : List ℕ) (refused : Bool) (es : List Service) (s : State) → (ends h v ks refused es s).count ≡ s.count
 ends_count h v ks refused [] s = refl
 ends_count h v ks false (e ∷ es) s = finished_count e.posted (Replied v) _
 ends_count h v ks true (e ∷ es) s = finished_count e.posted Refused _

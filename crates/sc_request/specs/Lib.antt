@@ -10,6 +10,7 @@ pub mod Places
 pub mod Cores
 pub mod Steps
 pub mod Candidates
+pub mod Crowds
 pub mod Rooms
 pub mod Same
 pub mod Keeping

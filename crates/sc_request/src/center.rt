@@ -3,6 +3,7 @@ ghost use Rattle.std.specs.Prelude.{◌≡◌, ◌≤◌, ◌*◌, ◌∷◌, �
 ghost use Rattle.sc_lockpass.specs.Versions.{most_handlers};
 ghost use Rattle.sc_handler.specs.InMemory.{asked, fresh};
 ghost use Rattle.sc_request.specs.Candidates.{AreCandidates, AreReserving, HasGrantsBelow, HasOutsBelow};
+ghost use Rattle.sc_request.specs.Crowds.{AreCrowds};
 ghost use Rattle.sc_request.specs.Places.{plain};
 ghost use Rattle.sc_request.specs.Tables.{out_total, center, handler_at};
 ghost use Rattle.sc_request.specs.Logs.{root_of};
@@ -23,8 +24,9 @@ use std::collections::LinkedList;
 /// A handler that was picked is out with its job until the job is put back or settled. A call that picks tries only
 /// handlers that may have got something to do since they were last tried. After a settlement these are the handler
 /// itself, and one that it asked or made, or whose request it may have ended; where rights may have changed, sessions
-/// ended or the handler become idle, also all that wait to reserve; and after a failure all. No call looks at a whole
-/// queue but where a handler fails.
+/// ended or the handler become idle, also all that wait to reserve; and after a failure all. Of those that are known
+/// to wait for one that is held, one is tried, and then none of the others. No call looks at a whole queue but where a
+/// handler fails.
 #[derive(Drop)]
 pub struct Core {
     /// The handlers, and who holds which.
@@ -40,12 +42,15 @@ pub struct Core {
     pub(crate) candidates: HandlerSet,
     /// Those that wait to reserve: all whose next step is a reserve step.
     pub(crate) reserving: HandlerSet,
+    /// By the number of each handler, those that were found to wait for it since it was held, and still reserve it next.
+    pub(crate) crowds: Vec<HandlerSet>,
     pub(crate) ghost counted: { outs ≡ out_total state.handlers.items },
     pub(crate) ghost there: { HasOutsBelow (most_handlers state.rights.version) state.handlers.items },
     pub(crate) ghost grants: { HasGrantsBelow (most_handlers state.rights.version) state.handlers.items },
     pub(crate) ghost sound: { IsSound (vec_len log.entries) (vec_len log.entries) (plain state) },
     pub(crate) ghost tried: { AreCandidates candidates.words (center state.count state.handlers.items state.sessions.items state.rights last) },
     pub(crate) ghost waiting: { AreReserving reserving.words (handler_at state.handlers.items state.sessions.items) },
+    pub(crate) ghost crowded: { AreCrowds crowds.items state.count (handler_at state.handlers.items state.sessions.items) },
 }
 
 impl Core {
@@ -86,6 +91,7 @@ impl Core {
             spare: LinkedList::new(alloc),
             candidates,
             reserving: HandlerSet::new(),
+            crowds: vec![in alloc; HandlerSet::new(); 512]?,
         })
     }
 

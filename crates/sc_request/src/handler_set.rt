@@ -1,7 +1,10 @@
 //! Sets of handlers.
 ghost use Rattle.std.specs.Prelude.{◌≡◌, ◌<◌, ◌≤◌, ◌==◌, ◌||◌, ◌&&◌, ℕ, None, IfSome, false, true, not, if◌then◌else◌};
+ghost use Rattle.sc_lockpass.specs.Rights.{is_handler};
 ghost use Rattle.sc_lockpass.specs.Tables.{is_member};
 ghost use Rattle.sc_request.specs.Candidates.{IsFirstIn, HasNoneIn};
+
+use sc_lockpass::HandlerNumber;
 
 /// A set of handlers, with a bit for each of 512 numbers.
 #[derive(Clone, Copy)]
@@ -57,6 +60,26 @@ impl HandlerSet {
     {
         for at in 0..8 {
             self.words[at] |= others.words[at];
+        }
+    }
+
+    /// Takes out a handler, if there is one.
+    pub(crate) fn dismiss(&mut self, handler: Option<HandlerNumber>)
+        ensures { (k : ℕ) → k < 512 → is_member self.new.words k ≡ (not (is_handler k handler) && is_member self.old.words k) }
+    {
+        if let Some(handler) = handler {
+            if handler < 512 {
+                self.remove(handler as usize);
+            }
+        }
+    }
+
+    /// Takes out all of another set.
+    pub(crate) fn take_out(&mut self, others: &HandlerSet)
+        ensures { (k : ℕ) → is_member self.new.words k ≡ (not (is_member others.now.words k) && is_member self.old.words k) }
+    {
+        for at in 0..8 {
+            self.words[at] ^= self.words[at] & others.words[at];
         }
     }
 

@@ -7,6 +7,7 @@ ghost use Rattle.sc_waitcond.specs.Reservations.{is_lost, may_be_reserved, reser
 ghost use Rattle.sc_handler.specs.Handlers.{is_reserving, standing_in};
 ghost use Rattle.sc_handler.specs.Picking.{job_for_entry, needs};
 ghost use Rattle.sc_request.specs.Candidates.{AreCandidates};
+ghost use Rattle.sc_request.specs.Crowds.{AreCrowds};
 ghost use Rattle.sc_request.specs.Places.{IsSetOut, center_at, plain};
 ghost use Rattle.sc_request.specs.Logs.{first_with_job, next, numbers_from, pick_for};
 
@@ -47,24 +48,35 @@ impl State {
         &self,
         last: HandlerNumber,
         candidates: &mut HandlerSet,
+        crowds: &mut Vec<HandlerSet>,
     ) -> Option<HandlerNumber>
-        requires { AreCandidates candidates.old.words (center_at last self.now) }
+        requires candidates { AreCandidates candidates.old.words (center_at last self.now) }
+        requires crowds { AreCrowds crowds.old.items self.now.count (plain self.now).handlers }
         ensures found { result ≡ option_map (λ p. p.0) (next (center_at last self.now)) }
         ensures kept { AreCandidates candidates.new.words (center_at last self.now) }
+        ensures crowds { AreCrowds crowds.new.items self.now.count (plain self.now).handlers }
     {
         let after = last as usize + 1;
-        match self.first_in(candidates, after, self.count) {
+        match self.first_in(candidates, crowds, after, self.count) {
             Some(found) => Some(found),
-            None => self.first_in(candidates, 0, self.count.min(after)),
+            None => self.first_in(candidates, crowds, 0, self.count.min(after)),
         }
     }
 
     /// The first from a number on, and below another one.
-    fn first_in(&self, candidates: &mut HandlerSet, from: usize, to: usize) -> Option<HandlerNumber>
+    fn first_in(
+        &self,
+        candidates: &mut HandlerSet,
+        crowds: &mut Vec<HandlerSet>,
+        from: usize,
+        to: usize,
+    ) -> Option<HandlerNumber>
         requires within { to ≤ self.now.count }
         requires candidates { AreCandidates candidates.old.words (center_at 0 self.now) }
+        requires crowds { AreCrowds crowds.old.items self.now.count (plain self.now).handlers }
         ensures found { result ≡ option_map (λ p. p.0) (first_with_job (numbers_from from (to - from)) (center_at 0 self.now)) }
         ensures kept { AreCandidates candidates.new.words (center_at 0 self.now) }
+        ensures crowds { AreCrowds crowds.new.items self.now.count (plain self.now).handlers }
     {
         let mut at = from;
         for _turn in from..to {
@@ -72,7 +84,7 @@ impl State {
             if self.has_job(handler as HandlerNumber) {
                 return Some(handler as HandlerNumber);
             }
-            candidates.remove(handler);
+            self.pass_over(handler as HandlerNumber, candidates, crowds);
             at = handler + 1;
         }
         None

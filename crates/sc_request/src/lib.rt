@@ -7,6 +7,7 @@
 
 mod begun;
 mod center;
+mod crowds;
 mod ending;
 mod failing;
 mod fits;

@@ -27,7 +27,9 @@ impl Core {
         ensures room { (n : ℕ) → HasRoomFor (n + 1) self.old → HasRoomFor n self.new }
         ensures version { self.new.state.rights.version ≡ self.old.state.rights.version }
     {
-        let handler = self.state.first_round(self.last, &mut self.candidates)?;
+        let handler = self
+            .state
+            .first_round(self.last, &mut self.candidates, &mut self.crowds)?;
         self.send_out(handler);
         Some(handler)
     }
@@ -74,7 +76,9 @@ impl Core {
         ensures room { (n : ℕ) → HasRoomFor n self.old → HasRoomFor n self.new }
         ensures version { self.new.state.rights.version ≡ self.old.state.rights.version }
     {
-        let found = self.state.first_round(self.last, &mut self.candidates);
+        let found = self
+            .state
+            .first_round(self.last, &mut self.candidates, &mut self.crowds);
         found.is_some()
     }
 

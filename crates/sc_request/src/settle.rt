@@ -80,8 +80,10 @@ impl Core {
         let is_freeing = frees(job, want);
         self.log.push(handler, job, turns, want);
         self.state.touch(handler, want, &mut self.candidates);
+        self.state.leave_crowds(handler, &mut self.crowds);
         self.state
             .settle(handler, &kind, turns, want, &mut self.spare);
+        self.state.disband(handler, &mut self.crowds);
         self.state.wake(
             handler,
             is_freeing,

@@ -7,6 +7,7 @@ use Rattle.sc_request.specs.Candidates.{AreReserving, HasGrantsBelow, HasOutsBel
 use Rattle.sc_request.specs.Tables.{handler_at, out_total}
 use Rattle.sc_request.specs.Logs.{opened}
 use Rattle.sc_request.proofs.OpeningTables.{none_out_yet, opens_center, opening_grants, opening_outs, opening_reserving, opening_sound, opening_tried}
+use Rattle.sc_request.proofs.Waiters.{opening_crowds}
 use Rattle.sc_request.proofs.center.Core.opening.Goals as goal
 
 pub returns-clause-center : goal.returns-clause-center
@@ -30,4 +31,6 @@ invariant_of-result-2 c =
       tried = opening_tried c.insert.new.self.words xs c.in_ok-vec.field-0.items c.new.result (c.most_handlers.result - 1) (c.insert.ensures 0);
       waiting = subst (λ (ys : List coded.Handler). AreReserving c.new-4.result.words (handler_at ys c.in_ok-vec.field-0.items)) (sym is)
           (opening_reserving c.new-4.result.words c.in_ok-vec.field-0.items 511 r);
+      crowded = opening_crowds c.in_ok-vec-2.field-0.items 512 1 c.new-5.result (handler_at xs c.in_ok-vec.field-0.items)
+          (c.in_ok-vec-2.ensures.items_if_clones_equal (λ y e. e)) c.new-5.ensures;
     }

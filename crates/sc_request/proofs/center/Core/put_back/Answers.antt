@@ -5,11 +5,13 @@ use Rattle.std.specs.Prelude.{vec_len}
 use Rattle.sc_lockpass.specs.Versions.{most_handlers}
 use Rattle.sc_region.specs.declared.job.Job.{Job}
 use Rattle.sc_request.specs.Candidates.{AreCandidates, AreReserving, HasGrantsBelow, HasOutsBelow}
+use Rattle.sc_request.specs.Crowds.{AreCrowds}
 use Rattle.sc_request.specs.Tables.{center, handler_at, out_total, state_of}
 use Rattle.sc_request.specs.Sound.{IsSound}
 use Rattle.sc_request.proofs.Outs.{back_center, fewer_out, is_counted, none_is_out, out_is, stays, with_job}
 use Rattle.sc_request.proofs.GrantedReservations.{candidates_back, grants_back, outs_back, sound_back}
 use Rattle.sc_request.proofs.Reservers.{same_reserving}
+use Rattle.sc_request.proofs.Waiters.{same_crowds}
 use Rattle.sc_request.proofs.JobKinds.{job_is}
 use Rattle.sc_request.proofs.center.Core.put_back.Goals as goal
 
@@ -76,6 +78,8 @@ invariant_of-self-2 c =
           c.release_granted.ensures.candidates c.insert.ensures);
       waiting = subst (λ (o : Option Job). AreReserving s.reserving.words (handler_at (slice_set xs h (with_job o x)) s.state.sessions.items)) (sym c.clear.ensures)
           (same_reserving s.reserving.words xs s.state.sessions.items h x None e s.waiting);
+      crowded = subst (λ (o : Option Job). AreCrowds s.crowds.items s.state.count (handler_at (slice_set xs h (with_job o x)) s.state.sessions.items)) (sym c.clear.ensures)
+          (same_crowds s.crowds.items s.state.count xs s.state.sessions.items h x None e s.crowded);
     }
 
 pub returns-clause-center : goal.returns-clause-center

@@ -15,6 +15,7 @@ use Rattle.sc_request.specs.Logs.{granted, pick_for, picked_if}
 use Rattle.sc_request.proofs.Outs.{below_most, job_stands, more_out, out_now, outs_within, picked_center, with_job}
 use Rattle.sc_request.proofs.GrantedReservations.{Adds, below_count, candidates_picked, grants_picked, grants_there, not_out, outs_picked, sound_picked}
 use Rattle.sc_request.proofs.Reservers.{same_reserving}
+use Rattle.sc_request.proofs.Waiters.{same_crowds}
 use Rattle.sc_request.proofs.JobKinds.{job_is, one_job, some_of}
 use Rattle.sc_request.proofs.center.Core.send_out.Goals as goal
 
@@ -123,6 +124,8 @@ invariant_of-self c =
           (candidates_picked s.state.count xs s.state.sessions.items s.state.rights c.reserve_granted.new.rights s.last h x j s.candidates.words
           s.reserving.words c.reserve_granted.new.candidates.words c.remove.new.self.words e f s.tried s.waiting adds c.remove.ensures);
       waiting = rw set (same_reserving s.reserving.words xs s.state.sessions.items h x (Some j) e s.waiting);
+      crowded = rw (c.set_out.ensures.count, c.set_out.ensures.sessions, set)
+          (same_crowds s.crowds.items s.state.count xs s.state.sessions.items h x (Some j) e s.crowded);
     }
 
 pub returns-clause-center : goal.returns-clause-center

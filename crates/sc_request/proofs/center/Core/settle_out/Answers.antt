@@ -9,6 +9,7 @@ use Rattle.sc_handler.specs.Handlers.{is_reserving, State}
 use Rattle.sc_request.specs.Places.{outs_of, plain}
 use Rattle.sc_request.specs.Settling.{settled}
 use Rattle.sc_request.specs.Tables.{center, handler_at, out_at, out_total, state_of}
+use Rattle.sc_request.specs.Crowds.{AreCrowds, Disbands}
 use Rattle.sc_request.specs.Candidates.{AreCandidates, AreReserving, HasGrantsBelow, HasOutsBelow}
 use Rattle.std.specs.List.{All}
 use Rattle.sc_region.specs.declared.job.Job.{Job}
@@ -20,6 +21,7 @@ use Rattle.sc_request.specs.Sound.{IsSound}
 use Rattle.sc_request.proofs.GrantedReservations.{granted_below}
 use Rattle.sc_request.proofs.Reservers.{same_reserving, settled_reserving}
 use Rattle.sc_request.proofs.SettledCandidates.{settled_candidates}
+use Rattle.sc_request.proofs.Waiters.{same_crowds, settled_crowds}
 use Rattle.sc_request.proofs.Settles.{out_counted, settled_center, settled_grants, settled_outs, settled_sound, settled_total}
 use Rattle.sc_request.proofs.Outs.{with_job}
 use Rattle.sc_request.proofs.center.Core.settle_out.Goals as goal
@@ -104,6 +106,11 @@ invariant_of-self-2 c =
       waiting = subst (λ (o : Option Job). AreReserving c.wake.new.reserving.words (handler_at (slice_set xs h (with_job o x)) t.sessions.items)) none
           (same_reserving c.wake.new.reserving.words xs t.sessions.items h x None e
           (subst (λ (z : State). AreReserving c.wake.new.reserving.words z.handlers) (sym same) reserving));
+      crowded = subst (λ (o : Option Job). AreCrowds c.disband.new.crowds.items t.count (handler_at (slice_set xs h (with_job o x)) t.sessions.items)) none
+          (same_crowds c.disband.new.crowds.items t.count xs t.sessions.items h x None e
+          (subst (λ (z : State). AreCrowds c.disband.new.crowds.items z.count z.handlers) (sym same)
+          (settled_crowds m h j c.args.turns c.args.want.now (plain s.state) s.crowds.items c.leave_crowds.new.crowds.items c.disband.new.crowds.items s.crowded
+          c.leave_crowds.ensures (subst (λ (z : State). Disbands (is_some (z.handlers h).failure) c.leave_crowds.new.crowds.items c.disband.new.crowds.items) same c.disband.ensures))));
     }
 
 pub returns-clause-center : goal.returns-clause-center
