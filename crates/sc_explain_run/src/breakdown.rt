@@ -7,11 +7,11 @@ use crate::origin::RunSource;
 use crate::supplier::supplier_of;
 use crate::words::{class_name, push_clause, push_false, push_routine, push_site};
 use sc_code::{RoutineText, SiteKind, TextSite};
-use sc_excerpt::excerpt;
 use sc_explain_text::Lines;
 use sc_lockpass::HandlerNumber;
 use sc_model::Cause;
 use sc_region::{Breakdown, BrokenInvariant, Errand, Point};
+use sc_source::excerpt;
 use sc_text::Span;
 use sc_world::World;
 
