@@ -7,20 +7,29 @@
 
 mod beginning;
 mod characters;
+mod class_pages;
+mod codes;
 mod expected;
+mod failure_pages;
 mod foreign;
 mod grammar;
+mod grammar_pages;
 mod instead;
 mod layout;
 mod lines;
+mod lowering_pages;
 mod margin;
 mod nearest;
 mod omitted;
 mod reading;
+mod record_pages;
 mod related;
+mod rule_pages;
 mod spelling;
+mod text_pages;
 
 pub use characters::explain_character;
+pub use codes::{find, list};
 pub use foreign::{push_instead_at, push_instead_of};
 pub use grammar::explain_grammar;
 pub use lines::Lines;

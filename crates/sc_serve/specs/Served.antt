@@ -14,7 +14,7 @@ use Rattle.sc_arguments.specs.declared.arguments.format.Format.{Format}
 use Rattle.sc_arguments.specs.declared.arguments.format.Format.TheVariants.{Text}
 use Rattle.sc_audit.specs.Writing.{WritesBeginning}
 use Rattle.sc_class.specs.View.{root_of}
-use Rattle.sc_explain.specs.Page.{IsPageOf}
+use Rattle.sc_explain_text.specs.Page.{IsPageOf}
 use Rattle.sc_serve.specs.Answer.{IsAnswerOn, IsReplayOn, IsRunOn}
 use Rattle.sc_serve.specs.Search.{IsSearchOn}
 use Rattle.sc_serve.specs.declared.serve.Answer.{Answer}

@@ -1,6 +1,6 @@
 use Rattle.std.proofs.Common.{arith, inl, inr}
 use Rattle.std.proofs.lemmas.Str.Pattern.{split_once_first}
-use Rattle.sc_explain.proofs.codes.is_page_of.Goals as goal
+use Rattle.sc_explain_text.proofs.codes.is_page_of.Goals as goal
 
 -- the heading is what stands before the first line feed, the code what stands before its first space
 pub returns-then-eq_ignore_ascii_case : goal.returns-then-eq_ignore_ascii_case

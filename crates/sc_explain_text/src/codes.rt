@@ -1,9 +1,11 @@
 //! The pages, and how one is found.
 
 ghost use Rattle.std.specs.Prelude.{IfSome, IsTrue};
-ghost use Rattle.sc_explain.specs.Page.{IsPageOf};
+ghost use Rattle.sc_explain_text.specs.Page.{IsPageOf};
 
-use crate::{classes, failures, grammar, lowering, records, rules, text};
+use crate::{
+    class_pages, failure_pages, grammar_pages, lowering_pages, record_pages, rule_pages, text_pages,
+};
 use std::alloc::{AllocError, Global};
 
 /// What the pages of a group tell of.
@@ -32,13 +34,13 @@ const TOPICS: [Topic; 7] = [
 /// The pages that tell of a topic.
 fn pages_of(topic: Topic) -> &'static [&'static str] {
     match topic {
-        Topic::Text => text::pages(),
-        Topic::Grammar => grammar::pages(),
-        Topic::Classes => classes::pages(),
-        Topic::Rules => rules::pages(),
-        Topic::Lowering => lowering::pages(),
-        Topic::Records => records::pages(),
-        Topic::Failures => failures::pages(),
+        Topic::Text => text_pages::pages(),
+        Topic::Grammar => grammar_pages::pages(),
+        Topic::Classes => class_pages::pages(),
+        Topic::Rules => rule_pages::pages(),
+        Topic::Lowering => lowering_pages::pages(),
+        Topic::Records => record_pages::pages(),
+        Topic::Failures => failure_pages::pages(),
     }
 }
 
