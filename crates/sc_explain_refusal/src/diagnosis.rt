@@ -1,12 +1,13 @@
 //! What is said of one refusal.
 
+use crate::class_helps::{push_left_out, push_near_class};
+use crate::declared::other_declaration;
+use crate::redefinition::{push_redefine, push_unfit};
+use crate::root::explain_root;
 use crate::scope::part_of;
 use crate::sentences::{help_of, text_of};
 use crate::told::{RuleFault, aim_of};
 use sc_class::Root;
-use sc_explain_classes::{
-    explain_root, other_declaration, push_left_out, push_near_class, push_redefine, push_unfit,
-};
 use sc_explain_text::{
     Lines, Related, explain_character, explain_grammar, let_go, system_of, word_at,
 };

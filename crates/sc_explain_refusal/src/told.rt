@@ -1,10 +1,11 @@
 //! A sentence on one fault, with the types and names that are found in the checked tables.
 
+use crate::class_tables::{let_tables_go, tables_of};
+use crate::declared::{class_around, feature_around};
 use crate::scope::{Scope, part_of};
 use crate::site::{Aim, Found, Kind, Place, Search, pass_clauses};
 use crate::walk::Walk;
 use sc_class::{ClassId, Root, Tables};
-use sc_explain_classes::{class_around, feature_around, let_tables_go, tables_of};
 use sc_explain_text::Lines;
 use sc_rules::{Context, Rule};
 use sc_text::Span;
