@@ -40,6 +40,7 @@ pub use grammar::explain_grammar;
 pub use lines::Lines;
 pub use nearest::{is_slip, push_meant, push_near_built_in, push_near_word};
 pub use omitted::left_out;
-pub use reading::{let_go, system_of, word_at};
+pub use reading::{system_of, word_at};
 pub use related::Related;
+pub use sc_parse::let_go;
 pub use spelling::binary_spelling;

@@ -36,9 +36,6 @@ fn parsed(alloc: Global, tokens: &[Token]) -> Result<Option<System>, AllocError>
     }
 }
 
-/// Lets a system go. Each crate in which one goes proves once more that all of it may.
-pub fn let_go(_system: System) {}
-
 /// What a part of the text says; nothing where it begins or ends inside of a character.
 pub fn word_at(text: &str, span: Span) -> &str {
     text.get(span.start..span.end).unwrap_or("")

@@ -23,4 +23,4 @@ mod types;
 
 pub use fault::ParseFault;
 pub use laws::one_placed_tree;
-pub use system::{MAX_NESTING, parse, parse_within};
+pub use system::{MAX_NESTING, let_go, parse, parse_within};

@@ -69,3 +69,6 @@ pub fn parse(alloc: Global, tokens: &[Token]) -> Result<System, ParseFault>
 {
     parse_within(alloc, tokens, MAX_NESTING)
 }
+
+/// Lets a system go. Each crate in which one goes proves once more that all of it may, as is proved here anyway.
+pub fn let_go(_system: System) {}
