@@ -274,6 +274,41 @@ const AUDIT_HELP: &str = "Plays the record by one thread, and says whether that 
 
 const KEPT_HELP: &str = "Writes the record of the run to this file, for `scoop replay`";
 
+/// What `check` takes.
+const CHECK_TAKES: [Taken; 5] = [
+    Taken::Explain(EXPLAIN_HELP),
+    Taken::NoExplain,
+    Taken::Format,
+    Taken::Root,
+    Taken::Files,
+];
+
+/// What `run` takes.
+const RUN_TAKES: [Taken; 11] = [
+    Taken::Number("workers", WORKERS_HELP, 8, "1"),
+    Taken::Number("turns", TURNS_HELP, 10_000_000, "1000000"),
+    Taken::OutputLimit,
+    Taken::Kept(KEPT_HELP),
+    Taken::Flag("audit", AUDIT_HELP),
+    Taken::Trace,
+    Taken::Explain(RUN_EXPLAIN_HELP),
+    Taken::NoExplain,
+    Taken::Format,
+    Taken::Root,
+    Taken::Files,
+];
+
+/// What `replay` takes.
+const REPLAY_TAKES: [Taken; 7] = [
+    Taken::Trace,
+    Taken::Explain(RUN_EXPLAIN_HELP),
+    Taken::NoExplain,
+    Taken::Format,
+    Taken::Root,
+    Taken::Record,
+    Taken::Files,
+];
+
 /// Reads the arguments of a command line, of which the first is the program's name. Where none of them says whether the
 /// answer is to be explained, `explains` does.
 pub fn read_arguments<'a, S: AsStr>(
@@ -416,46 +451,17 @@ fn program<'a>(alloc: Global) -> clap::Command<'a> {
 
 fn check_command<'a>(alloc: Global) -> Result<clap::Command<'a>, AllocError> {
     let texts = [CHECK_ABOUT, CHECK_LONG_ABOUT, CHECK_AFTER_HELP];
-    let takes = [
-        Taken::Explain(EXPLAIN_HELP),
-        Taken::NoExplain,
-        Taken::Format,
-        Taken::Root,
-        Taken::Files,
-    ];
-    command_of(alloc, "check", texts, &takes)
+    command_of(alloc, "check", texts, &CHECK_TAKES)
 }
 
 fn run_command<'a>(alloc: Global) -> Result<clap::Command<'a>, AllocError> {
     let texts = [RUN_ABOUT, RUN_LONG_ABOUT, RUN_AFTER_HELP];
-    let takes = [
-        Taken::Number("workers", WORKERS_HELP, 8, "1"),
-        Taken::Number("turns", TURNS_HELP, 10_000_000, "1000000"),
-        Taken::OutputLimit,
-        Taken::Kept(KEPT_HELP),
-        Taken::Flag("audit", AUDIT_HELP),
-        Taken::Trace,
-        Taken::Explain(RUN_EXPLAIN_HELP),
-        Taken::NoExplain,
-        Taken::Format,
-        Taken::Root,
-        Taken::Files,
-    ];
-    command_of(alloc, "run", texts, &takes)
+    command_of(alloc, "run", texts, &RUN_TAKES)
 }
 
 fn replay_command<'a>(alloc: Global) -> Result<clap::Command<'a>, AllocError> {
     let texts = [REPLAY_ABOUT, REPLAY_LONG_ABOUT, REPLAY_AFTER_HELP];
-    let takes = [
-        Taken::Trace,
-        Taken::Explain(RUN_EXPLAIN_HELP),
-        Taken::NoExplain,
-        Taken::Format,
-        Taken::Root,
-        Taken::Record,
-        Taken::Files,
-    ];
-    command_of(alloc, "replay", texts, &takes)
+    command_of(alloc, "replay", texts, &REPLAY_TAKES)
 }
 
 fn print_command<'a>(alloc: Global) -> Result<clap::Command<'a>, AllocError> {

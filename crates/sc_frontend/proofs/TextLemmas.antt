@@ -1,5 +1,5 @@
 -- From a text to its system.
-use Rattle.std.proofs.Common.{◌≡◌, ℕ, ◌<◌, ◌≤◌, ◌^◌, List, [], ◌∷◌, ◌⊎◌, inl, inr, Result, Ok, Err, IfErr, IsErrAnd, MatchResult, length, refl, ap, sym, ◌∙◌, subst, arith}
+use Rattle.std.proofs.Common.{◌≡◌, ℕ, ◌<◌, ◌≤◌, ◌^◌, List, [], ◌∷◌, ◌⊎◌, inl, inr, Result, Ok, Err, IfErr, IfOk, IsErrAnd, MatchResult, length, refl, ap, sym, ◌∙◌, subst, arith}
 use Rattle.sc_text.specs.Kind.{Kind, kinds_of}
 use Rattle.sc_text.specs.declared.token.Token.{Token}
 use Rattle.sc_text.specs.Spelling.{Spells, lexemes_of, lexeme_of, max_source_bytes}
@@ -138,6 +138,20 @@ pub only-err-is : {T E : Type 0} (P : T → Type 0) (r : Result T E) (x y : E) �
     MatchResult r P (λ e. e ≡ y)
 only-err-is P (Ok t) x y is same = absurd is
 only-err-is P (Err e) x y is same = is ∙ same
+
+-- what follows of each error, or of each value, that a result can have
+pub err-map : {T E : Type 0} {P Q : E → Type 0} (r : Result T E) → ((e : E) → P e → Q e) → IfErr r P → IfErr r Q
+err-map (Ok t) f is = is
+err-map (Err e) f is = f e is
+
+pub ok-map : {T E : Type 0} {P Q : T → Type 0} (r : Result T E) → ((t : T) → P t → Q t) → IfOk r P → IfOk r Q
+ok-map (Ok t) f is = f t is
+ok-map (Err e) f is = is
+
+pub both-map : {T E : Type 0} {P P' : T → Type 0} {Q Q' : E → Type 0} (r : Result T E) → ((t : T) → P t → P' t) → ((e : E) → Q e → Q' e) →
+    IfOk r P → IfErr r Q → MatchResult r P' Q'
+both-map (Ok t) f g is none = f t is
+both-map (Err e) f g none is = g e is
 
 -- places are no part of canonical text
 pub canonical-bare : (s : System) → canonical_text (bare_system s) ≡ canonical_text s

@@ -1,6 +1,6 @@
 //! What is made of a source text: its check, its program and its canonical text.
 
-ghost use Rattle.std.specs.Prelude.{◌≡◌, IfErr, IfOk, IsOk, MatchResult, OnOk};
+ghost use Rattle.std.specs.Prelude.{◌≡◌, List, ℕ, IfErr, IfOk, IsOk, MatchResult, OnOk};
 ghost use Rattle.sc_tree.specs.Bare.{bare_system};
 ghost use Rattle.sc_tree.specs.Plain as plain;
 ghost use Rattle.sc_tree.specs.View.{system_of};
@@ -9,14 +9,14 @@ ghost use Rattle.sc_class.specs.View.{root_of};
 ghost use Rattle.sc_class.specs.SystemIn.{root_in, system_in};
 ghost use Rattle.sc_check.specs.CheckedTables.{tables_of};
 ghost use Rattle.sc_lower.specs.Lowerings.{image_of};
-ghost use Rattle.sc_frontend.specs.Texts.{IsAccepted, IsAtFault, IsLoaded, IsNotRunFor, IsPrinted, IsRead, IsRefusedFor, IsSound, IsSpelled, IsUnreadable, MustBeAccepted, MustBeRun};
+ghost use Rattle.sc_frontend.specs.Texts.{IsAccepted, IsAtFault, IsLoaded, IsNotRunFor, IsPrinted, IsRead, IsRefusedFor, IsRunnable, IsSound, IsSpelled, IsUnreadable, MustBeAccepted, MustBeRun};
 
 use crate::rejection::Rejection;
 use sc_check::{Checked, check};
 use sc_class::{Root, tables};
 use sc_code::Program;
 use sc_lower::lower;
-use sc_parse::parse;
+use sc_parse::{let_go, parse};
 use sc_text::lex;
 use sc_tree::{System, print_system};
 use std::alloc::Global;
@@ -28,8 +28,9 @@ pub fn check_text(alloc: Global, text: &str, root: &Root) -> Result<(), Rejectio
     ensures complete { MustBeAccepted text.now (root_of root.now) → IfErr result (λ e. e ≡ Rejection.OutOfMemory) }
 {
     let system = read(alloc, text)?;
-    judge(alloc, &system, root)?;
-    Ok(())
+    let answer = check_system(alloc, &system, root);
+    let_go(system);
+    answer
 }
 
 /// Checks the system of a source text: its program.
@@ -39,8 +40,9 @@ pub fn load_text(alloc: Global, text: &str, root: &Root) -> Result<Program, Reje
     ensures complete { MustBeRun text.now (root_of root.now) → IfErr result (λ e. e ≡ Rejection.OutOfMemory) }
 {
     let system = read(alloc, text)?;
-    let checked = judge(alloc, &system, root)?;
-    Ok(lower(alloc, checked)?)
+    let answer = load_system(alloc, &system, root);
+    let_go(system);
+    answer
 }
 
 /// The canonical text of the system of a source text, which isn't checked.
@@ -51,7 +53,9 @@ pub fn print_text(alloc: Global, text: &str) -> Result<Vec<u8>, Rejection>
         → MatchResult result (λ output. output.items ≡ canonical_text tree) (λ e. e ≡ Rejection.OutOfMemory) }
 {
     let system = read(alloc, text)?;
-    Ok(print_system(alloc, &system)?)
+    let output = print_read(alloc, &system);
+    let_go(system);
+    output
 }
 
 /// The system of a source text.
@@ -63,6 +67,38 @@ fn read(alloc: Global, text: &str) -> Result<System, Rejection>
 {
     let tokens = lex(alloc, text)?;
     Ok(parse(alloc, tokens.as_slice())?)
+}
+
+/// The canonical text of the system.
+fn print_read(alloc: Global, system: &System) -> Result<Vec<u8>, Rejection>
+    ensures printed { IfOk result (λ output. output.items ≡ canonical_text (system_of system.now)) }
+    ensures memory { IfErr result (λ e. e ≡ Rejection.OutOfMemory) }
+{
+    Ok(print_system(alloc, system)?)
+}
+
+/// Checks the system.
+fn check_system(alloc: Global, system: &System, root: &Root) -> Result<(), Rejection>
+    ensures sound { IsOk result → IsSound (system_of system.now) (root_of root.now) }
+    ensures fault { IfErr result (IsAtFault (system_of system.now) (root_of root.now)) }
+{
+    match judge(alloc, system, root) {
+        Ok(_) => Ok(()),
+        Err(rejection) => Err(rejection),
+    }
+}
+
+/// The program of the system, of whatever text it is.
+fn load_system(alloc: Global, system: &System, root: &Root) -> Result<Program, Rejection>
+    ensures loaded { (text : List ℕ) → IsRead text (system_of system.now)
+        → IfOk result (λ program. IsLoaded text (root_of root.now) (image_of program)) }
+    ensures refused { (text : List ℕ) → IsRead text (system_of system.now)
+        → IfErr result (IsNotRunFor text (root_of root.now)) }
+    ensures complete { IsRunnable (system_of system.now) (root_of root.now)
+        → IfErr result (λ e. e ≡ Rejection.OutOfMemory) }
+{
+    let checked = judge(alloc, system, root)?;
+    Ok(lower(alloc, checked)?)
 }
 
 /// The system, where it is sound; else what is at fault: its classes first, then what stands in a class.

@@ -83,20 +83,22 @@ const OUTCOMES_HELP: &str = "Lists each outcome: the report of an order that end
 const SEARCH_EXPLAIN_HELP: &str =
     "Shows where a refusal stands, or says who waits for whom and why one fails, on standard error; the default where that is a terminal";
 
+/// What `search` takes.
+const SEARCH_TAKES: [Taken; 9] = [
+    Taken::Sought,
+    Taken::Number("states", STATES_HELP, 10_000_000, "25000"),
+    Taken::Kept(FOUND_HELP),
+    Taken::Flag("outcomes", OUTCOMES_HELP),
+    Taken::Explain(SEARCH_EXPLAIN_HELP),
+    Taken::NoExplain,
+    Taken::Format,
+    Taken::Root,
+    Taken::Files,
+];
+
 pub fn search_command<'a>(alloc: Global) -> Result<clap::Command<'a>, AllocError> {
     let texts = [SEARCH_ABOUT, SEARCH_LONG_ABOUT, SEARCH_AFTER_HELP];
-    let takes = [
-        Taken::Sought,
-        Taken::Number("states", STATES_HELP, 10_000_000, "25000"),
-        Taken::Kept(FOUND_HELP),
-        Taken::Flag("outcomes", OUTCOMES_HELP),
-        Taken::Explain(SEARCH_EXPLAIN_HELP),
-        Taken::NoExplain,
-        Taken::Format,
-        Taken::Root,
-        Taken::Files,
-    ];
-    command_of(alloc, "search", texts, &takes)
+    command_of(alloc, "search", texts, &SEARCH_TAKES)
 }
 
 pub fn read_search<'a>(
