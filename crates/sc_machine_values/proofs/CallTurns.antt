@@ -28,6 +28,7 @@ use Rattle.sc_machine_values.proofs.Changes.{put_at}
 use Rattle.sc_machine_values.proofs.EnteredStacks.{feature_entered}
 use Rattle.sc_machine_values.proofs.Frames.{running_frames_move}
 use Rattle.sc_machine_values.proofs.Settled.{Settled, relinked, requests_as, staged}
+use Rattle.sc_machine_values.proofs.Lists.{not_true}
 use Rattle.sc_machine_values.proofs.MovedHandlers.{led, settled_after}
 
 -- what is given fits what the caller waits for
@@ -88,14 +89,14 @@ entries_keep_it s root pure faultless well tells most w fits h l f below is runs
         (subst (λ y. IsAmong y.objects o) (sym (put_at w h (record (w.handlers h) { objects = p.objects; stack = frame_at f p ∷ below }))) among)
         (led s pure w h f below fits l is (act.Enters c o x us gives) p m).1
         (subst (λ k. EntryFits s k (handler_named p.environment) o x us gives) own call)
-    by (act.Prints text) m such g = cc
-    by act.Until m such g = cc
-    by act.Creates m such g = cc
-    by act.Starts m such g = cc
-    by act.Opens m such g = cc
-    by act.Leaves m such g = cc
-    by (act.Fails why) m such g = cc
-    by (act.CreatesHandler k x us t b) m such g = cc
-    by (act.Requests o x us t b) m such g = cc
-    by (act.Refuses k) m such g = cc
-    by act.Exits m such g = cc
+    by (act.Prints text) m such g = absurd (not_true such)
+    by act.Until m such g = absurd (not_true such)
+    by act.Creates m such g = absurd (not_true such)
+    by act.Starts m such g = absurd (not_true such)
+    by act.Opens m such g = absurd (not_true such)
+    by act.Leaves m such g = absurd (not_true such)
+    by (act.Fails why) m such g = absurd (not_true such)
+    by (act.CreatesHandler k x us t b) m such g = absurd (not_true such)
+    by (act.Requests o x us t b) m such g = absurd (not_true such)
+    by (act.Refuses k) m such g = absurd (not_true such)
+    by act.Exits m such g = absurd (not_true such)

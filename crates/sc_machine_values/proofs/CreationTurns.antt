@@ -31,7 +31,7 @@ use Rattle.sc_machine_values.proofs.Remains.{ObjectsStay, handler_carried, objec
 use Rattle.sc_machine_values.proofs.Changes.{RestStays, at_objects, bindings_led, frames_led, handler_led, itself, objects_led, operands_led, put_at, requests_led, rest_same, values_led}
 use Rattle.sc_machine_values.proofs.Frames.{running_frames_move}
 use Rattle.sc_machine_values.proofs.Arrivals.{arrived}
-use Rattle.sc_machine_values.proofs.Lists.{same_some}
+use Rattle.sc_machine_values.proofs.Lists.{not_true, same_some}
 use Rattle.sc_machine_values.proofs.Posts.{call_actuals, call_known}
 use Rattle.sc_machine_values.proofs.RequestTurns.{passes_fit}
 use Rattle.sc_machine_values.proofs.Settled.{Settled, relinked, requests_as, settled_fails, settled_stack}
@@ -276,14 +276,14 @@ creations_keep_it s root pure faultless well tells most w fits h l f below is ru
         (settled_after s pure w h f below fits l is (act.CreatesHandler k x us t passing) p m runs (t ∷ []) stands) runs k less x us
         (subst (λ j. CreationFits s j (handler_named p.environment) k x us) own creation) (led s pure w h f below fits l is (act.CreatesHandler k x us t passing) p m).1
         (λ j. subst (λ i. Fits s i (handler_named p.environment) (Attached (record { handler = j; number = 1; class = k })) t) own (seen j)) passing most
-    by (act.Prints text) m such g = cc
-    by act.Until m such g = cc
-    by act.Creates m such g = cc
-    by act.Starts m such g = cc
-    by act.Opens m such g = cc
-    by act.Leaves m such g = cc
-    by (act.Fails why) m such g = cc
-    by (act.Enters c o x us t) m such g = cc
-    by (act.Requests o x us t b) m such g = cc
-    by (act.Refuses k) m such g = cc
-    by act.Exits m such g = cc
+    by (act.Prints text) m such g = absurd (not_true such)
+    by act.Until m such g = absurd (not_true such)
+    by act.Creates m such g = absurd (not_true such)
+    by act.Starts m such g = absurd (not_true such)
+    by act.Opens m such g = absurd (not_true such)
+    by act.Leaves m such g = absurd (not_true such)
+    by (act.Fails why) m such g = absurd (not_true such)
+    by (act.Enters c o x us t) m such g = absurd (not_true such)
+    by (act.Requests o x us t b) m such g = absurd (not_true such)
+    by (act.Refuses k) m such g = absurd (not_true such)
+    by act.Exits m such g = absurd (not_true such)

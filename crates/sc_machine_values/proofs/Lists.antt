@@ -13,6 +13,10 @@ pub no_both : (b : Bool) → b ≡ true → b ≡ false → ⊥
 no_both true e f = cc
 no_both false e f = cc
 
+-- What is false isn't true. (Where more is known `cc` reads all of it first, which may take seconds.)
+pub not_true : false ≡ true → ⊥
+not_true e = cc
+
 pub same_some : {A : Type 0} {x y : A} → Some x ≡ Some y → x ≡ y
 same_some e = cc
 

@@ -19,6 +19,7 @@ use Rattle.sc_machine_values.specs.Values.{ActsKeepIt, is_own_act}
 use Rattle.sc_machine_values.proofs.Remains.{releases_keep_it}
 use Rattle.sc_machine_values.proofs.Frames.{running_frames_move}
 use Rattle.sc_machine_values.proofs.Settled.{Settled, replaced, settled_fails, settled_top, staged}
+use Rattle.sc_machine_values.proofs.Lists.{not_true}
 use Rattle.sc_machine_values.proofs.MovedHandlers.{fails_after, settled_after}
 
 module _ (s : System) (pure : RoutineName → Bool) (w : World) (h : ℕ) (f : Frame) (below : List Frame) (z : Settled s pure w h [] f below) (runs : f.stage ≡ Runs) where
@@ -72,8 +73,8 @@ own_acts_keep_it s root pure faultless well tells most w fits h l f below is run
     by act.Opens m such g = settled_top s pure _ h [] (frame_at f p) below (settled act.Opens m g) ReservesBlock f.reserved f.blocks f.mark refl
     by act.Leaves m such g = leaves_fit s pure _ h (frame_at f p) below (settled act.Leaves m g) runs f.blocks
     by (act.Fails why) m such g = fails_after s pure w h f below fits l is (act.Fails why) p m why g.1
-    by (act.CreatesHandler k x us t b) m such g = cc
-    by (act.Enters c o x us t) m such g = cc
-    by (act.Requests o x us t b) m such g = cc
-    by (act.Refuses k) m such g = cc
-    by act.Exits m such g = cc
+    by (act.CreatesHandler k x us t b) m such g = absurd (not_true such)
+    by (act.Enters c o x us t) m such g = absurd (not_true such)
+    by (act.Requests o x us t b) m such g = absurd (not_true such)
+    by (act.Refuses k) m such g = absurd (not_true such)
+    by act.Exits m such g = absurd (not_true such)

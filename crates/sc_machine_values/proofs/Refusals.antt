@@ -37,7 +37,7 @@ use Rattle.sc_machine_values.proofs.RequestEnds.{refusal_ends}
 use Rattle.sc_machine_values.proofs.Remains.{releases_keep_it}
 use Rattle.sc_machine_values.proofs.Entry.{begins_typed}
 use Rattle.sc_machine_values.proofs.Frames.{running_frames_move}
-use Rattle.sc_machine_values.proofs.Lists.{each_append, each_before, each_behind}
+use Rattle.sc_machine_values.proofs.Lists.{each_append, each_before, each_behind, not_true}
 use Rattle.sc_machine_values.proofs.Settled.{Settled, relinked, replaced, requests_as, settled_fails, settled_stack}
 use Rattle.sc_machine_values.proofs.MovedHandlers.{settled_after}
 
@@ -126,14 +126,14 @@ refusals_keep_it s root pure faultless well tells most w fits h l f below is run
     by (act.Refuses k) m such (entry, stands) =
         false_clause_fits s root pure faultless well tells (put h (record (w.handlers h) { objects = p.objects; stack = frame_at f p ∷ below }) w) h (frame_at f p) below
         (settled_after s pure w h f below fits l is (act.Refuses k) p m runs [] stands) entry (verdict_on (frame_at f p) k)
-    by (act.Enters c o x us t) m such g = cc
-    by (act.Prints text) m such g = cc
-    by act.Until m such g = cc
-    by act.Creates m such g = cc
-    by act.Starts m such g = cc
-    by act.Opens m such g = cc
-    by act.Leaves m such g = cc
-    by (act.Fails why) m such g = cc
-    by (act.CreatesHandler k x us t b) m such g = cc
-    by (act.Requests o x us t b) m such g = cc
-    by act.Exits m such g = cc
+    by (act.Enters c o x us t) m such g = absurd (not_true such)
+    by (act.Prints text) m such g = absurd (not_true such)
+    by act.Until m such g = absurd (not_true such)
+    by act.Creates m such g = absurd (not_true such)
+    by act.Starts m such g = absurd (not_true such)
+    by act.Opens m such g = absurd (not_true such)
+    by act.Leaves m such g = absurd (not_true such)
+    by (act.Fails why) m such g = absurd (not_true such)
+    by (act.CreatesHandler k x us t b) m such g = absurd (not_true such)
+    by (act.Requests o x us t b) m such g = absurd (not_true such)
+    by act.Exits m such g = absurd (not_true such)

@@ -27,6 +27,7 @@ use Rattle.sc_machine_values.proofs.Changes.{requests_led}
 use Rattle.sc_machine_values.proofs.Frames.{running_frames_move}
 use Rattle.sc_machine_values.proofs.Posts.{call_actuals, call_known, class_there, send_fits, there_below, there_sent}
 use Rattle.sc_machine_values.proofs.Settled.{Settled, settled_fails, settled_objects, settled_requests, settled_top, there_stays}
+use Rattle.sc_machine_values.proofs.Lists.{not_true}
 use Rattle.sc_machine_values.proofs.MovedHandlers.{led, settled_after}
 
 -- without a wait nothing is given
@@ -108,14 +109,14 @@ requests_keep_it s root pure faultless well tells most w fits h l f below is run
         request_made s pure (put h (record (w.handlers h) { objects = p.objects; stack = frame_at f p ∷ below }) w) h gives (frame_at f p) below
         (settled_after s pure w h f below fits l is (act.Requests o x us gives passing) p m runs (listed gives) stands) runs o x us
         (subst (λ k. CallFits s k (handler_named p.environment) o x us gives) own call) (after.2 o refl) after.1 passing
-    by (act.Prints text) m such g = cc
-    by act.Until m such g = cc
-    by act.Creates m such g = cc
-    by act.Starts m such g = cc
-    by act.Opens m such g = cc
-    by act.Leaves m such g = cc
-    by (act.Fails why) m such g = cc
-    by (act.CreatesHandler k x us t b) m such g = cc
-    by (act.Enters c o x us t) m such g = cc
-    by (act.Refuses k) m such g = cc
-    by act.Exits m such g = cc
+    by (act.Prints text) m such g = absurd (not_true such)
+    by act.Until m such g = absurd (not_true such)
+    by act.Creates m such g = absurd (not_true such)
+    by act.Starts m such g = absurd (not_true such)
+    by act.Opens m such g = absurd (not_true such)
+    by act.Leaves m such g = absurd (not_true such)
+    by (act.Fails why) m such g = absurd (not_true such)
+    by (act.CreatesHandler k x us t b) m such g = absurd (not_true such)
+    by (act.Enters c o x us t) m such g = absurd (not_true such)
+    by (act.Refuses k) m such g = absurd (not_true such)
+    by act.Exits m such g = absurd (not_true such)
