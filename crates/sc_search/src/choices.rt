@@ -7,7 +7,8 @@ use crate::progress::{Progress, Stop, Way};
 use crate::replay::{Subject, world_after};
 use crate::watch::Watch;
 use sc_lockpass::HandlerNumber;
-use std::alloc::AllocError;
+use sc_request::Core;
+use std::alloc::{AllocError, Global};
 
 /// Plays choices in every order, and movers behind each, as long as no more than so many states are kept: why it stopped
 /// before all was played.
@@ -56,14 +57,10 @@ fn choose<'p>(
     ensures stops { IfOk result (λ stop. IfSome stop (ChoiceStopsFor subject.entry.program.now.image subject.entry.version subject.entry.aim limit)) }
 {
     let path = progress.states.order(number)?;
-    let world = world_after(subject, &path)?;
-    for handler in 0..world.core().handler_count() {
-        let handler = handler as HandlerNumber;
-        if world.core().pick_for(handler).is_none() {
-            continue;
-        }
+    let choices = choices_after(subject, &path)?;
+    for handler in choices.as_slice() {
         let mut turns = path.clone()?;
-        turns.push(handler)?;
+        turns.push(*handler)?;
         let way = Way {
             parent: Some(number),
             turns,
@@ -74,6 +71,30 @@ fn choose<'p>(
         }
     }
     Ok(None)
+}
+
+/// The handlers that have something to do behind these turns.
+///
+/// # Errors
+/// Where there is no memory.
+fn choices_after(
+    subject: Subject<'_>,
+    turns: &[HandlerNumber],
+) -> Result<Vec<HandlerNumber>, AllocError> {
+    let world = world_after(subject, turns)?;
+    choices_in(subject.alloc, world.core())
+}
+
+/// The same in this core.
+fn choices_in(alloc: Global, core: &Core) -> Result<Vec<HandlerNumber>, AllocError> {
+    let mut choices = Vec::new(alloc);
+    for handler in 0..core.handler_count() {
+        let handler = handler as HandlerNumber;
+        if core.pick_for(handler).is_some() {
+            choices.push(handler)?;
+        }
+    }
+    Ok(choices)
 }
 
 /// Plays movers behind the turns of a way, and keeps the state that they lead to.

@@ -64,10 +64,9 @@ pub(crate) fn some_is(kind: Kind, statuses: &[Status]) -> bool
 fn is_of(kind: Kind, status: Status) -> bool
     ensures { result ≡ is_of kind status }
 {
-    match (kind, status) {
-        (Kind::HasFailed, Status::Failed(_))
-        | (Kind::IsBusy, Status::Busy)
-        | (Kind::IsWaiting, Status::Waiting) => true,
-        _ => false,
+    match kind {
+        Kind::HasFailed => matches!(status, Status::Failed(_)),
+        Kind::IsBusy => matches!(status, Status::Busy),
+        Kind::IsWaiting => matches!(status, Status::Waiting),
     }
 }
