@@ -6,3 +6,4 @@ pub mod Undeclared
 pub mod CallSteps
 pub mod Numbers
 pub mod ExpressionSteps
+pub mod Places

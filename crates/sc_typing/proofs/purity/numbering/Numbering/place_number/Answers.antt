@@ -5,7 +5,12 @@ use Rattle.sc_rules.specs.Names.{routine_of}
 use Rattle.sc_typing.specs.FeatureNumbers.{all_features}
 use Rattle.sc_class.specs.SystemIn.{system_in}
 use Rattle.sc_typing.proofs.Numbers.{place_known, none_numbered, some_numbered, start_read, sum_within}
+use Rattle.sc_typing.proofs.Places.{begins_in_text}
 use Rattle.sc_typing.proofs.purity.numbering.Numbering.place_number.Goals as goal
+
+pub place_of-requires : goal.place_of-requires
+place_of-requires c =
+    begins_in_text (system_in c.args.self.now.tables.now) c.args.name.now c.args.class c.args.begin c.in-Some.text.now c.deref-2.result.now c.in-Some.ensures c.deref-2.ensures.value c.requires
 
 pub overflow_add-result : goal.overflow_add-result
 overflow_add-result c =
