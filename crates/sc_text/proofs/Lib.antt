@@ -1,6 +1,7 @@
 pub mod Classes
 pub mod Complete
 pub mod Integers
+pub mod Names
 pub mod PartLengths
 pub mod Sound
 pub mod Strings

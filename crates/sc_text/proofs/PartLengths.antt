@@ -49,13 +49,6 @@ prefix_len-split p (c ∷ cs) rest all stops =
     let more : prefix_len p (cs ++ rest) ≡ length cs = prefix_len-split p cs rest h.1 stops in
     ap (λ (b : Bool). if b then 1 + prefix_len p (cs ++ rest) else 0) h.0 ∙ omega (arith, more)
 
-list_all-take : (p : ℕ → Bool) (text : List ℕ) (n : ℕ) → IsPrefix p text n → list_all p (take n text) ≡ true
-list_all-take p text n h = ap (λ (l : List ℕ). list_all p (take n l)) h.split ∙ ap (list_all p) (take_at h.front h.rest n h.count) ∙ h.all
-
--- all that is counted passes
-pub list_all-prefix : (p : ℕ → Bool) (text : List ℕ) → list_all p (take (prefix_len p text) text) ≡ true
-list_all-prefix p text = list_all-take p text (prefix_len p text) (prefix_len-IsPrefix p text)
-
 -- ---- integers
 
 decimal_from-le_more : (n c : ℕ) (cs : List ℕ) (b : Bool) → ((m : ℕ) → m ≤ decimal_from m cs) → n ≤ decimal_from (if b then 10 * n + (c - 48) else n) cs

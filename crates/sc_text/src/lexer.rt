@@ -1,9 +1,7 @@
 //! A text's tokens, one after the other.
 
-ghost use Rattle.std.specs.Prelude.{◌≡◌, ◌≤◌, ◌<◌, ◌+◌, ◌↔◌, false, List, [], drop, length, map, slice_index, string_bytes, IfErr, IfOk, IsErrOf, IsSome, IsTrue, MatchResult};
-ghost use Rattle.std.specs.Char.{to_ascii_lowercase};
-ghost use Rattle.std.specs.List.{list_all};
-ghost use Rattle.sc_text.specs.Characters.{is_name_part, quote};
+ghost use Rattle.std.specs.Prelude.{◌≡◌, ◌≤◌, ◌<◌, ◌+◌, ◌↔◌, false, List, [], drop, length, slice_index, string_bytes, IfErr, IfOk, IsErrOf, IsSome, IsTrue, MatchResult};
+ghost use Rattle.sc_text.specs.Characters.{is_letter, quote};
 ghost use Rattle.sc_text.specs.Spelling.{IsRefused, Lexeme, Spells, StandInOrder, lexemes_of, max_source_bytes, span_at};
 ghost use Rattle.sc_text.specs.Reading.Front as spec;
 ghost use Rattle.sc_text.specs.Reading.Answers.{Gives, GivesMarks};
@@ -16,7 +14,7 @@ use crate::scan::{
 };
 use crate::symbols::{long_symbol, short_symbol};
 use crate::token::{Span, Token, TokenKind};
-use std::alloc::{AllocError, Global};
+use std::alloc::Global;
 
 /// The greatest number of bytes of a text.
 pub const MAX_SOURCE_BYTES: usize = 1_048_576;
@@ -84,7 +82,7 @@ fn piece_at(alloc: Global, text: &str, place: usize) -> Result<Piece, LexFault>
     if is_white_space(first) {
         Ok(Piece::Gap { length: 1 })
     } else if first.is_ascii_alphabetic() {
-        word(alloc, rest)
+        word(alloc, text, place)
     } else if first.is_ascii_digit() {
         integer(rest, place)
     } else if first == b'"' {
@@ -94,30 +92,21 @@ fn piece_at(alloc: Global, text: &str, place: usize) -> Result<Piece, LexFault>
     }
 }
 
-/// The name or the reserved word at the front of the text.
+/// The name or the reserved word that the letter at this place begins.
 #[tactic(auto, unfolding(crate::specs::Reading::Front::word))]
-fn word(alloc: Global, text: &[u8]) -> Result<Piece, LexFault>
-    ensures { Gives (spec.word text.now) result }
+fn word(alloc: Global, text: &str, place: usize) -> Result<Piece, LexFault>
+    requires within { place < length text.now }
+    requires begins { IsTrue (is_letter (slice_index text.now place)) }
+    ensures { Gives (spec.word (drop place text.now)) result }
 {
-    let length = name_length(text);
-    let word = &text[..length];
-    let kind = match reserved(word) {
+    let (_, rest) = text.split_at(place);
+    let length = name_length(rest.as_bytes());
+    let (word, _) = rest.split_at(length);
+    let kind = match reserved(word.as_bytes()) {
         Some(terminal) => TokenKind::Terminal(terminal),
-        None => TokenKind::Name(lower_case(alloc, word)?),
+        None => TokenKind::Name(word.to_ascii_lowercase(alloc)?),
     };
     Ok(Piece::Token { kind, length })
-}
-
-/// The text of a name, in lower case.
-fn lower_case(alloc: Global, word: &[u8]) -> Result<String, AllocError>
-    requires { IsTrue (list_all is_name_part word.now) }
-    ensures { IfOk result (λ s. string_bytes s ≡ map to_ascii_lowercase word.now) }
-{
-    let mut lower = String::with_capacity(alloc, word.len())?;
-    for byte in word {
-        lower.push(char::from(byte.to_ascii_lowercase()))?;
-    }
-    Ok(lower)
 }
 
 /// The integer at the front of the text, which stands at this place.
