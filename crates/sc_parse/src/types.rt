@@ -10,19 +10,9 @@ use crate::fault::ParseFault;
 use sc_text::Terminal;
 use sc_tree::{DeclaredType, HandlerTag, Name};
 use std::alloc::AllocError;
+use std::rc::Rc;
 
-/// The same name once more, its place included.
-pub fn copied_name(name: &Name) -> Result<Name, AllocError>
-    ensures { IfOk result (λ copy. name_in copy ≡ name_in name.now) }
-{
-    let text = name.text.clone()?;
-    Ok(Name {
-        text,
-        span: name.span,
-    })
-}
-
-/// The same tag once more.
+/// The same tag once more, which shares its name.
 fn copied_tag(tag: &HandlerTag) -> Result<HandlerTag, AllocError>
     ensures { IfOk result (λ copy. handler_tag_in copy ≡ handler_tag_in tag.now) }
 {
@@ -30,18 +20,18 @@ fn copied_tag(tag: &HandlerTag) -> Result<HandlerTag, AllocError>
         HandlerTag::Own => Ok(HandlerTag::Own),
         HandlerTag::Separate => Ok(HandlerTag::Separate),
         HandlerTag::HandlerOf(name) => {
-            let name = copied_name(name)?;
+            let name = name.clone()?;
             Ok(HandlerTag::HandlerOf(name))
         }
     }
 }
 
-/// The same type once more, its place included.
+/// The same type once more, its place included. It shares its names, so that it takes no more memory for a long one.
 pub fn copied_type(declared: &DeclaredType) -> Result<DeclaredType, AllocError>
     ensures { IfOk result (λ copy. type_in copy ≡ type_in declared.now) }
 {
     let tag = copied_tag(&declared.tag)?;
-    let class = copied_name(&declared.class)?;
+    let class = declared.class.clone()?;
     Ok(DeclaredType {
         span: declared.span,
         is_detachable: declared.is_detachable,
@@ -118,6 +108,7 @@ impl<'a> Parser<'a> {
         self.expect(Terminal::Dot)?;
         self.expect_word("handler")?;
         self.expect(Terminal::Greater)?;
+        let name = Rc::new(self.alloc, name)?;
         Ok(HandlerTag::HandlerOf(name))
     }
 
@@ -130,6 +121,7 @@ impl<'a> Parser<'a> {
         let is_detachable = self.attachment();
         let tag = self.handler_tag()?;
         let class = self.name()?;
+        let class = Rc::new(self.alloc, class)?;
         Ok(DeclaredType {
             span: self.span_from(start),
             is_detachable,

@@ -40,7 +40,7 @@ use Rattle.sc_tree.specs.View.{name_of, handler_tag_of, type_of, type_if_any, de
 -- ---- types
 
 pub bare_type-is : (t : DeclaredType) →
-    bare_type (type_of t) ≡ record { span = nowhere; is_detachable = t.is_detachable; tag = bare_handler_tag (handler_tag_of t.tag); class = named (string_bytes t.class.text) }
+    bare_type (type_of t) ≡ record { span = nowhere; is_detachable = t.is_detachable; tag = bare_handler_tag (handler_tag_of t.tag); class = named (string_bytes t.class.value.text) }
 bare_type-is t = refl
 
 pub bare_declaration-is : (d : Declaration) → bare_declaration (declaration_of d) ≡ grammar.declared_as (bare_type (type_of d.declared_type)) (named (string_bytes d.name.text))

@@ -34,11 +34,11 @@ name_of n = record { text = string_bytes n.text; span = n.span }
 abbrev pub handler_tag_of : HandlerTag → plain.HandlerTag
 handler_tag_of handler.Own = plain.Own
 handler_tag_of handler.Separate = plain.Separate
-handler_tag_of (handler.HandlerOf n) = plain.HandlerOf (name_of n)
+handler_tag_of (handler.HandlerOf n) = plain.HandlerOf (name_of n.value)
 
 abbrev pub type_of : DeclaredType → plain.DeclaredType
 type_of t =
-    record { span = t.span; is_detachable = t.is_detachable; tag = handler_tag_of t.tag; class = name_of t.class }
+    record { span = t.span; is_detachable = t.is_detachable; tag = handler_tag_of t.tag; class = name_of t.class.value }
 
 abbrev pub type_if_any : Option DeclaredType → Option plain.DeclaredType
 type_if_any None = None

@@ -2,6 +2,7 @@
 
 use crate::expression::Name;
 use sc_text::Span;
+use std::rc::Rc;
 
 /// What a type says of the handler of its objects.
 #[derive(Drop)]
@@ -11,17 +12,17 @@ pub enum HandlerTag {
     /// `separate`: they may be any handler's.
     Separate,
     /// `separate <x.handler>`: they are of the handler of what this name stands for.
-    HandlerOf(Name),
+    HandlerOf(Rc<Name>),
 }
 
-/// The type that something is declared with.
+/// The type that something is declared with. What is declared together shares the names in its type.
 #[derive(Drop)]
 pub struct DeclaredType {
     pub span: Span,
     /// Whether it stands for `Void` too; a type with no mark is attached.
     pub is_detachable: bool,
     pub tag: HandlerTag,
-    pub class: Name,
+    pub class: Rc<Name>,
 }
 
 /// A formal argument or a local. Of `a, b: INTEGER` each name is one of its own.
