@@ -1,5 +1,5 @@
 -- Routines that call others of the same handler.
-use Rattle.std.specs.Prelude.{ℕ, zero, suc, ◌+◌, Bool, List, [], ◌∷◌, drop, min}
+use Rattle.std.specs.Prelude.{◌≡◌, ◌≤◌, ℕ, zero, suc, ◌+◌, Bool, List, [], ◌∷◌, drop, length, min}
 use Rattle.sc_code.specs.declared.program.RoutineCode.{RoutineCode}
 use Rattle.sc_region.specs.declared.frame.OwnCall.{OwnCall}
 use Rattle.sc_region.specs.declared.frame.Stage.TheVariants as stage
@@ -57,3 +57,14 @@ called_on me routine r k fs =
 abbrev pub calls : Reference → ℕ → OwnCall → PlainStore → PlainStore
 calls me routine k x =
     entered me routine k.origin (last_values k.actuals (top_operands x.frames)) (on_top (in_call k.operands k.gives) x)
+
+-- ---- where a routine begins
+
+-- Where the other one stood the routine has as many slots, it takes so many actuals, and nothing is reserved.
+pub record StandsAlike (r : RoutineCode) (n : ℕ) (a : PlainActivation) : Type 0 where
+  pub slots : length a.slots ≡ r.slots
+  pub formals : n ≡ r.formals
+  pub few : n ≤ r.slots
+  pub free : r.separate_formals.items ≡ []
+  pub reserved : a.reserved ≡ []
+  pub blocks : a.blocks ≡ []

@@ -1,6 +1,6 @@
 //! Where the routine of a frame stands.
-ghost use Rattle.std.specs.Prelude.{◌≡◌, ◌≤◌, ◌+◌, ◌++◌, ◌-◌, [], OnOk, length, replicate, vec_capacity, vec_len};
-ghost use Rattle.sc_region.specs.Calls.{in_call};
+ghost use Rattle.std.specs.Prelude.{◌≡◌, ◌≤◌, ◌+◌, ◌++◌, ◌-◌, [], IsTrue, OnOk, length, replicate, vec_capacity, vec_len};
+ghost use Rattle.sc_region.specs.Calls.{StandsAlike, in_call};
 ghost use Rattle.sc_region.specs.Stores.{beginning};
 ghost use Rattle.sc_region.specs.declared.value.Value.TheVariants.{Void};
 ghost use Rattle.sc_region.specs.Frames.{activation_of};
@@ -100,7 +100,61 @@ impl Activation {
 
     /// A routine begins here, with all the memory that its operands will need, in the memory of what stood here. Err
     /// where there is no memory.
+    #[inline(always)]
     pub(crate) fn begin(
+        &mut self,
+        routine: usize,
+        code: &RoutineCode,
+        origin: Origin,
+        actuals: &[Value],
+    ) -> Result<(), AllocError>
+        ensures { OnOk result (activation_of self.new ≡ beginning routine code.now origin actuals.now) }
+    {
+        if self.is_alike(code, actuals.len())
+            && self.olds.reset_in_place(code.olds)
+            && self.operands.reset_in_place(code.depth)
+        {
+            self.begin_alike(routine, code, origin, actuals);
+            Ok(())
+        } else {
+            self.begin_otherwise(routine, code, origin, actuals)
+        }
+    }
+
+    /// Whether the routine has as many slots as what stood here, takes so many actuals, and reserves nothing, and nothing is
+    /// reserved here.
+    #[inline(always)]
+    fn is_alike(&self, code: &RoutineCode, actuals: usize) -> bool
+        ensures { IsTrue result → StandsAlike code.now actuals (activation_of self.now) }
+    {
+        actuals == code.formals
+            && code.slots == self.slots.len()
+            && actuals <= code.slots
+            && code.separate_formals.is_empty()
+            && self.reserved.is_empty()
+            && self.blocks.is_empty()
+            && code.blocks <= self.blocks.capacity()
+    }
+
+    /// A routine begins where one stood like it, whose operands and kept values are gone.
+    #[inline(always)]
+    fn begin_alike(&mut self, routine: usize, code: &RoutineCode, origin: Origin, actuals: &[Value])
+        requires alike { StandsAlike code.now (length actuals.now) (activation_of self.old) }
+        requires olds { (activation_of self.old).olds ≡ record { room = code.now.olds; values = [] } }
+        requires operands { (activation_of self.old).operands ≡ record { depth = code.now.depth; values = [] } }
+        ensures { activation_of self.new ≡ beginning routine code.now origin actuals.now }
+    {
+        self.routine = routine;
+        self.origin = origin;
+        self.stage = Stage::Runs;
+        self.place = 0;
+        self.result = code.result.map(|(default, _)| Value::of_default(default));
+        set_slots(&mut self.slots, actuals);
+    }
+
+    /// A routine begins, whatever stood here. (A call of its own: most routines begin where one stood like them.)
+    #[inline(never)]
+    fn begin_otherwise(
         &mut self,
         routine: usize,
         code: &RoutineCode,
@@ -133,6 +187,21 @@ impl Activation {
         self.operands.drop_last(operands);
         self.place = self.place.saturating_add(1);
         self.stage = Stage::InCall { gives };
+    }
+}
+
+/// The slots get the actuals, and Void behind them.
+#[inline(always)]
+#[tactic(auto, using(crate::proofs::FilledSlots::copied, crate::proofs::FilledSlots::voided))]
+fn set_slots(slots: &mut [Value], actuals: &[Value])
+    requires { length actuals.now ≤ length slots.old }
+    ensures { slots.new ≡ actuals.now ++ replicate (length slots.old - length actuals.now) Void }
+{
+    for place in 0..actuals.len() {
+        slots[place] = actuals[place];
+    }
+    for other in actuals.len()..slots.len() {
+        slots[other] = Value::Void;
     }
 }
 

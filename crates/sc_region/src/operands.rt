@@ -56,6 +56,19 @@ impl Operands {
         Ok(())
     }
 
+    /// The same, where the memory of so many is there: whether it is.
+    #[inline(always)]
+    pub(crate) fn reset_in_place(&mut self, depth: usize) -> bool
+        ensures { IsTrue result → self.new ≡ record { depth = depth; values = [] } }
+    {
+        if self.items.len() < depth {
+            return false;
+        }
+        self.depth = depth;
+        self.count = 0;
+        true
+    }
+
     /// Whether there is no room for one more.
     #[inline(always)]
     pub fn is_full(&self) -> bool
@@ -165,6 +178,19 @@ impl Olds {
         empty_for(&mut self.items, room)?;
         self.room = room;
         Ok(())
+    }
+
+    /// The same, where the memory of so many is there: whether it is.
+    #[inline(always)]
+    pub(crate) fn reset_in_place(&mut self, room: usize) -> bool
+        ensures { IsTrue result → self.new ≡ record { room = room; values = [] } }
+    {
+        if self.items.capacity() < room {
+            return false;
+        }
+        self.items.clear();
+        self.room = room;
+        true
     }
 
     /// Whether there is no room for one more.
