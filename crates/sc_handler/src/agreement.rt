@@ -138,8 +138,20 @@ fn have_same(a: &ArrayVec<HandlerNumber, 16>, b: &ArrayVec<HandlerNumber, 16>) -
     a.as_slice() == b.as_slice()
 }
 
-/// Whether the same values are in two slices, one after another.
+/// Whether the same values are in two slices, one after another. Where there are none it is no call.
+#[inline(always)]
 pub(crate) fn same_values(a: &[Value], b: &[Value]) -> bool
+    ensures { IsTrue result ↔ a.now ≡ b.now }
+{
+    if a.is_empty() {
+        return b.is_empty();
+    }
+    have_same_values(a, b)
+}
+
+/// The same, of any.
+#[inline(never)]
+fn have_same_values(a: &[Value], b: &[Value]) -> bool
     ensures { IsTrue result ↔ a.now ≡ b.now }
 {
     a == b

@@ -33,7 +33,9 @@ fn write_values(place: &mut ArrayVec<Value, 16>, values: &ArrayVec<Value, 16>)
     ensures { place.new ≡ values.now }
 {
     place.clear();
-    let _ = place.try_extend_from_slice(values.as_slice());
+    if !values.is_empty() {
+        let _ = place.try_extend_from_slice(values.as_slice());
+    }
 }
 
 /// The same values once more.

@@ -132,6 +132,10 @@ fn append<T: Copy>(items: &mut Vec<T>, more: &[T])
     if more.is_empty() {
         return;
     }
+    if more.len() == 1 {
+        items.push_reserved(more[0]);
+        return;
+    }
     append_some(items, more);
 }
 
