@@ -2,7 +2,6 @@
 use Rattle.std.specs.Prelude.{ℕ, ◌+◌, Bool, if◌then◌else◌, List, [], ◌++◌, Option, Some, None, is_some, option_to_list, length, take, drop, slice_get}
 use Rattle.arrayvec.specs.ArrayVec.{ArrayVec}
 use Rattle.sc_region.specs.declared.value.Value.{Value}
-use Rattle.sc_region.specs.declared.value.Value.TheVariants.{Void}
 use Rattle.sc_region.specs.declared.job.Request.{Request}
 use Rattle.sc_region.specs.declared.job.Job.{Job}
 use Rattle.sc_region.specs.declared.job.Job.TheVariants as job
@@ -58,17 +57,6 @@ packed_job (job.Granted ks) = packed.Granted ks
 packed_job (job.Made k) = packed.Made k
 packed_job job.Go = packed.Go
 
--- the value of the answer that it takes, or some value
-abbrev pub replied : Job → Value
-replied (job.Take r) = Void
-replied (job.Reply None) = Void
-replied (job.Reply (Some v)) = v
-replied job.Failed = Void
-replied job.Refused = Void
-replied (job.Granted ks) = Void
-replied (job.Made k) = Void
-replied job.Go = Void
-
 abbrev pub job_values : Job → List Value
 job_values (job.Take r) = r.actuals.items
 job_values (job.Reply v) = option_to_list v
@@ -110,19 +98,6 @@ packed_want (want.Release ks) = packed_as.Release ks
 packed_want (want.Wait ks) = packed_as.Wait ks
 packed_want (want.Done v ks refused) = packed_as.Done ks (is_some v) refused
 packed_want (want.Fail why) = packed_as.Fail why
-
--- the value of its reply, or some value
-abbrev pub reply_of : Want → Value
-reply_of want.Continue = Void
-reply_of (want.Reserve ks) = Void
-reply_of (want.Post r) = Void
-reply_of (want.Ask r passes) = Void
-reply_of (want.Create class procedure actuals passes) = Void
-reply_of (want.Release ks) = Void
-reply_of (want.Wait ks) = Void
-reply_of (want.Done None ks refused) = Void
-reply_of (want.Done (Some v) ks refused) = v
-reply_of (want.Fail why) = Void
 
 abbrev pub want_values : Want → List Value
 want_values want.Continue = []

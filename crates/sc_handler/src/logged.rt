@@ -1,15 +1,24 @@
 //! The log of settlements.
-ghost use Rattle.std.specs.Prelude.{◌≡◌, ◌<◌, ◌≤◌, ◌+◌, ◌*◌, ◌^◌, ◌++◌, ◌==◌, ◌↔◌, IsTrue, length, vec_len};
+ghost use Rattle.std.specs.Prelude.{◌≡◌, ◌<◌, ◌≤◌, ◌+◌, ◌*◌, ◌^◌, ◌++◌, ◌==◌, ◌↔◌, IsTrue, length, vec_capacity, vec_len};
 ghost use Rattle.std.specs.List.{All};
 ghost use Rattle.sc_handler.specs.Entries.{IsWithin, packed_in, settlement_beside, settlement_in};
 
 use crate::agreement::same_told;
-use crate::packed::{PackedSettlement, answer_in, job_values, reply_in, want_values};
+use crate::packed::{PackedSettlement, job_values, want_values};
 use crate::settlement::Settlement;
 use crate::sharing::{Recent, number_of, place_of};
 use sc_lockpass::HandlerNumber;
 use sc_region::{Job, Value, Want};
 use std::alloc::{AllocError, Global};
+
+/// For how many settlements room is looked for at once.
+const PLACES_AHEAD: usize = 8;
+
+/// For how many settlements memory is taken at once.
+const PLACES_AT_ONCE: usize = 16;
+
+/// For how many packed settlements it is: mostly there are fewer, so that there is always room for some ahead.
+const PACKED_AT_ONCE: usize = 64;
 
 /// A settlement: where the log has what it tells.
 #[derive(Clone, Copy)]
@@ -31,7 +40,14 @@ pub struct Log {
     values: Vec<Value>,
     recently_packed: Recent,
     recent_values: Recent,
+    /// For how many settlements it was seen that there is room, so that not each has to look.
+    room: usize,
     ghost within: { All (IsWithin packed.items (length values.items)) entries.items },
+    ghost entry_room: { vec_len entries + room ≤ vec_capacity entries },
+    ghost packed_room: { vec_len packed + room ≤ vec_capacity packed },
+    ghost value_room: { vec_len values + 32 * room ≤ vec_capacity values },
+    ghost packed_numbers: { vec_len packed + room ≤ 2 ^ 32 },
+    ghost value_numbers: { vec_len values + 32 * room ≤ 2 ^ 32 },
 }
 
 /// What lies beside the entries of a log.
@@ -57,6 +73,7 @@ impl Log {
             values: Vec::new(alloc),
             recently_packed: Recent::new(alloc),
             recent_values: Recent::new(alloc),
+            room: 0,
         }
     }
 
@@ -115,6 +132,9 @@ impl Log {
     }
 
     /// Makes room for so many settlements. Err where there is no memory.
+    ///
+    /// It is a test where that is called, and seldom a call.
+    #[inline(always)]
     pub fn reserve(&mut self, more: usize) -> Result<(), AllocError>
         requires few { more ≤ 1024 }
         ensures ok { OnOk result (HasPlaces more self.new) }
@@ -123,10 +143,32 @@ impl Log {
         ensures len { vec_len self.new.entries ≡ vec_len self.old.entries }
         ensures kept { (n : ℕ) → HasPlaces n self.old → HasPlaces n self.new }
     {
-        if self.has_places(more) {
+        if more <= self.room {
             return Ok(());
         }
-        self.grow(more)
+        self.find_room(more)
+    }
+
+    /// Looks for room for so many settlements, and for more beyond them. It takes memory where there is none for them.
+    #[inline(never)]
+    fn find_room(&mut self, more: usize) -> Result<(), AllocError>
+        requires few { more ≤ 1024 }
+        ensures ok { OnOk result (HasPlaces more self.new) }
+        ensures err { OnErr result (HasPlaces more self.old → ⊥) }
+        ensures settlements { settlements_of self.new ≡ settlements_of self.old }
+        ensures len { vec_len self.new.entries ≡ vec_len self.old.entries }
+        ensures kept { (n : ℕ) → HasPlaces n self.old → HasPlaces n self.new }
+    {
+        let ahead = more.max(PLACES_AHEAD);
+        if self.has_places(ahead) {
+            self.room = ahead;
+            return Ok(());
+        }
+        if !self.has_places(more) {
+            self.grow(more.max(PLACES_AT_ONCE))?;
+        }
+        self.room = more;
+        Ok(())
     }
 
     /// Whether there is room for so many settlements.
@@ -164,7 +206,7 @@ impl Log {
         self.recently_packed.reserve()?;
         self.recent_values.reserve()?;
         self.entries.reserve(more)?;
-        self.packed.reserve(more)?;
+        self.packed.reserve(more.max(PACKED_AT_ONCE))?;
         self.values.reserve(32 * more)
     }
 
@@ -175,8 +217,6 @@ impl Log {
         ensures len { vec_len self.new.entries ≡ vec_len self.old.entries + 1 }
         ensures kept { (n : ℕ) → HasPlaces (n + 1) self.old → HasPlaces n self.new }
     {
-        let answer = [answer_in(job)];
-        let reply = [reply_in(want)];
         let entry = LogEntry {
             packed: number_of(
                 &mut self.packed,
@@ -189,11 +229,12 @@ impl Log {
             first_value: place_of(
                 &mut self.values,
                 &mut self.recent_values,
-                job_values(job, &answer),
-                want_values(want, &reply),
+                job_values(job),
+                want_values(want),
             ),
         };
         self.entries.push_reserved(entry);
+        self.room = self.room.saturating_sub(1);
     }
 }
 

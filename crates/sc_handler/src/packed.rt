@@ -1,7 +1,7 @@
 //! Settlements, jobs and wants as the log has them: without their values, which lie in a list of their own, so that those
 //! that differ in values alone are kept once.
-ghost use Rattle.std.specs.Prelude.{◌≡◌, ◌<◌, ◌≤◌, ◌∷◌, [], length};
-ghost use Rattle.sc_handler.specs.Packed.{first_of_all, job_values, packed_job, packed_of, packed_request, packed_want, replied, reply_of, unpacked, unpacked_job, unpacked_request, unpacked_want, value_if, values_in, values_in_job, values_in_want, want_values};
+ghost use Rattle.std.specs.Prelude.{◌≡◌, ◌<◌, ◌≤◌, length};
+ghost use Rattle.sc_handler.specs.Packed.{first_of_all, job_values, packed_job, packed_of, packed_request, packed_want, unpacked, unpacked_job, unpacked_request, unpacked_want, value_if, values_in, values_in_job, values_in_want, want_values};
 
 use crate::copy::copy_handlers;
 use crate::settlement::Settlement;
@@ -9,6 +9,7 @@ use arrayvec::ArrayVec;
 use sc_lockpass::HandlerNumber;
 use sc_model::Cause;
 use sc_region::{ClassNumber, Errand, Job, NameNumber, Reference, Request, Value, Want};
+use std::slice;
 
 /// A request without its actuals: with how many there are in place of them.
 #[derive(Clone, Copy)]
@@ -171,25 +172,14 @@ fn pack_job(job: &Job) -> PackedJob
     }
 }
 
-/// The value of the answer that a job takes, or some value.
-pub(crate) fn answer_in(job: &Job) -> Value
-    ensures { result ≡ replied job.now }
-{
-    match job {
-        Job::Reply(Some(value)) => *value,
-        _ => Value::Void,
-    }
-}
-
-/// The values of a job, the answer of which is this one.
-pub(crate) fn job_values<'a>(job: &'a Job, answer: &'a [Value]) -> &'a [Value]
-    requires { answer.now ≡ replied job.now ∷ [] }
+/// The values of a job.
+pub(crate) fn job_values(job: &Job) -> &[Value]
     ensures values { result.now ≡ job_values job.now }
     ensures few { length result.now ≤ 16 }
 {
     match job {
         Job::Take(request) => request.actuals.as_slice(),
-        Job::Reply(Some(_)) => answer,
+        Job::Reply(Some(value)) => slice::from_ref(value),
         _ => &[],
     }
 }
@@ -264,23 +254,8 @@ fn pack_want(want: &Want) -> PackedWant
     }
 }
 
-/// The value of the reply that a want has, or some value.
-pub(crate) fn reply_in(want: &Want) -> Value
-    ensures { result ≡ reply_of want.now }
-{
-    match want {
-        Want::Done {
-            reply: Some(value),
-            released: _,
-            refused: _,
-        } => *value,
-        _ => Value::Void,
-    }
-}
-
-/// The values of a want, the reply of which is this one.
-pub(crate) fn want_values<'a>(want: &'a Want, reply: &'a [Value]) -> &'a [Value]
-    requires { reply.now ≡ reply_of want.now ∷ [] }
+/// The values of a want.
+pub(crate) fn want_values(want: &Want) -> &[Value]
     ensures values { result.now ≡ want_values want.now }
     ensures few { length result.now ≤ 16 }
 {
@@ -294,10 +269,10 @@ pub(crate) fn want_values<'a>(want: &'a Want, reply: &'a [Value]) -> &'a [Value]
             passes: _,
         } => actuals.as_slice(),
         Want::Done {
-            reply: Some(_),
+            reply: Some(value),
             released: _,
             refused: _,
-        } => reply,
+        } => slice::from_ref(value),
         _ => &[],
     }
 }

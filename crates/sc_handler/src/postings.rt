@@ -95,6 +95,9 @@ pub(crate) fn take_all(list: &mut LinkedList<Posting>) -> LinkedList<Posting>
 // ---- places
 
 /// Adds what is missing of so many places for what is posted. Err where there is no memory.
+///
+/// It is a test where that is called, and seldom a call.
+#[inline(always)]
 pub fn add_places(spare: &mut LinkedList<Posting>, wanted: usize) -> Result<(), AllocError>
     ensures ok { OnOk result (wanted ≤ length spare.new) }
     ensures kept { length spare.old ≤ length spare.new }
