@@ -14,7 +14,7 @@ use Rattle.sc_proctype.specs.Laws.{IsClassOf}
 use Rattle.sc_proctype.specs.declared.entity_type.EntityType.{EntityType}
 use Rattle.sc_proctype.specs.declared.tag.Tag.{Tag}
 use Rattle.sc_proctype.specs.declared.tag.Tag.TheVariants as tag
-use Rattle.sc_combine.specs.Combiners.{combined_result}
+use Rattle.sc_proctype.specs.Combiners.{combined_result}
 use Rattle.sc_rules.specs.CallRules.{count}
 use Rattle.sc_rules.specs.InstructionLaws as rules
 use Rattle.sc_rules.specs.InstructionLaws.{IsOfType, MayBeCreated, of_check}

@@ -15,8 +15,8 @@ use Rattle.sc_proctype.specs.declared.tag.Reserved.TheVariants.{BlockName, Forma
 use Rattle.sc_proctype.specs.declared.tag.Tag.{Tag}
 use Rattle.sc_proctype.specs.declared.tag.Tag.TheVariants as tag
 use Rattle.sc_proctype.proofs.ConformanceLemmas.{transitive}
-use Rattle.sc_combine.specs.Combiners.{argument_tag, combined_argument, combined_result, known_of, known_tag, result_tag}
-use Rattle.sc_combine.specs.declared.known.Known.{Known}
+use Rattle.sc_proctype.specs.Combiners.{argument_tag, combined_argument, combined_result, known_of, known_tag, result_tag}
+use Rattle.sc_proctype.specs.declared.known.Known.{Known}
 use Rattle.sc_model.specs.Fits.{Fits, Lies}
 use Rattle.sc_model.specs.Values.{Attached, Boolean, Integer, Operand, Value, Void}
 use Rattle.sc_machine_values.specs.Places.{no_names}

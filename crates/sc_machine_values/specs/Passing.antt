@@ -4,7 +4,7 @@ use Rattle.sc_tree.specs.Plain.{Declaration, DeclaredType, System}
 use Rattle.sc_proctype.specs.Conformance.{conforms}
 use Rattle.sc_proctype.specs.declared.entity_type.EntityType.{EntityType}
 use Rattle.sc_proctype.specs.declared.tag.Reserved.{Reserved}
-use Rattle.sc_combine.specs.Combiners.{combined_result}
+use Rattle.sc_proctype.specs.Combiners.{combined_result}
 use Rattle.sc_rules.specs.Laws.{are_declared}
 use Rattle.sc_rules.specs.Names.{formal_type}
 use Rattle.sc_rules.specs.Types.{declared_type}

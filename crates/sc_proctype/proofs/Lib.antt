@@ -1,1 +1,3 @@
 pub mod ConformanceLemmas
+pub mod Results
+pub mod Arguments

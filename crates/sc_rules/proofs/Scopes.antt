@@ -17,7 +17,7 @@ use Rattle.sc_proctype.specs.declared.tag.Reserved.TheVariants.{Formal}
 use Rattle.sc_proctype.specs.declared.tag.Tag.{Tag}
 use Rattle.sc_proctype.specs.declared.tag.Tag.TheVariants as tag
 use Rattle.sc_proctype.specs.declared.entity_type.EntityType.{EntityType}
-use Rattle.sc_combine.specs.Combiners.{result_tag, combined_result}
+use Rattle.sc_proctype.specs.Combiners.{result_tag, combined_result}
 use Rattle.sc_rules.specs.declared.position.Context.{Context}
 use Rattle.sc_rules.specs.declared.position.Position.{Position}
 use Rattle.sc_rules.specs.Types.{is_nameable, number_of_named, declared_tag, is_marked, typed, declared_type, gives_if, unary_type, binary_type, unary_result, binary_result, test_result}

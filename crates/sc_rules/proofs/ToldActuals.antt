@@ -10,7 +10,7 @@ use Rattle.sc_class.specs.Tables.Conformance.{is_expanded, type_class}
 use Rattle.sc_proctype.specs.declared.tag.Tag.{Tag}
 use Rattle.sc_proctype.specs.declared.entity_type.EntityType.{EntityType}
 use Rattle.sc_proctype.specs.Conformance.{conforms}
-use Rattle.sc_combine.specs.Combiners.{known_of, combined_argument}
+use Rattle.sc_proctype.specs.Combiners.{known_of, combined_argument}
 use Rattle.sc_rules.specs.declared.rule.Rule.{Rule}
 use Rattle.sc_rules.specs.declared.rule.Rule.TheVariants.{UnknownName, ArgumentType, TargetDetachable, TargetUncontrolled, OperatorType, TagName, PreconditionArgument, OldPlace}
 use Rattle.sc_rules.specs.declared.position.Context.{Context}

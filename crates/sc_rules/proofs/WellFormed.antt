@@ -5,7 +5,7 @@ use Rattle.sc_text.specs.declared.token.Span.{Span}
 use Rattle.sc_tree.specs.Plain.{System, Class, Feature, FeatureKind, Routine, Name, Expr, Target, Exprs}
 use Rattle.sc_proctype.specs.declared.entity_type.EntityType.{EntityType}
 use Rattle.sc_proctype.specs.Conformance.{conforms}
-use Rattle.sc_combine.specs.Combiners.{combined_argument}
+use Rattle.sc_proctype.specs.Combiners.{combined_argument}
 use Rattle.sc_rules.specs.declared.rule.Rule.{Rule}
 use Rattle.sc_rules.specs.declared.rule.Rule.TheVariants.{ArgumentType}
 use Rattle.sc_rules.specs.declared.position.Context.{Context}

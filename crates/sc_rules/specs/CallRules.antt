@@ -5,8 +5,8 @@ use Rattle.sc_tree.specs.Plain.{Name, Expr, Target, target, Exprs, no_exprs, exp
 use Rattle.sc_class.specs.Tables.Conformance.{is_expanded}
 use Rattle.sc_proctype.specs.declared.entity_type.EntityType.{EntityType}
 use Rattle.sc_proctype.specs.Conformance.{conforms}
-use Rattle.sc_combine.specs.declared.known.Known.{Known}
-use Rattle.sc_combine.specs.Combiners.{known_of, combined_argument}
+use Rattle.sc_proctype.specs.declared.known.Known.{Known}
+use Rattle.sc_proctype.specs.Combiners.{known_of, combined_argument}
 use Rattle.sc_rules.specs.declared.rule.Rule.{Rule}
 use Rattle.sc_rules.specs.declared.rule.Rule.TheVariants.{UnknownName, WrongArity, ArgumentType, TargetDetachable, TargetUncontrolled, ResultType, ImpureContract, PreconditionArgument, NotExported}
 use Rattle.sc_rules.specs.declared.position.Context.{Context}

@@ -21,4 +21,4 @@ pub mod TextLaws
 pub mod ScopeLaws
 pub mod PurityLaws
 pub mod FeatureNumbers
-pub use Rattle.sc_combine.specs.Combiners
+pub use Rattle.sc_proctype.specs.Combiners

@@ -11,7 +11,7 @@ use Rattle.sc_proctype.specs.declared.tag.Reserved.TheVariants.{Formal, BlockNam
 use Rattle.sc_proctype.specs.declared.tag.Tag.TheVariants as tag
 use Rattle.sc_proctype.specs.Tags.{is_any}
 use Rattle.sc_proctype.specs.declared.entity_type.EntityType.{EntityType}
-use Rattle.sc_combine.specs.Combiners.{combined_result}
+use Rattle.sc_proctype.specs.Combiners.{combined_result}
 use Rattle.sc_rules.specs.declared.position.Role.{Role}
 use Rattle.sc_rules.specs.declared.position.Role.TheVariants as role
 use Rattle.sc_rules.specs.Types.{declared_type}

@@ -4,8 +4,8 @@ use Rattle.sc_text.specs.declared.token.Span.{Span}
 use Rattle.sc_tree.specs.Plain.{System, Class, Feature, RoutineDeclaration, Routine, Clause, Name, Variable, CreationCall, Creation, Expr, Call, Target, target, Exprs, Assign, CallRoutine, Create}
 use Rattle.sc_proctype.specs.declared.entity_type.EntityType.{EntityType}
 use Rattle.sc_proctype.specs.Conformance.{conforms}
-use Rattle.sc_combine.specs.declared.known.Known.{Known}
-use Rattle.sc_combine.specs.Combiners.{combined_argument}
+use Rattle.sc_proctype.specs.declared.known.Known.{Known}
+use Rattle.sc_proctype.specs.Combiners.{combined_argument}
 use Rattle.sc_rules.specs.declared.position.Context.{Context}
 use Rattle.sc_rules.specs.declared.position.Context.TheVariants as context
 use Rattle.sc_rules.specs.declared.position.Position.{Position}

@@ -14,9 +14,9 @@ use Rattle.sc_proctype.specs.declared.tag.Tag.TheVariants as tag
 use Rattle.sc_proctype.specs.declared.entity_type.EntityType.{EntityType}
 use Rattle.sc_proctype.specs.Conformance.{integer, boolean, conforms}
 use Rattle.sc_proctype.specs.Conformance as conformance
-use Rattle.sc_combine.specs.declared.known.Known.{Known}
-use Rattle.sc_combine.specs.declared.known.Known.TheVariants as known
-use Rattle.sc_combine.specs.Combiners.{known_of, combined_argument}
+use Rattle.sc_proctype.specs.declared.known.Known.{Known}
+use Rattle.sc_proctype.specs.declared.known.Known.TheVariants as known
+use Rattle.sc_proctype.specs.Combiners.{known_of, combined_argument}
 use Rattle.sc_rules.specs.declared.position.Context.{Context}
 use Rattle.sc_rules.specs.declared.position.Position.{Position}
 use Rattle.sc_rules.specs.declared.position.Position.TheVariants.{Plain, Condition, Source}

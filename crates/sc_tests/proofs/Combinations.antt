@@ -7,9 +7,9 @@ use Rattle.sc_proctype.specs.declared.tag.Tag.{Tag}
 use Rattle.sc_proctype.specs.declared.tag.Tag.TheVariants as tag
 use Rattle.sc_proctype.specs.declared.entity_type.EntityType.{EntityType}
 use Rattle.sc_proctype.specs.Conformance.{integer, boolean}
-use Rattle.sc_combine.specs.declared.known.Known.{Known}
-use Rattle.sc_combine.specs.declared.known.Known.TheVariants as known
-use Rattle.sc_combine.specs.Combiners.{combined_result, combined_argument, known_of}
+use Rattle.sc_proctype.specs.declared.known.Known.{Known}
+use Rattle.sc_proctype.specs.declared.known.Known.TheVariants as known
+use Rattle.sc_proctype.specs.Combiners.{combined_result, combined_argument, known_of}
 use Rattle.sc_tests.proofs.Conformances.{attached, detachable, first, x, y}
 
 abbrev z : Tag

@@ -11,8 +11,7 @@ ghost use Rattle.sc_class.specs.SystemIn.{system_in};
 
 use crate::fault::{CheckFault, required};
 use sc_class::{ClassId, Tables};
-use sc_combine::combine_result;
-use sc_proctype::{EntityType, Reserved, Tag};
+use sc_proctype::{EntityType, Reserved, Tag, combine_result};
 use sc_rules::Rule;
 use sc_tree::{Declaration, DeclaredType, HandlerTag};
 

@@ -1,6 +1,6 @@
 //! Laws of the combiners, each the contract of a function that does nothing.
 
-ghost use Rattle.sc_combine.specs.Laws.{ExactArgument, ExactResult, NoTraitor, OwnResult};
+ghost use Rattle.sc_proctype.specs.CallLaws.{ExactArgument, ExactResult, NoTraitor, OwnResult};
 
 /// A result that is a reference is of the current handler only where the target is.
 pub fn results_stay_foreign()

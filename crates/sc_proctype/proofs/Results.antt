@@ -7,9 +7,9 @@ use Rattle.sc_proctype.specs.declared.tag.Tag.TheVariants as tag
 use Rattle.sc_proctype.specs.declared.entity_type.EntityType.{EntityType}
 use Rattle.sc_proctype.specs.Laws.{IsWithin}
 use Rattle.sc_proctype.proofs.ConformanceLemmas.{tag_within, within_tag}
-use Rattle.sc_combine.specs.Combiners.{result_tag}
-use Rattle.sc_combine.specs.Calls.{IsResultTag}
-use Rattle.sc_combine.specs.Laws.{OwnResult, ExactResult}
+use Rattle.sc_proctype.specs.Combiners.{result_tag}
+use Rattle.sc_proctype.specs.Calls.{IsResultTag}
+use Rattle.sc_proctype.specs.CallLaws.{OwnResult, ExactResult}
 
 own_from : (t r : Tag) → result_tag t r ≡ tag.Own → t ≡ tag.Own
 own_from tag.Own r e = refl

@@ -15,11 +15,11 @@ use Rattle.sc_proctype.specs.Conformance.{mark_conforms}
 use Rattle.sc_proctype.specs.Handlers.{LiesOn}
 use Rattle.sc_proctype.specs.Laws.{IsWithin}
 use Rattle.sc_proctype.proofs.ConformanceLemmas.{tag_within, within_tag}
-use Rattle.sc_combine.specs.declared.known.Known.{Known}
-use Rattle.sc_combine.specs.declared.known.Known.TheVariants as known
-use Rattle.sc_combine.specs.Combiners.{known_of, known_tag, argument_tag}
-use Rattle.sc_combine.specs.Calls.{IsTrueOf, IsActualTag}
-use Rattle.sc_combine.specs.Laws.{NoTraitor, ExactArgument}
+use Rattle.sc_proctype.specs.declared.known.Known.{Known}
+use Rattle.sc_proctype.specs.declared.known.Known.TheVariants as known
+use Rattle.sc_proctype.specs.Combiners.{known_of, known_tag, argument_tag}
+use Rattle.sc_proctype.specs.Calls.{IsTrueOf, IsActualTag}
+use Rattle.sc_proctype.specs.CallLaws.{NoTraitor, ExactArgument}
 
 -- ---- traitors
 

@@ -1,9 +1,9 @@
 //! What is known of the handlers of actuals.
 
 ghost use Rattle.std.specs.Prelude.{◌≡◌};
-ghost use Rattle.sc_combine.specs.Combiners.{known_of, known_tag};
+ghost use Rattle.sc_proctype.specs.Combiners.{known_of, known_tag};
 
-use sc_proctype::{Reserved, Tag};
+use crate::tag::{Reserved, Tag};
 
 /// What the caller knows of the handler of an actual.
 #[derive(Clone, Copy, PartialEq, Eq)]

@@ -6,8 +6,8 @@ use Rattle.sc_proctype.specs.declared.tag.Reserved.TheVariants.{Formal}
 use Rattle.sc_proctype.specs.declared.tag.Tag.{Tag}
 use Rattle.sc_proctype.specs.declared.tag.Tag.TheVariants as tag
 use Rattle.sc_proctype.specs.Handlers.{LiesOn}
-use Rattle.sc_combine.specs.declared.known.Known.{Known}
-use Rattle.sc_combine.specs.declared.known.Known.TheVariants as known
+use Rattle.sc_proctype.specs.declared.known.Known.{Known}
+use Rattle.sc_proctype.specs.declared.known.Known.TheVariants as known
 
 -- Whatever lies where a result of this tag may, seen by the called routine, lies where this other tag says, seen by the
 -- caller. Names in the result's tag are the caller's where the target is of its own handler; of others the caller knows

@@ -1,10 +1,11 @@
 //! The two combiners.
 
 ghost use Rattle.std.specs.Prelude.{◌≡◌};
-ghost use Rattle.sc_combine.specs.Combiners as combiners;
+ghost use Rattle.sc_proctype.specs.Combiners as combiners;
 
+use crate::entity_type::EntityType;
 use crate::known::Known;
-use sc_proctype::{EntityType, Reserved, Tag};
+use crate::tag::{Reserved, Tag};
 
 /// The type of a call's result, seen by the caller: of the target's type and the type that the feature declares.
 pub fn combine_result(target: EntityType, declared: EntityType) -> EntityType

@@ -6,8 +6,8 @@ use Rattle.sc_proctype.specs.declared.tag.Reserved.TheVariants.{Formal, BlockNam
 use Rattle.sc_proctype.specs.declared.tag.Tag.{Tag}
 use Rattle.sc_proctype.specs.declared.tag.Tag.TheVariants as tag
 use Rattle.sc_proctype.specs.declared.entity_type.EntityType.{EntityType}
-use Rattle.sc_combine.specs.declared.known.Known.{Known}
-use Rattle.sc_combine.specs.declared.known.Known.TheVariants as known
+use Rattle.sc_proctype.specs.declared.known.Known.{Known}
+use Rattle.sc_proctype.specs.declared.known.Known.TheVariants as known
 
 -- For a target of tag `own` the result keeps its tag, and a result of tag `own` takes the target's; any other has the
 -- tag `any`.

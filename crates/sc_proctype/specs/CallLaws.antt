@@ -7,9 +7,9 @@ use Rattle.sc_proctype.specs.declared.tag.Tag.TheVariants as tag
 use Rattle.sc_proctype.specs.declared.entity_type.EntityType.{EntityType}
 use Rattle.sc_proctype.specs.Tags.{tag_conforms}
 use Rattle.sc_proctype.specs.Conformance.{conforms}
-use Rattle.sc_combine.specs.declared.known.Known.{Known}
-use Rattle.sc_combine.specs.Combiners.{result_tag, combined_result, argument_tag, combined_argument}
-use Rattle.sc_combine.specs.Calls.{IsResultTag, IsActualTag}
+use Rattle.sc_proctype.specs.declared.known.Known.{Known}
+use Rattle.sc_proctype.specs.Combiners.{result_tag, combined_result, argument_tag, combined_argument}
+use Rattle.sc_proctype.specs.Calls.{IsResultTag, IsActualTag}
 
 -- A result that is a reference has the tag `own` only where the target has.
 abbrev pub OwnResult : Type 0

@@ -1,3 +1,0 @@
-pub mod Combiners
-pub mod Calls
-pub mod Laws
