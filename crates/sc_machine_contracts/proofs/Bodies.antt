@@ -20,8 +20,8 @@ use Rattle.sc_rules.proofs.PurityStands.{purity_stands}
 use Rattle.sc_rules.proofs.TextLaws.{blocks_reserve, conditions_give}
 use Rattle.sc_model.specs.Olds.{olds_of, olds_of_each}
 use Rattle.sc_model.specs.Routines.{Routine}
-use Rattle.sc_machine_values.specs.Points.{Each}
-use Rattle.sc_machine_values.proofs.Olds.{none_old}
+use Rattle.sc_machine_rights.specs.Points.{Each}
+use Rattle.sc_machine_rights.proofs.Olds.{none_old}
 use Rattle.sc_machine_contracts.specs.ClauseLaws.{IsWithoutOld, TextsAreWithoutOld}
 use Rattle.sc_machine_contracts.specs.Texts.{CallHasNoOld, ClauseHasNoOld, HasNoOld, HaveNoOld, HeadHasNoOld, BranchesHaveNoOld, InstrHasNoOld, InstrsHaveNoOld}
 use Rattle.sc_machine_contracts.proofs.Stems.{IsDeclared, Stem, body_is, require_is, stem}

@@ -34,8 +34,8 @@ use Rattle.sc_model.specs.Creations.{creates_object, creates_here, creates_at, c
 use Rattle.sc_model.specs.ObjectTests.{is_tested, binds_if, binds}
 use Rattle.sc_model.specs.Expressions.{gives_outcome, gives_truth, apply_unary, apply_to_integers, apply_to_booleans, is_same_object, apply_binary, applies, evals_right, concludes}
 use Rattle.sc_machine_contracts.specs.ClauseLaws.{point_after}
-use Rattle.sc_machine_values.specs.Points.{Each}
-use Rattle.sc_machine_values.proofs.Lists.{each_append}
+use Rattle.sc_machine_rights.specs.Points.{Each}
+use Rattle.sc_machine_rights.proofs.Lists.{each_append}
 use Rattle.sc_machine_contracts.specs.Texts.{HasNoOld, HaveNoOld, ClauseHasNoOld, HeadHasNoOld, TaskHasNoOld}
 
 pub left_none : {A : Type 0} (xs ys : List A) → length (xs ++ ys) ≡ 0 → length xs ≡ 0

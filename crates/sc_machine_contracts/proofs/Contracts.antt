@@ -32,8 +32,8 @@ use Rattle.sc_model.specs.Calls.{given_by, passes_rights, enters_unqualified, ca
 use Rattle.sc_model.specs.Expressions.{gives_outcome, gives_truth, apply_unary, apply_to_integers, apply_to_booleans, is_same_object, apply_binary, applies, decided_by, evals_right, concludes, gives_found, reads_result, reads_own, begins_kind, begins_feature, begins_name, evaluate}
 use Rattle.sc_model.specs.Instructions.{tests, required}
 use Rattle.sc_model.specs.Moves.{performs, step_at, step}
-use Rattle.sc_machine_values.specs.Points.{Each}
-use Rattle.sc_machine_values.proofs.Lists.{each_append}
+use Rattle.sc_machine_rights.specs.Points.{Each}
+use Rattle.sc_machine_rights.proofs.Lists.{each_append}
 use Rattle.sc_machine_contracts.specs.ClauseLaws.{StaysInContract, StepOfContract, StepsInContract}
 use Rattle.sc_machine_contracts.specs.Texts.{HasNoTest, HaveNoTest, IsOfContract}
 

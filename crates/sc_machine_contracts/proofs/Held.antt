@@ -24,7 +24,7 @@ use Rattle.sc_machine_rights.proofs.ReturningSteps.{grant_of, returns_granted}
 use Rattle.sc_machine_rights.proofs.LawProofs.{steps_are_lawful, reserved_while_it_runs}
 use Rattle.sc_machine_rights.proofs.MachineFrames.{contains_none, contains_first, contains_later, contains_cases}
 use Rattle.sc_machine_rights.proofs.MachineHolders.{machine_reserved_are_held}
-use Rattle.sc_machine_values.specs.Fitting.{MayEnd}
+use Rattle.sc_machine_rights.specs.Fitting.{MayEnd}
 use Rattle.sc_machine_contracts.proofs.StandingRequests.{pair_one, pair_is, standing, standing_one}
 use Rattle.sc_machine_contracts.proofs.Tops.{lives_there, queue_is, top_is, replies_same}
 use Rattle.sc_machine_contracts.proofs.Unlent.{Ending, ending, paired_at, still_lives}

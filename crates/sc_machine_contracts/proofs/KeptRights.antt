@@ -9,7 +9,7 @@ use Rattle.sc_lockpass.specs.Rights.{Rights, is_handler, is_among, release_all}
 use Rattle.sc_lockpass.specs.Passing.{Passed, moved, pass, returned, give_back}
 use Rattle.sc_machine_rights.proofs.Rights.{not_some}
 use Rattle.sc_machine_rights.proofs.Waits.{true_false}
-use Rattle.sc_machine_values.proofs.Lists.{same_some}
+use Rattle.sc_machine_rights.proofs.Lists.{same_some}
 use Rattle.sc_machine_contracts.proofs.Held.{IsHere}
 
 -- ---- rights alone

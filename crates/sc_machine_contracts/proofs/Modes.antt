@@ -19,7 +19,7 @@ use Rattle.sc_rules.proofs.Versions.{contracts_are_kept}
 use Rattle.sc_model.specs.Olds.{olds_in, olds_of, olds_of_each, olds_of_clauses}
 use Rattle.sc_model.specs.Routines.{Routine, origin_of, routine_from, routine_named, routine_of, routine_with, version_of}
 use Rattle.sc_model.specs.Tasks.{Task, Do, In, Declare, Forget, Require, keeps_olds, requires, ensures, tasks_of}
-use Rattle.sc_machine_values.proofs.Origins.{origin_is}
+use Rattle.sc_machine_rights.proofs.Origins.{origin_is}
 use Rattle.sc_machine_contracts.proofs.FreeNames.{AssignsNone, CallsPure, is_routine}
 use Rattle.sc_machine_contracts.proofs.Purely.{body_pure, precondition_pure, postcondition_pure}
 use Rattle.sc_machine_contracts.proofs.Tasks.{OfTasks, class_behind}

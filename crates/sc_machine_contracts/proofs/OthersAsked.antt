@@ -15,7 +15,7 @@ use Rattle.sc_model.specs.Runs.{IsReached}
 use Rattle.sc_model.specs.Turns.{turn}
 use Rattle.sc_model.specs.Values.{Reference, Operand, Value}
 use Rattle.sc_machine_rights.specs.Headline.{has_reply}
-use Rattle.sc_machine_values.specs.Fitting.{WorldFits}
+use Rattle.sc_machine_rights.specs.Fitting.{WorldFits}
 use Rattle.sc_machine_contracts.specs.Evaluating.{Answers}
 use Rattle.sc_machine_contracts.specs.ClauseLaws.{AnswersLocally, EndsTrueLocally, ReachesLocally}
 use Rattle.sc_machine_contracts.specs.RequestLaws.{AnswerComes, AnswersCome, BeyondIsUnused, CallbackComes, CallbacksMeetWaiters, CalledBackWaits, EndsTheOne, IsUnlent, MayAnswer, OthersStay, OwnQueueShrinks, QueueComes, RightsStay, Stays, StandsOnce}

@@ -15,8 +15,8 @@ use Rattle.sc_model.specs.Objects.{Object}
 use Rattle.sc_model.specs.Runs.{IsReached}
 use Rattle.sc_model.specs.Steps.{Point, Enters, Requests}
 use Rattle.sc_model.specs.Turns.{turn}
-use Rattle.sc_machine_values.specs.Fitting.{FrameFits, WorldFits}
-use Rattle.sc_machine_values.specs.Points.{Each}
+use Rattle.sc_machine_rights.specs.Fitting.{FrameFits, WorldFits}
+use Rattle.sc_machine_rights.specs.Points.{Each}
 use Rattle.sc_machine_rights.specs.Headline.{is_awaiting}
 use Rattle.sc_refines_core.specs.Entries.{HasStarted}
 use Rattle.sc_refines_core.proofs.FrameLinks.{reached_fits}

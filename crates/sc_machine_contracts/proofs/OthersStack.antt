@@ -11,7 +11,7 @@ use Rattle.sc_model.specs.Handlers.{Request, Called, Requested, Stage, Runs, Res
 use Rattle.sc_model.specs.Routines.{Routine, routine_from, routine_named, routine_of, routine_with, origin_of, version_of}
 use Rattle.sc_model.specs.Steps.{Calling}
 use Rattle.sc_model.specs.Values.{Reference, Value, Operand, values_of}
-use Rattle.sc_machine_values.specs.Points.{Each}
+use Rattle.sc_machine_rights.specs.Points.{Each}
 use Rattle.sc_refines_core.specs.Calm.{name_of}
 use Rattle.sc_machine_contracts.specs.Following.{IsCalledPure, IsFor, is_called}
 use Rattle.sc_machine_contracts.proofs.Lists.{first_of, rest_of, false_is_true}

@@ -21,12 +21,12 @@ use Rattle.sc_model.specs.Objects.{Object, object_numbered}
 use Rattle.sc_model.specs.Routines.{Routine, routine_named, routine_of, version_of}
 use Rattle.sc_model.specs.Takes.{replies, takes, takes_kind, takes_version}
 use Rattle.sc_model.specs.Values.{Reference, Operand, values_of}
-use Rattle.sc_machine_values.specs.Fitting.{HandlerFits, IsThere, ObjectFits, RequestFits, WorldFits}
-use Rattle.sc_machine_values.specs.Fitting as fitting
-use Rattle.sc_machine_values.specs.Places.{is_routine}
-use Rattle.sc_machine_values.proofs.Attributes.{Attribute, attribute_found}
-use Rattle.sc_machine_values.proofs.Calls.{numbered_fits}
-use Rattle.sc_machine_values.proofs.Lists.{each_in}
+use Rattle.sc_machine_rights.specs.Fitting.{HandlerFits, IsThere, ObjectFits, RequestFits, WorldFits}
+use Rattle.sc_machine_rights.specs.Fitting as fitting
+use Rattle.sc_machine_rights.specs.Places.{is_routine}
+use Rattle.sc_machine_rights.proofs.Attributes.{Attribute, attribute_found}
+use Rattle.sc_machine_rights.proofs.Calls.{numbered_fits}
+use Rattle.sc_machine_rights.proofs.Lists.{each_in}
 use Rattle.sc_machine_rights.proofs.MachineFrames.{contains_first}
 use Rattle.sc_refines_core.specs.Calm.{name_of}
 use Rattle.sc_refines_core.specs.Clauses.{RunsPureIfRoutine}

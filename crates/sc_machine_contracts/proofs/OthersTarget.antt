@@ -23,9 +23,9 @@ use Rattle.sc_machine_rights.specs.Headline.{has_reply, topmost}
 use Rattle.sc_machine_rights.proofs.MachineFrames.{contains_first}
 use Rattle.sc_machine_rights.proofs.MachineHolders.{machine_waiters_are_told}
 use Rattle.sc_machine_rights.proofs.links.Reached.{reached_stands}
-use Rattle.sc_machine_values.specs.Fitting.{FrameFits, MayEnd, WorldFits}
-use Rattle.sc_machine_values.specs.Fitting as fitting
-use Rattle.sc_machine_values.specs.Points.{Each}
+use Rattle.sc_machine_rights.specs.Fitting.{FrameFits, MayEnd, WorldFits}
+use Rattle.sc_machine_rights.specs.Fitting as fitting
+use Rattle.sc_machine_rights.specs.Points.{Each}
 use Rattle.sc_refines_core.specs.Calm.{name_of}
 use Rattle.sc_refines_core.specs.Clauses.{RunsPureIfRoutine}
 use Rattle.sc_refines_core.proofs.FrameLinks.{one_further}

@@ -17,7 +17,7 @@ use Rattle.sc_model.specs.Handlers.{Request, Answer, Reply, Failed, Refused, Awa
 use Rattle.sc_model.specs.Failures.{fail}
 use Rattle.sc_model.specs.Asking.{placed, send, is_callback, asks, request}
 use Rattle.sc_machine_rights.proofs.links.Looks.{m_put-own, m_put-off}
-use Rattle.sc_machine_values.proofs.Lists.{no_both}
+use Rattle.sc_machine_rights.proofs.Lists.{no_both}
 use Rattle.sc_refines_core.specs.Calm.{name_of}
 use Rattle.sc_refines_core.specs.Clauses.{RunsPureIfRoutine}
 use Rattle.sc_refines_core.specs.Entries.{HasStarted}

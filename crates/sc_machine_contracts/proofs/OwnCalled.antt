@@ -5,8 +5,8 @@ use Rattle.sc_proctype.specs.declared.entity_type.EntityType.{EntityType}
 use Rattle.sc_rules.specs.Names.{RoutineName}
 use Rattle.sc_model.specs.Steps.{Calling, Act, Until, Starts, Does, Point}
 use Rattle.sc_model.specs.Handlers.{Request, Origin, Called, Requested, InCall, Frame, World}
-use Rattle.sc_machine_values.specs.Fitting.{Linked}
-use Rattle.sc_machine_values.specs.Fitting as fitting
+use Rattle.sc_machine_rights.specs.Fitting.{Linked}
+use Rattle.sc_machine_rights.specs.Fitting as fitting
 use Rattle.sc_refines_core.specs.Entries.{HasStarted}
 use Rattle.sc_machine_contracts.specs.Following.{is_called, IsCalledPure}
 use Rattle.sc_machine_contracts.proofs.OwnMoves.{Before}

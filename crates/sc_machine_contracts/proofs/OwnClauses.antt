@@ -34,8 +34,8 @@ use Rattle.sc_machine_rights.proofs.links.FittingActs.{stack_fits}
 use Rattle.sc_machine_rights.proofs.links.Looks.{m_put-own}
 use Rattle.sc_machine_rights.proofs.links.Turns.{StackFits, StepFits}
 use Rattle.sc_machine_rights.proofs.links.Turns as turning
-use Rattle.sc_machine_values.specs.Fitting.{AnswerFits, ReplyFits}
-use Rattle.sc_machine_values.proofs.Lists.{none_in}
+use Rattle.sc_machine_rights.specs.Fitting.{AnswerFits, ReplyFits}
+use Rattle.sc_machine_rights.proofs.Lists.{none_in}
 use Rattle.sc_refines_core.specs.Calm.{name_of}
 use Rattle.sc_refines_core.specs.Entries.{HasStarted}
 use Rattle.sc_machine_contracts.specs.ClauseLaws.{AnswersMore, EndsTrueMore, ReachesMore, TextsAreWithoutTests}

@@ -19,9 +19,9 @@ use Rattle.sc_model.specs.Routines.{Routine, version_of, routine_named, routine_
 use Rattle.sc_model.specs.Tasks.{requires, keeps_olds, tasks_of}
 use Rattle.sc_model.specs.Entries.{entry, stage_with}
 use Rattle.sc_model.specs.Handlers.{Origin, Frame, World, point_of}
-use Rattle.sc_machine_values.specs.Fitting.{FrameFits}
-use Rattle.sc_machine_values.specs.Points.{Each}
-use Rattle.sc_machine_values.proofs.Lists.{none_in, same_some}
+use Rattle.sc_machine_rights.specs.Fitting.{FrameFits}
+use Rattle.sc_machine_rights.specs.Points.{Each}
+use Rattle.sc_machine_rights.proofs.Lists.{none_in, same_some}
 use Rattle.sc_refines_core.specs.Calm.{name_of}
 use Rattle.sc_refines_core.specs.Clauses.{RunsPure}
 use Rattle.sc_refines_core.specs.Entries.{HasStarted}

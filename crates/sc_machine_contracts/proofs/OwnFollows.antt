@@ -14,9 +14,9 @@ use Rattle.sc_model.specs.Failures.{requests_at}
 use Rattle.sc_model.specs.Handlers.{Request, Stage, Runs, Reserves, ReservesBlock, InCall, Awaits, Frame, World}
 use Rattle.sc_model.specs.Runs.{IsReached}
 use Rattle.sc_model.specs.Turns.{goes_on, turn_with, turn}
-use Rattle.sc_machine_values.specs.Fitting.{FrameFits, HandlerFits, Linked}
-use Rattle.sc_machine_values.specs.Points.{Each}
-use Rattle.sc_machine_values.proofs.Turns.{callbacks_stand_alone}
+use Rattle.sc_machine_rights.specs.Fitting.{FrameFits, HandlerFits, Linked}
+use Rattle.sc_machine_rights.specs.Points.{Each}
+use Rattle.sc_machine_rights.proofs.Turns.{callbacks_stand_alone}
 use Rattle.sc_refines_core.specs.Calm.{name_of}
 use Rattle.sc_refines_core.specs.Entries.{HasStarted}
 use Rattle.sc_refines_core.proofs.FrameLinks.{one_further, reached_fits}

@@ -29,8 +29,8 @@ use Rattle.sc_model.specs.Turns.{effect, settles}
 use Rattle.sc_model.specs.Runs.{IsReached}
 use Rattle.sc_machine_rights.specs.Headline.{is_awaiting}
 use Rattle.sc_machine_rights.proofs.links.Looks.{m_put-own}
-use Rattle.sc_machine_values.specs.Fitting.{FrameFits, Linked}
-use Rattle.sc_machine_values.specs.Points.{Each}
+use Rattle.sc_machine_rights.specs.Fitting.{FrameFits, Linked}
+use Rattle.sc_machine_rights.specs.Points.{Each}
 use Rattle.sc_refines_core.specs.Calm.{name_of}
 use Rattle.sc_refines_core.specs.Entries.{HasStarted}
 use Rattle.sc_refines_core.proofs.GuardedSteps.{pure_waits_not}

@@ -21,8 +21,8 @@ use Rattle.sc_model.specs.Turns.{waits, goes_on}
 use Rattle.sc_model.specs.Runs.{IsReached}
 use Rattle.sc_machine_rights.proofs.MachineFrames.{contains_cases, contains_first, contains_later}
 use Rattle.sc_machine_rights.proofs.links.Looks.{m_put-own}
-use Rattle.sc_machine_values.specs.Fitting.{AnswerFits}
-use Rattle.sc_machine_values.proofs.Lists.{none_in}
+use Rattle.sc_machine_rights.specs.Fitting.{AnswerFits}
+use Rattle.sc_machine_rights.proofs.Lists.{none_in}
 use Rattle.sc_refines_core.specs.Calm.{name_of}
 use Rattle.sc_machine_contracts.specs.Evaluating.{Answers}
 use Rattle.sc_machine_contracts.specs.ClauseLaws.{AnswersMore, EndsTrueMore, ReachesMore, TextsAreWithoutTests}

@@ -33,7 +33,7 @@ use Rattle.sc_model.specs.Routines.{place_in}
 use Rattle.sc_model.specs.Steps.{Prints, Until, Creates, CreatesHandler, Enters, Requests, Starts, Refuses, Opens, Leaves, Exits, Fails, Point, Step, Goes, Does, fails, forgets, gives, popped, reads_as, reads_attribute}
 use Rattle.sc_model.specs.Tasks.{Task, Do, In, Declare, Forget, Eval, ApplyUnary, EvalRight, ApplyBinary, Conclude, Bind, CallUnqualified, CallQualified, AssignTo, Print, Choose, Repeat, EndLoop, Checked, Require, Required, KeepOld, Ensured, CreateBy, Open, Leave, checks, evals, head_evals}
 use Rattle.sc_model.specs.Values.{Reference, Value, Integer, Boolean, Void, Attached, Operand}
-use Rattle.sc_machine_values.specs.Points.{Each}
+use Rattle.sc_machine_rights.specs.Points.{Each}
 use Rattle.sc_machine_contracts.specs.ClauseLaws.{StaysInContract, StepOfContract, StepsInContract}
 use Rattle.sc_machine_contracts.specs.Texts.{IsOfContract}
 use Rattle.sc_machine_contracts.proofs.PointsFormals.{AreFormals, take_past, length_past, assigned_behind}

@@ -21,14 +21,14 @@ use Rattle.sc_model.specs.Steps.{Act, Prints, Until, Creates, CreatesHandler, En
 use Rattle.sc_model.specs.Tasks.{Task, Required}
 use Rattle.sc_model.specs.Values.{Reference, Value, Integer, Boolean, Void, Attached, Operand, operand}
 use Rattle.sc_machine_rights.proofs.MachineFrames.{contains_first}
-use Rattle.sc_machine_values.specs.Points.{Each, IsAmong}
-use Rattle.sc_machine_values.specs.Steps.{IsThereIfOwn, StandsSo, StepFits, ValuesDo}
-use Rattle.sc_machine_values.proofs.Lists.{each_append, each_behind}
-use Rattle.sc_machine_values.proofs.OperatorReferences.{Stays}
-use Rattle.sc_machine_values.proofs.OperatorReferences.{StepStays}
-use Rattle.sc_machine_values.proofs.References.{step_stays}
-use Rattle.sc_machine_values.proofs.Routines.{is_run}
-use Rattle.sc_machine_values.proofs.Steps.{step_fits}
+use Rattle.sc_machine_rights.specs.Points.{Each, IsAmong}
+use Rattle.sc_machine_rights.specs.ValueSteps.{IsThereIfOwn, StandsSo, StepFits, ValuesDo}
+use Rattle.sc_machine_rights.proofs.Lists.{each_append, each_behind}
+use Rattle.sc_machine_rights.proofs.OperatorReferences.{Stays}
+use Rattle.sc_machine_rights.proofs.OperatorReferences.{StepStays}
+use Rattle.sc_machine_rights.proofs.References.{step_stays}
+use Rattle.sc_machine_rights.proofs.Routines.{is_run}
+use Rattle.sc_machine_rights.proofs.ValueSteps.{step_fits}
 use Rattle.sc_refines_core.specs.Clauses.{AreOfTypes, ClauseStep, InClauses, StandsInClauses}
 use Rattle.sc_refines_core.specs.Clauses as clauses
 use Rattle.sc_refines_core.proofs.Clausal.{clause_next, own_values, rest_started, still_there}

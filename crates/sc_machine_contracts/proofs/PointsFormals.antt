@@ -10,7 +10,7 @@ use Rattle.sc_rules.specs.Types.{declared_type}
 use Rattle.sc_model.specs.Environments.{Binding, assigned_to, bind, formals_bound, is_formal, known_of, scope_of, with_binding}
 use Rattle.sc_model.specs.Routines.{Routine}
 use Rattle.sc_model.specs.Values.{Value}
-use Rattle.sc_machine_values.specs.Points.{Each}
+use Rattle.sc_machine_rights.specs.Points.{Each}
 use Rattle.sc_machine_contracts.specs.Following.{AreBound}
 
 -- ---- the actuals are formals

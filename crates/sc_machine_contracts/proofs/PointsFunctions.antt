@@ -21,13 +21,13 @@ use Rattle.sc_model.specs.Routines.{Routine, Text, origin_of, routine_from, rout
 use Rattle.sc_model.specs.Steps.{Point}
 use Rattle.sc_model.specs.Tasks.{Task, In}
 use Rattle.sc_model.specs.Values.{Operand, Reference}
-use Rattle.sc_machine_values.specs.Points.{Agrees, ResultFits, types_of}
-use Rattle.sc_machine_values.specs.Points as point
-use Rattle.sc_machine_values.specs.Steps.{EntryFits, GivesFit, KindFits, StandsSo, a_routine, an_attribute}
-use Rattle.sc_machine_values.specs.Typed.{IsTyped, Known}
-use Rattle.sc_machine_values.specs.Typed as typed
-use Rattle.sc_machine_values.proofs.Lists.{same_some}
-use Rattle.sc_machine_values.proofs.Stacks.{no_operands}
+use Rattle.sc_machine_rights.specs.Points.{Agrees, ResultFits, types_of}
+use Rattle.sc_machine_rights.specs.Points as point
+use Rattle.sc_machine_rights.specs.ValueSteps.{EntryFits, GivesFit, KindFits, StandsSo, a_routine, an_attribute}
+use Rattle.sc_machine_rights.specs.Typed.{IsTyped, Known}
+use Rattle.sc_machine_rights.specs.Typed as typed
+use Rattle.sc_machine_rights.proofs.Lists.{same_some}
+use Rattle.sc_machine_rights.proofs.Stacks.{no_operands}
 use Rattle.sc_refines_core.specs.Calm.{name_of}
 use Rattle.sc_refines_core.specs.Clauses.{RunsPure}
 use Rattle.sc_machine_contracts.proofs.Modes.{IsVersionOf, routine_found}

@@ -7,7 +7,7 @@ use Rattle.sc_model.specs.Sizes.{size}
 use Rattle.sc_model.specs.Steps.{Starts, Refuses, Exits, Point, Step, Goes, Does}
 use Rattle.sc_model.specs.Tasks.{Task, Do, In, Declare, Forget, Eval, ApplyUnary, EvalRight, ApplyBinary, Conclude, Bind, CallUnqualified, CallQualified, AssignTo, Print, Choose, Repeat, EndLoop, Checked, Require, Required, KeepOld, Ensured, CreateBy, Open, Leave}
 use Rattle.sc_model.specs.Values.{Reference}
-use Rattle.sc_machine_values.specs.Points.{Each}
+use Rattle.sc_machine_rights.specs.Points.{Each}
 use Rattle.sc_machine_contracts.proofs.Tasks.{Behind, OfTask, OfTasks, class_behind}
 use Rattle.sc_machine_contracts.proofs.CallSteps.{MayAssign, SteppedSo}
 use Rattle.sc_machine_contracts.proofs.Steps.{moves_so}

@@ -18,12 +18,12 @@ use Rattle.sc_model.specs.Sizes.{size}
 use Rattle.sc_model.specs.Steps.{Act, Unqualified, Qualified, Creation, Prints, Until, Creates, CreatesHandler, Enters, Requests, Starts, Refuses, Opens, Leaves, Exits, Fails, Point, Step, Goes, Does}
 use Rattle.sc_model.specs.Tasks.{Task, Declare, Do}
 use Rattle.sc_model.specs.Values.{Reference, Operand}
-use Rattle.sc_machine_values.specs.Points.{Each, IsAmong}
-use Rattle.sc_machine_values.specs.Steps.{IsThereIfOwn, StandsSo, StepFits, ValuesDo}
-use Rattle.sc_machine_values.proofs.OperatorReferences.{Stays, StepStays}
-use Rattle.sc_machine_values.proofs.References.{step_stays}
-use Rattle.sc_machine_values.proofs.Routines.{is_run}
-use Rattle.sc_machine_values.proofs.Steps.{step_fits}
+use Rattle.sc_machine_rights.specs.Points.{Each, IsAmong}
+use Rattle.sc_machine_rights.specs.ValueSteps.{IsThereIfOwn, StandsSo, StepFits, ValuesDo}
+use Rattle.sc_machine_rights.proofs.OperatorReferences.{Stays, StepStays}
+use Rattle.sc_machine_rights.proofs.References.{step_stays}
+use Rattle.sc_machine_rights.proofs.Routines.{is_run}
+use Rattle.sc_machine_rights.proofs.ValueSteps.{step_fits}
 use Rattle.sc_machine_contracts.proofs.Modes.{RunsPure as IsLeftPure}
 use Rattle.sc_machine_contracts.proofs.FreeNames.{AssignsNone, CallsPure}
 use Rattle.sc_machine_contracts.proofs.CallSteps.{MayAssign, SteppedSo}

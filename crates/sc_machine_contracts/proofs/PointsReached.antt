@@ -15,10 +15,10 @@ use Rattle.sc_model.specs.Runs.{IsReached}
 use Rattle.sc_model.specs.Steps.{Point}
 use Rattle.sc_model.specs.Tasks.{Task, Required}
 use Rattle.sc_model.specs.Values.{Reference}
-use Rattle.sc_machine_values.specs.Fitting.{FrameFits, WorldFits, coming_to}
-use Rattle.sc_machine_values.specs.Points.{Each, PointFits}
-use Rattle.sc_machine_values.specs.Steps.{IsThereIfOwn, StandsSo, ValuesDo}
-use Rattle.sc_machine_values.proofs.Frames.{store_fits, values_there}
+use Rattle.sc_machine_rights.specs.Fitting.{FrameFits, WorldFits, coming_to}
+use Rattle.sc_machine_rights.specs.Points.{Each, PointFits}
+use Rattle.sc_machine_rights.specs.ValueSteps.{IsThereIfOwn, StandsSo, ValuesDo}
+use Rattle.sc_machine_rights.proofs.Frames.{store_fits, values_there}
 use Rattle.sc_refines_core.specs.Calm.{name_of}
 use Rattle.sc_refines_core.specs.Clauses.{HasStartedOrStands, StandsInClauses}
 use Rattle.sc_refines_core.specs.Entries.{HasStarted}

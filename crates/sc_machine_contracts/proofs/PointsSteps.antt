@@ -7,7 +7,7 @@ use Rattle.sc_model.specs.Objects.{Object}
 use Rattle.sc_model.specs.Steps.{Act, Prints, Until, Creates, CreatesHandler, Enters, Requests, Starts, Refuses, Opens, Leaves, Exits, Fails, Point, Step, Goes, Does}
 use Rattle.sc_model.specs.Tasks.{Task}
 use Rattle.sc_model.specs.Values.{Reference, Operand}
-use Rattle.sc_machine_values.specs.Points.{Each}
+use Rattle.sc_machine_rights.specs.Points.{Each}
 use Rattle.sc_machine_contracts.specs.Evaluating.{Reaches, extended, extended_step, goes, tests, begins, enters, requests}
 use Rattle.sc_machine_contracts.specs.ClauseLaws.{StepExtends, StepOfContract, StepKeepsNoOld, StaysInContract, StepsInContract, point_after}
 use Rattle.sc_machine_contracts.specs.Texts.{IsOfContract, TaskHasNoOld}

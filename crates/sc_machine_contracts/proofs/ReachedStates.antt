@@ -16,9 +16,9 @@ use Rattle.sc_model.specs.Runs.{IsReached, opening, root_request, run}
 use Rattle.sc_model.specs.Settled.{IsNoCurrent}
 use Rattle.sc_model.specs.Turns.{turn}
 use Rattle.sc_model.proofs.Joins.{run_append}
-use Rattle.sc_machine_values.specs.Fitting.{WorldFits}
-use Rattle.sc_machine_values.proofs.AwaitedEnds.{turns_keep_it}
-use Rattle.sc_machine_values.proofs.Opening.{opening_fits}
+use Rattle.sc_machine_rights.specs.Fitting.{WorldFits}
+use Rattle.sc_machine_rights.proofs.ValueAwaitedEnds.{turns_keep_it}
+use Rattle.sc_machine_rights.proofs.ValueOpening.{opening_fits}
 use Rattle.sc_machine_contracts.specs.SettledObjects.{FreeMeetWhereReached, SettledMeetAfterTurns, SettledMeetWhereReached}
 use Rattle.sc_machine_contracts.proofs.Numbered.{numbered_suc}
 use Rattle.sc_machine_contracts.proofs.SystemTurns.{turn_all}

@@ -17,7 +17,7 @@ use Rattle.sc_model.specs.Takes.{takes_next}
 use Rattle.sc_model.specs.Turns.{settles, waits, goes_on, turn_with, turn}
 use Rattle.sc_model.specs.Runs.{IsReached}
 use Rattle.sc_machine_rights.proofs.links.Reached.{reached_stands}
-use Rattle.sc_machine_values.specs.Fitting.{MayEnd, runs, next, called_back}
+use Rattle.sc_machine_rights.specs.Fitting.{MayEnd, runs, next, called_back}
 use Rattle.sc_machine_contracts.specs.RequestLaws.{IsUnused, RightsStay}
 use Rattle.sc_machine_contracts.proofs.Tops.{beyond_is_unused}
 use Rattle.sc_machine_contracts.proofs.Held.{IsHere, listed_here, creation_here, reserved_here}

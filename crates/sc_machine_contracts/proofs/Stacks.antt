@@ -10,8 +10,8 @@ use Rattle.sc_model.specs.Objects.{Object, fresh_object, object_numbered}
 use Rattle.sc_model.specs.Preconditions.{is_creation}
 use Rattle.sc_model.specs.Steps.{Unqualified, Qualified, Creation}
 use Rattle.sc_model.specs.Values.{Value}
-use Rattle.sc_machine_values.specs.Points.{Each}
-use Rattle.sc_machine_values.proofs.Lists.{each_append}
+use Rattle.sc_machine_rights.specs.Points.{Each}
+use Rattle.sc_machine_rights.proofs.Lists.{each_append}
 use Rattle.sc_machine_contracts.proofs.InvariantTests.{tested_meets}
 use Rattle.sc_machine_contracts.proofs.Modes.{IsWildAs, StandsAs, name_of}
 use Rattle.sc_machine_contracts.proofs.Moves.{Meets, same_or_not}

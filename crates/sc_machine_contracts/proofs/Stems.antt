@@ -15,8 +15,8 @@ use Rattle.sc_rules.specs.SystemRules.{WellFormed}
 use Rattle.sc_rules.proofs.TypeLaws.{declared}
 use Rattle.sc_rules.proofs.Versions.{contracts_are_kept}
 use Rattle.sc_model.specs.Routines.{Routine, origin_of, routine_from, routine_named, routine_of, routine_with, version_of}
-use Rattle.sc_machine_values.proofs.Lists.{same_some}
-use Rattle.sc_machine_values.proofs.Origins.{origin_is}
+use Rattle.sc_machine_rights.proofs.Lists.{same_some}
+use Rattle.sc_machine_rights.proofs.Origins.{origin_is}
 
 -- The class at the number declares the feature, which is the routine.
 pub record IsDeclared (s : System) (f : DeclaredFeature) (routine : RoutineDeclaration) : Type 0 where

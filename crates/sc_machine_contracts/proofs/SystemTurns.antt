@@ -35,12 +35,12 @@ use Rattle.sc_model.specs.Preconditions.{is_creation}
 use Rattle.sc_model.specs.Exits.{is_unset_value, handed_as}
 use Rattle.sc_model.specs.Takes.{replies, takes_kind, takes_version, takes_creation, with_new_object, takes_errand, takes, takes_next, released_if, takes_answer}
 use Rattle.sc_model.specs.Turns.{settles, waits, goes_on, turn_with, turn}
-use Rattle.sc_machine_values.specs.Fitting.{WorldFits, FrameFits}
-use Rattle.sc_machine_values.specs.Points.{Each}
-use Rattle.sc_machine_values.specs.Steps.{ActFits, StepFits}
-use Rattle.sc_machine_values.proofs.Frames.{running_frames_move}
-use Rattle.sc_machine_values.proofs.Routines.{is_run}
-use Rattle.sc_machine_values.proofs.RoutinePoints.{in_text}
+use Rattle.sc_machine_rights.specs.Fitting.{WorldFits, FrameFits}
+use Rattle.sc_machine_rights.specs.Points.{Each}
+use Rattle.sc_machine_rights.specs.ValueSteps.{ActFits, StepFits}
+use Rattle.sc_machine_rights.proofs.Frames.{running_frames_move}
+use Rattle.sc_machine_rights.proofs.Routines.{is_run}
+use Rattle.sc_machine_rights.proofs.RoutinePoints.{in_text}
 use Rattle.sc_machine_contracts.proofs.Modes.{IsVersionOf, IsWildAs, StandsAs, name_of, routine_begins, routine_found, version_found}
 use Rattle.sc_machine_contracts.proofs.Moves.{CallsSo, StepMoves, turn_moves}
 use Rattle.sc_machine_contracts.proofs.FreeNames.{CallsPure, is_routine}

@@ -21,7 +21,7 @@ use Rattle.sc_machine_rights.proofs.links.Looks.{m_put-own, m_put-off}
 use Rattle.sc_machine_rights.proofs.links.Turns.{ActFits, StepFits, FrameFits, StackFits}
 use Rattle.sc_machine_rights.proofs.links.FittingActs.{stack_fits}
 use Rattle.sc_machine_rights.proofs.links.Reached.{reached_linked}
-use Rattle.sc_machine_values.specs.Fitting.{MayEnd, next, runs, called_back}
+use Rattle.sc_machine_rights.specs.Fitting.{MayEnd, next, runs, called_back}
 use Rattle.sc_machine_contracts.specs.RequestLaws as laws
 use Rattle.sc_machine_contracts.specs.RequestLaws.{Stays, OthersStay, CountGrows, Ends, IsAttribute, AnswerComes, AnswersCome, OwnQueueMoves, OwnQueueShrinks}
 use Rattle.sc_machine_contracts.proofs.RestingHandlers.{Rests, still, put_same, stack_same}

@@ -16,7 +16,7 @@ use Rattle.sc_machine_rights.proofs.Waits.{true_false, some_wait, waits_stack, s
 use Rattle.sc_machine_rights.proofs.AwaitedEnds.{lifo, first_newest}
 use Rattle.sc_machine_rights.proofs.HeardClients.{top_or_below}
 use Rattle.sc_machine_rights.proofs.links.Reached.{reached_stands}
-use Rattle.sc_machine_values.specs.Fitting.{MayEnd, runs, next, called_back}
+use Rattle.sc_machine_rights.specs.Fitting.{MayEnd, runs, next, called_back}
 use Rattle.sc_machine_contracts.specs.RequestLaws.{TopAwaits, IsUnlent, NoCallback, EndsTheOne, StandsOnce}
 use Rattle.sc_machine_contracts.proofs.StandingRequests.{PairAt, pair_one, pair_is, pair_same, pair_before, pair_behind, pair_of, apart, begun_in, begun_on, this_if, standing, callback_requests, both, standing_is, standing_one, standing_numbered, blocks_begin}
 use Rattle.sc_machine_contracts.proofs.Tops.{top_awaits, no_parts, there_callback, lives_there, replies_same, callback_none}

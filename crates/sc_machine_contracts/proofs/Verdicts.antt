@@ -16,8 +16,8 @@ use Rattle.sc_model.specs.Objects.{Object}
 use Rattle.sc_model.specs.Runs.{IsReached}
 use Rattle.sc_model.specs.Steps.{Point, Starts, Step, Does}
 use Rattle.sc_model.specs.Turns.{goes_on, settles, turn, turn_with}
-use Rattle.sc_machine_values.specs.Fitting.{FrameFits}
-use Rattle.sc_machine_values.specs.Points.{Each}
+use Rattle.sc_machine_rights.specs.Fitting.{FrameFits}
+use Rattle.sc_machine_rights.specs.Points.{Each}
 use Rattle.sc_machine_rights.specs.Headline.{is_awaiting}
 use Rattle.sc_machine_contracts.specs.Evaluating.{EndsTrue, clause_point}
 use Rattle.sc_machine_contracts.proofs.TrueClauses.{ends_true_holds}
@@ -25,7 +25,7 @@ use Rattle.sc_machine_contracts.proofs.Locally.{ends_true_locally}
 use Rattle.sc_refines_core.specs.Entries.{HasStarted}
 use Rattle.sc_refines_core.proofs.FrameLinks.{reached_fits}
 use Rattle.sc_machine_contracts.specs.RequestLaws.{NewIsIdle}
-use Rattle.sc_machine_values.proofs.Lists.{each_in}
+use Rattle.sc_machine_rights.proofs.Lists.{each_in}
 use Rattle.sc_machine_contracts.specs.Following.{AboveIsPure, FrameFollows, IsLost, Hold, InPrecondition, MayAsk, StackFollows, StandsByStage, bound_in, clause_of, objects_of}
 use Rattle.sc_machine_contracts.specs.Points.{ClauseMoves, ClauseSteps, started_point}
 use Rattle.sc_machine_contracts.specs.Starting.{BodiesStartWhereTheyHold, IsVerdict}

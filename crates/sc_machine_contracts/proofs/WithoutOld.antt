@@ -25,8 +25,8 @@ use Rattle.sc_model.specs.Expressions.{decided_by, reads_result, reads_own, begi
 use Rattle.sc_model.specs.Instructions.{assigns, prints, chooses_other, chooses, ends_loop, tests, opens, actuals_of, procedure_of, begins_routine, begins}
 use Rattle.sc_model.specs.Moves.{performs, step_at}
 use Rattle.sc_machine_contracts.specs.ClauseLaws.{StepKeepsNoOld, point_after}
-use Rattle.sc_machine_values.specs.Points.{Each}
-use Rattle.sc_machine_values.proofs.Lists.{each_append}
+use Rattle.sc_machine_rights.specs.Points.{Each}
+use Rattle.sc_machine_rights.proofs.Lists.{each_append}
 use Rattle.sc_machine_contracts.specs.Texts.{HasNoOld, HaveNoOld, CallHasNoOld, InstrHasNoOld, InstrsHaveNoOld, BranchesHaveNoOld, TaskHasNoOld}
 use Rattle.sc_machine_contracts.proofs.CallsWithoutOld.{applies_l, attribute_l, behind_these, binds_l, checks_without_old, concludes_l, creates_l, evals_without_old, heads_without_old, left_none, qualified_l, reads_as_l, right_l, right_none, unary_l, unqualified_l}
 

@@ -23,9 +23,9 @@ use Rattle.sc_rules.proofs.PurityStands.{purity_stands}
 use Rattle.sc_model.specs.Olds.{olds_in, olds_of, olds_of_each, olds_of_clauses}
 use Rattle.sc_model.specs.Routines.{Routine}
 use Rattle.sc_model.specs.Tasks.{ensures, keeps_olds, requires}
-use Rattle.sc_machine_values.specs.Points.{Each}
-use Rattle.sc_machine_values.proofs.Applications.{plain_operand}
-use Rattle.sc_machine_values.proofs.Lists.{each_append}
+use Rattle.sc_machine_rights.specs.Points.{Each}
+use Rattle.sc_machine_rights.proofs.Applications.{plain_operand}
+use Rattle.sc_machine_rights.proofs.Lists.{each_append}
 use Rattle.sc_machine_contracts.specs.ClauseLaws.{IsWithoutTests, TextsAreWithoutTests}
 use Rattle.sc_machine_contracts.specs.Texts.{ClauseHasNoTest, HasNoTest, HaveNoTest, IsOfContract}
 use Rattle.sc_machine_contracts.proofs.Bodies.{each_from}

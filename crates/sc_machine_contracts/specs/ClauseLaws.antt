@@ -10,8 +10,8 @@ use Rattle.sc_model.specs.Steps.{Point, Enters, Requests, Starts, Refuses, Fails
 use Rattle.sc_model.specs.Moves.{step}
 use Rattle.sc_model.specs.Handlers.{Frame, World}
 use Rattle.sc_model.specs.Clauses.{Holds}
-use Rattle.sc_machine_values.specs.Points.{Each}
-use Rattle.sc_machine_values.specs.Values.{WhereAccepted}
+use Rattle.sc_machine_rights.specs.Points.{Each}
+use Rattle.sc_machine_rights.specs.Values.{WhereAccepted}
 use Rattle.sc_machine_contracts.specs.Evaluating.{Answers, Reaches, EndsTrue, clause_point, extended, extended_step}
 use Rattle.sc_machine_contracts.specs.Texts.{HasNoOld, InstrsHaveNoOld, ClauseHasNoTest, HasNoTest, TaskHasNoOld, IsOfContract}
 

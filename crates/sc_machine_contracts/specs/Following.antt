@@ -16,7 +16,7 @@ use Rattle.sc_model.specs.Entries.{result_of}
 use Rattle.sc_model.specs.Clauses.{body_point}
 use Rattle.sc_model.specs.Handlers.{Request, Calls, Origin, Called, Requested, Reply, Failed, Refused, Stage, Runs, Reserves, InCall, Awaits, Frame, World, point_of}
 use Rattle.sc_machine_rights.specs.Headline.{is_awaiting}
-use Rattle.sc_machine_values.specs.Points.{Each}
+use Rattle.sc_machine_rights.specs.Points.{Each}
 use Rattle.sc_refines_core.specs.Calm.{name_of}
 use Rattle.sc_refines_core.specs.Entries.{HasStarted}
 use Rattle.sc_refines_core.specs.Clauses.{RunsPureIfRoutine}

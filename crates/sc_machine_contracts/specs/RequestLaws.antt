@@ -20,7 +20,7 @@ use Rattle.sc_model.specs.Failures.{requests_at}
 use Rattle.sc_model.specs.Turns.{turn}
 use Rattle.sc_model.specs.Runs.{IsReached}
 use Rattle.sc_machine_rights.specs.Headline.{InEachReached, has_reply}
-use Rattle.sc_machine_values.specs.Fitting.{MayEnd}
+use Rattle.sc_machine_rights.specs.Fitting.{MayEnd}
 
 -- ---- who waits
 

@@ -4,7 +4,7 @@ use Rattle.sc_model.specs.Handlers.{World}
 use Rattle.sc_model.specs.Runs.{IsReached}
 use Rattle.sc_model.specs.Settled.{FreeObjectsMeet, SettledObjectsMeet}
 use Rattle.sc_model.specs.Turns.{turn}
-use Rattle.sc_machine_values.specs.Values.{WhereAccepted}
+use Rattle.sc_machine_rights.specs.Values.{WhereAccepted}
 
 -- Each settled object meets its class invariant (ECMA-367, 8.9.16).
 abbrev pub SettledMeetWhereReached : Type 0

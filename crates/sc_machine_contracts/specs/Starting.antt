@@ -7,7 +7,7 @@ use Rattle.sc_model.specs.Moves.{moves}
 use Rattle.sc_model.specs.Runs.{IsReached}
 use Rattle.sc_model.specs.Steps.{Point, Starts, Does}
 use Rattle.sc_model.specs.Turns.{turn}
-use Rattle.sc_machine_values.specs.Values.{WhereAccepted}
+use Rattle.sc_machine_rights.specs.Values.{WhereAccepted}
 
 -- In this turn of the handler the body of its topmost frame starts, which then stands at the point.
 pub record IsVerdict (s : System) (w : World) (h : ℕ) (f : Frame) (below : List Frame) (p : Point) : Type 0 where

@@ -4,7 +4,7 @@ use Rattle.sc_tree.specs.Plain as tree
 use Rattle.sc_tree.specs.Plain.{Clause, CreationCall, Head, Expr, Exprs, no_exprs, expr_then, Instr, Instrs, no_instrs, instr_then, Branches, no_branches, branch_then}
 use Rattle.sc_model.specs.Olds.{olds_in, olds_of_each}
 use Rattle.sc_model.specs.Tasks.{Task, Do, In, Declare, Forget, Eval, ApplyUnary, EvalRight, ApplyBinary, Conclude, Bind, CallUnqualified, CallQualified, AssignTo, Print, Choose, Repeat, EndLoop, Checked, Require, Required, KeepOld, Ensured, CreateBy, Open, Leave}
-use Rattle.sc_machine_values.specs.Points.{Each}
+use Rattle.sc_machine_rights.specs.Points.{Each}
 
 -- ---- texts without `old`
 

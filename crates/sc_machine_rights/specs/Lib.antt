@@ -10,3 +10,10 @@ pub mod Laws
 pub mod Stands
 pub mod Headline
 pub mod Formals
+pub mod Places
+pub mod Values
+pub mod Typed
+pub mod Points
+pub mod ValueSteps
+pub mod Fitting
+pub mod Passing

@@ -6,7 +6,10 @@
 //! stands in `specs/Consistent`, `specs/Provided`, `specs/Served` and `specs/Returns`, and what follows from it in
 //! `specs/Laws`, carried by [`steps`]. `specs/Stands` says for which state of the machine a world stands, and
 //! `specs/Headline` and `specs/Formals` what follows of that state, carried by [`laws`].
+//!
+//! And values: what fits where in a state of the machine (`specs/Fitting`), and what follows of it, carried by [`value_laws`].
 #![tactic(auto)]
 
 pub mod laws;
 pub mod steps;
+pub mod value_laws;

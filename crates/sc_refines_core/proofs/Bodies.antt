@@ -31,14 +31,14 @@ use Rattle.sc_model.specs.Expressions.{decided_by, evals_right, concludes}
 use Rattle.sc_model.specs.Instructions.{chooses}
 use Rattle.sc_model.specs.Creations.{assigned_at}
 use Rattle.sc_model.specs.Moves.{step_at, step}
-use Rattle.sc_machine_values.specs.Points.{Each, types_of}
-use Rattle.sc_machine_values.specs.Steps.{StandsSo}
-use Rattle.sc_machine_values.specs.Typed.{Extends, context_in}
-use Rattle.sc_machine_values.proofs.Conditions.{and_then_is, forgotten}
-use Rattle.sc_machine_values.proofs.Environments.{extends_further}
-use Rattle.sc_machine_values.proofs.Locals.{locals_fit}
-use Rattle.sc_machine_values.proofs.Names.{all_typed}
-use Rattle.sc_machine_values.proofs.RoutinePoints.{BaseOf}
+use Rattle.sc_machine_rights.specs.Points.{Each, types_of}
+use Rattle.sc_machine_rights.specs.ValueSteps.{StandsSo}
+use Rattle.sc_machine_rights.specs.Typed.{Extends, context_in}
+use Rattle.sc_machine_rights.proofs.Conditions.{and_then_is, forgotten}
+use Rattle.sc_machine_rights.proofs.Environments.{extends_further}
+use Rattle.sc_machine_rights.proofs.Locals.{locals_fit}
+use Rattle.sc_machine_rights.proofs.Names.{all_typed}
+use Rattle.sc_machine_rights.proofs.RoutinePoints.{BaseOf}
 use Rattle.sc_refines_core.specs.Calm.{InBody, IsCalm, at, after, InPure, Came, StandsPure, PureStep}
 use Rattle.sc_refines_core.specs.Calm as calm
 use Rattle.sc_refines_core.proofs.ExpandedValues.{HasClass}

@@ -57,13 +57,13 @@ use Rattle.sc_model.specs.Olds.{olds_in, olds_of, olds_of_clauses, olds_of_each}
 use Rattle.sc_model.specs.Routines.{Routine, Text, origin_of, routine_from, routine_named, routine_of, routine_with, text_of, version_of}
 use Rattle.sc_model.specs.Tasks.{Task, Declare, Do, Forget, In, ensures, keeps_olds, requires, tasks_of}
 use Rattle.sc_model.specs.Values.{Reference}
-use Rattle.sc_machine_values.specs.Points.{Each}
-use Rattle.sc_machine_values.specs.Typed.{context_in}
-use Rattle.sc_machine_values.proofs.Applications.{plain_operand}
-use Rattle.sc_machine_values.proofs.Lists.{both, each_append}
-use Rattle.sc_machine_values.proofs.Origins.{origin_is}
-use Rattle.sc_machine_values.proofs.Routines.{is_run}
-use Rattle.sc_machine_values.proofs.RoutinePoints.{IsRun}
+use Rattle.sc_machine_rights.specs.Points.{Each}
+use Rattle.sc_machine_rights.specs.Typed.{context_in}
+use Rattle.sc_machine_rights.proofs.Applications.{plain_operand}
+use Rattle.sc_machine_rights.proofs.Lists.{both, each_append}
+use Rattle.sc_machine_rights.proofs.Origins.{origin_is}
+use Rattle.sc_machine_rights.proofs.Routines.{is_run}
+use Rattle.sc_machine_rights.proofs.RoutinePoints.{IsRun}
 use Rattle.sc_machine_rights.proofs.MachineFrames.{contains_first, contains_later}
 use Rattle.sc_refines_core.specs.Calm.{InBody, IsCalm, in_contract, InPure, PureBeginPure, PureCallPure, name_of}
 use Rattle.sc_refines_core.specs.Calm as calm

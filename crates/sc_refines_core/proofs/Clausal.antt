@@ -46,20 +46,20 @@ use Rattle.sc_model.specs.Sizes.{size}
 use Rattle.sc_model.specs.Steps.{Does, Goes, Point, Step}
 use Rattle.sc_model.specs.Tasks.{Task, In, Declare, Do, Forget, requires, keeps_olds, ensures}
 use Rattle.sc_model.specs.Values.{Attached, Operand, Reference, Value}
-use Rattle.sc_machine_values.specs.Places.{is_routine}
-use Rattle.sc_machine_values.specs.Points.{Each, IsAmong}
-use Rattle.sc_machine_values.specs.Steps.{IsThereIfOwn, OperandsDo, StandsSo, StepFits}
-use Rattle.sc_machine_values.specs.Typed.{context_in}
-use Rattle.sc_machine_values.proofs.Calls.{has_version}
-use Rattle.sc_machine_values.proofs.Environments.{Entered, entry_fits}
-use Rattle.sc_machine_values.proofs.Lists.{each_more, same_some}
-use Rattle.sc_machine_values.proofs.Names.{all_typed, some_there}
-use Rattle.sc_machine_values.proofs.Origins.{origin_is}
-use Rattle.sc_machine_values.proofs.OperatorReferences.{HoldsOfOwn, Stays, StepStays}
-use Rattle.sc_machine_values.proofs.References.{step_stays}
-use Rattle.sc_machine_values.proofs.Routines.{is_run}
-use Rattle.sc_machine_values.proofs.RoutinePoints.{IsRun}
-use Rattle.sc_machine_values.proofs.Steps.{step_fits}
+use Rattle.sc_machine_rights.specs.Places.{is_routine}
+use Rattle.sc_machine_rights.specs.Points.{Each, IsAmong}
+use Rattle.sc_machine_rights.specs.ValueSteps.{IsThereIfOwn, OperandsDo, StandsSo, StepFits}
+use Rattle.sc_machine_rights.specs.Typed.{context_in}
+use Rattle.sc_machine_rights.proofs.Calls.{has_version}
+use Rattle.sc_machine_rights.proofs.Environments.{Entered, entry_fits}
+use Rattle.sc_machine_rights.proofs.Lists.{each_more, same_some}
+use Rattle.sc_machine_rights.proofs.Names.{all_typed, some_there}
+use Rattle.sc_machine_rights.proofs.Origins.{origin_is}
+use Rattle.sc_machine_rights.proofs.OperatorReferences.{HoldsOfOwn, Stays, StepStays}
+use Rattle.sc_machine_rights.proofs.References.{step_stays}
+use Rattle.sc_machine_rights.proofs.Routines.{is_run}
+use Rattle.sc_machine_rights.proofs.RoutinePoints.{IsRun}
+use Rattle.sc_machine_rights.proofs.ValueSteps.{step_fits}
 use Rattle.sc_refines_core.specs.Entries.{HasStarted}
 use Rattle.sc_refines_core.specs.Clauses.{InClauses, StandsInClauses, ClauseStep, ClausesCallPure, ClausesComeFirst}
 use Rattle.sc_refines_core.specs.Clauses as clauses

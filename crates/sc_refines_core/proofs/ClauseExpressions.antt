@@ -40,9 +40,9 @@ use Rattle.sc_model.specs.Routines.{Text, place_in, version_of}
 use Rattle.sc_model.specs.Tasks.{Task, Eval, ApplyUnary, EvalRight, Conclude, CallUnqualified, CallQualified, evals}
 use Rattle.sc_model.specs.Steps.{Point, Step, Goes, fails, comes, gives, gives_integer, gives_boolean, reads_as, reads_attribute}
 use Rattle.sc_model.specs.Expressions.{gives_outcome, gives_truth, apply_unary, apply_to_integers, apply_to_booleans, is_same_object, apply_binary, evals_right, concludes, reads_result, reads_own, begins_kind, begins_feature, begins_name, evaluate}
-use Rattle.sc_machine_values.specs.Places.{is_routine}
-use Rattle.sc_machine_values.specs.Typed.{context_in, stacked}
-use Rattle.sc_machine_values.proofs.Names.{FeatureMeant, feature_meant, same_meaning, named_alike, unary_there, binary_there}
+use Rattle.sc_machine_rights.specs.Places.{is_routine}
+use Rattle.sc_machine_rights.specs.Typed.{context_in, stacked}
+use Rattle.sc_machine_rights.proofs.Names.{FeatureMeant, feature_meant, same_meaning, named_alike, unary_there, binary_there}
 use Rattle.sc_refines_core.specs.Clauses.{IsOfType, AreOfTypes, IsPureIfRoutine, InClauses, ClauseStep}
 use Rattle.sc_refines_core.specs.Clauses as clauses
 use Rattle.sc_refines_core.proofs.ExpandedValues.{binary_expanded, not_joined, plain_operand, same_some, somes, unary_expanded, values_expanded}

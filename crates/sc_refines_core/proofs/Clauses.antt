@@ -30,9 +30,9 @@ use Rattle.sc_model.specs.Calls.{passes_rights, given_by, enters_unqualified, ca
 use Rattle.sc_model.specs.Expressions.{decided_by}
 use Rattle.sc_model.specs.Instructions.{required}
 use Rattle.sc_model.specs.Moves.{performs, step_at, step}
-use Rattle.sc_machine_values.specs.Places.{is_routine}
-use Rattle.sc_machine_values.specs.Points.{Each}
-use Rattle.sc_machine_values.specs.Typed.{context_in}
+use Rattle.sc_machine_rights.specs.Places.{is_routine}
+use Rattle.sc_machine_rights.specs.Points.{Each}
+use Rattle.sc_machine_rights.specs.Typed.{context_in}
 use Rattle.sc_machine_rights.proofs.MachineFrames.{contains_first, contains_later}
 use Rattle.sc_refines_core.specs.Entries.{HasStarted}
 use Rattle.sc_refines_core.specs.Clauses.{IsOfType, AreOfTypes, IsPureIfRoutine, InClauses, StandsInClauses, RunsPureIfRoutine, ClauseStep}

@@ -23,8 +23,8 @@ use Rattle.sc_rules.specs.Typing.{is_value}
 use Rattle.sc_model.specs.Values.{Reference, Attached, Operand}
 use Rattle.sc_model.specs.Steps.{popped}
 use Rattle.sc_model.specs.Calls.{passes_one, passes_rights}
-use Rattle.sc_machine_values.specs.Points.{Each}
-use Rattle.sc_machine_values.specs.Typed.{stacked}
+use Rattle.sc_machine_rights.specs.Points.{Each}
+use Rattle.sc_machine_rights.specs.Typed.{stacked}
 use Rattle.sc_refines_core.specs.Clauses.{IsOfType, AreOfTypes}
 
 no : {A : Type 0} → false ≡ true → A

@@ -17,7 +17,7 @@ use Rattle.sc_rules.specs.Types.{binary_type, is_boolean, is_comparable, is_inte
 use Rattle.sc_model.specs.Values.{Value, Integer, Boolean, Void, Attached}
 use Rattle.sc_model.specs.Operators.{arithmetic_of, connective_of, identity_of, is_short}
 use Rattle.sc_model.specs.Expressions.{decided_by}
-use Rattle.sc_machine_values.proofs.Applications.{gives_is}
+use Rattle.sc_machine_rights.proofs.Applications.{gives_is}
 
 no : {A : Type 0} → false ≡ true → A
 no e = cc

@@ -30,12 +30,12 @@ use Rattle.sc_model.specs.Tasks.{Task, Bind, Eval, EvalRight}
 use Rattle.sc_model.specs.Steps.{Point, Step, comes, gives}
 use Rattle.sc_model.specs.Calls.{passes_rights, given_by, enters_unqualified, calls_own, calls_kind, calls_version, requests, calls_object, calls_on}
 use Rattle.sc_model.specs.Expressions.{evaluate}
-use Rattle.sc_machine_values.specs.Places.{is_routine}
-use Rattle.sc_machine_values.specs.Typed.{context_in}
-use Rattle.sc_machine_values.proofs.Environments.{extends_itself}
-use Rattle.sc_machine_values.proofs.Free.{gives_extend, gives_one}
-use Rattle.sc_machine_values.proofs.Names.{some_there}
-use Rattle.sc_machine_values.proofs.RoutinePoints.{in_text}
+use Rattle.sc_machine_rights.specs.Places.{is_routine}
+use Rattle.sc_machine_rights.specs.Typed.{context_in}
+use Rattle.sc_machine_rights.proofs.Environments.{extends_itself}
+use Rattle.sc_machine_rights.proofs.Free.{gives_extend, gives_one}
+use Rattle.sc_machine_rights.proofs.Names.{some_there}
+use Rattle.sc_machine_rights.proofs.RoutinePoints.{in_text}
 use Rattle.sc_refines_core.specs.Calm.{IsCalm, at, after, InPure, StandsPure, PureStep}
 use Rattle.sc_refines_core.specs.Calm as calm
 use Rattle.sc_refines_core.specs.Clauses.{IsPureIfRoutine}

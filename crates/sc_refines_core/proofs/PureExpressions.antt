@@ -42,10 +42,10 @@ use Rattle.sc_model.specs.Routines.{Routine, Text, place_in}
 use Rattle.sc_model.specs.Tasks.{Task, ApplyUnary, CallQualified, CallUnqualified, Conclude, Eval, EvalRight, evals}
 use Rattle.sc_model.specs.Steps.{Point, Step, fails, comes, gives, reads_as, reads_attribute}
 use Rattle.sc_model.specs.Expressions.{gives_outcome, gives_truth, apply_unary, apply_to_integers, apply_to_booleans, is_same_object, apply_binary, decided_by, evals_right, concludes, gives_found, reads_result, reads_own, begins_kind, begins_feature, begins_name, evaluate}
-use Rattle.sc_machine_values.specs.Points.{types_of}
-use Rattle.sc_machine_values.specs.Typed.{context_in, stacked}
-use Rattle.sc_machine_values.proofs.Lists.{same_some}
-use Rattle.sc_machine_values.proofs.Names.{FeatureMeant, feature_meant, same_meaning, named_alike, unary_there, binary_there}
+use Rattle.sc_machine_rights.specs.Points.{types_of}
+use Rattle.sc_machine_rights.specs.Typed.{context_in, stacked}
+use Rattle.sc_machine_rights.proofs.Lists.{same_some}
+use Rattle.sc_machine_rights.proofs.Names.{FeatureMeant, feature_meant, same_meaning, named_alike, unary_there, binary_there}
 use Rattle.sc_refines_core.specs.Calm.{IsCalm, at, InPure, PureStep}
 use Rattle.sc_refines_core.specs.Calm as calm
 use Rattle.sc_refines_core.specs.Clauses.{IsPureIfRoutine}

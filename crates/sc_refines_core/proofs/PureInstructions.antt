@@ -33,13 +33,13 @@ use Rattle.sc_model.specs.Tasks.{Task, AssignTo, Choose, Do, EndLoop, Eval, Repe
 use Rattle.sc_model.specs.Steps.{Point, Step, comes}
 use Rattle.sc_model.specs.Instructions.{assigns, begins, chooses_other, ends_loop, required, tests}
 use Rattle.sc_model.specs.Moves.{performs}
-use Rattle.sc_machine_values.specs.Typed.{Extends, context_in}
-use Rattle.sc_machine_values.proofs.Assigned.{scope_assigned}
-use Rattle.sc_machine_values.proofs.Blocks.{scope_length}
-use Rattle.sc_machine_values.proofs.Choices.{given_there, part_stands}
-use Rattle.sc_machine_values.proofs.Environments.{extends_itself}
-use Rattle.sc_machine_values.proofs.Free.{gives_extend}
-use Rattle.sc_machine_values.proofs.Tests.{scope_append}
+use Rattle.sc_machine_rights.specs.Typed.{Extends, context_in}
+use Rattle.sc_machine_rights.proofs.Assigned.{scope_assigned}
+use Rattle.sc_machine_rights.proofs.Blocks.{scope_length}
+use Rattle.sc_machine_rights.proofs.Choices.{given_there, part_stands}
+use Rattle.sc_machine_rights.proofs.Environments.{extends_itself}
+use Rattle.sc_machine_rights.proofs.Free.{gives_extend}
+use Rattle.sc_machine_rights.proofs.Tests.{scope_append}
 use Rattle.sc_machine_rights.proofs.MachineFrames.{contains_first, contains_later}
 use Rattle.sc_refines_core.specs.Calm.{InBody, IsCalm, in_body, at, after, InPure, PureStep}
 use Rattle.sc_refines_core.specs.Calm as calm

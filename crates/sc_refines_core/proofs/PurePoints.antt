@@ -25,19 +25,19 @@ use Rattle.sc_model.specs.Sizes.{size}
 use Rattle.sc_model.specs.Steps.{Does, Goes, Point, Step}
 use Rattle.sc_model.specs.Tasks.{Task, Eval, EvalRight}
 use Rattle.sc_model.specs.Values.{Boolean, Operand, Reference, operand}
-use Rattle.sc_machine_values.specs.Points.{Agrees, Each, IsAmong, types_of}
-use Rattle.sc_machine_values.specs.Points as point
-use Rattle.sc_machine_values.specs.Steps.{IsThereIfOwn, StandsSo, StepFits, ValuesDo}
-use Rattle.sc_machine_values.specs.Typed.{IsTyped, Known, context_in}
-use Rattle.sc_machine_values.specs.Typed as typed
-use Rattle.sc_machine_values.proofs.Applications.{gives_is}
-use Rattle.sc_machine_values.proofs.Conditions.{and_then_is}
-use Rattle.sc_machine_values.proofs.Free.{freely}
-use Rattle.sc_machine_values.proofs.Lists.{both, each_more, same_some}
-use Rattle.sc_machine_values.proofs.Operators.{boolean_value}
-use Rattle.sc_machine_values.proofs.OperatorReferences.{Stays, StepStays}
-use Rattle.sc_machine_values.proofs.References.{step_stays}
-use Rattle.sc_machine_values.proofs.Steps.{step_fits}
+use Rattle.sc_machine_rights.specs.Points.{Agrees, Each, IsAmong, types_of}
+use Rattle.sc_machine_rights.specs.Points as point
+use Rattle.sc_machine_rights.specs.ValueSteps.{IsThereIfOwn, StandsSo, StepFits, ValuesDo}
+use Rattle.sc_machine_rights.specs.Typed.{IsTyped, Known, context_in}
+use Rattle.sc_machine_rights.specs.Typed as typed
+use Rattle.sc_machine_rights.proofs.Applications.{gives_is}
+use Rattle.sc_machine_rights.proofs.Conditions.{and_then_is}
+use Rattle.sc_machine_rights.proofs.Free.{freely}
+use Rattle.sc_machine_rights.proofs.Lists.{both, each_more, same_some}
+use Rattle.sc_machine_rights.proofs.Operators.{boolean_value}
+use Rattle.sc_machine_rights.proofs.OperatorReferences.{Stays, StepStays}
+use Rattle.sc_machine_rights.proofs.References.{step_stays}
+use Rattle.sc_machine_rights.proofs.ValueSteps.{step_fits}
 use Rattle.sc_refines_core.specs.Calm.{PureStep, StandsPure}
 use Rattle.sc_refines_core.proofs.PureRuns.{PureRun}
 use Rattle.sc_refines_core.proofs.Bodies.{pure_step}

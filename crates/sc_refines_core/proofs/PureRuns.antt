@@ -30,12 +30,12 @@ use Rattle.sc_model.specs.Environments.{scope_of}
 use Rattle.sc_model.specs.Routines.{Routine, Text, version_of}
 use Rattle.sc_model.specs.Tasks.{Task}
 use Rattle.sc_model.specs.Steps.{Point, Step, comes, gives, popped}
-use Rattle.sc_machine_values.specs.Places.{is_routine}
-use Rattle.sc_machine_values.specs.Points.{Each, types_of}
-use Rattle.sc_machine_values.specs.Typed.{context_in, stacked}
-use Rattle.sc_machine_values.proofs.Choices.{part_stands}
-use Rattle.sc_machine_values.proofs.Names.{some_there}
-use Rattle.sc_machine_values.proofs.RoutinePoints.{IsRun, in_text}
+use Rattle.sc_machine_rights.specs.Places.{is_routine}
+use Rattle.sc_machine_rights.specs.Points.{Each, types_of}
+use Rattle.sc_machine_rights.specs.Typed.{context_in, stacked}
+use Rattle.sc_machine_rights.proofs.Choices.{part_stands}
+use Rattle.sc_machine_rights.proofs.Names.{some_there}
+use Rattle.sc_machine_rights.proofs.RoutinePoints.{IsRun, in_text}
 use Rattle.sc_refines_core.specs.Calm.{InBody, IsCalm, in_body, in_contract, at, InPure, StandsPure, PureStep}
 use Rattle.sc_refines_core.proofs.ExpandedValues.{popped_more}
 

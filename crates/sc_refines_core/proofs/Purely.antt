@@ -34,12 +34,12 @@ use Rattle.sc_model.specs.Runs.{IsReached, opening, root_request, run}
 use Rattle.sc_machine_rights.specs.World as rights
 use Rattle.sc_machine_rights.specs.Stands.{NeedsOf, NamesOf, IsRoutine, AreBlocks, place_of, IsStaged, IsStack}
 use Rattle.sc_machine_rights.proofs.links.Reached.{reached_linked}
-use Rattle.sc_machine_values.specs.Fitting.{FrameFits, Gives, Linked, ReplyFits, WorldFits, coming_to}
-use Rattle.sc_machine_values.specs.Fitting as fitting
-use Rattle.sc_machine_values.specs.Points.{Each, PointFits, ResultFits, listed, types_of}
-use Rattle.sc_machine_values.specs.Points as point
-use Rattle.sc_machine_values.specs.Steps.{IsThereIfOwn, StandsSo, StepFits, ValuesDo}
-use Rattle.sc_machine_values.proofs.Frames.{running_frames_move, store_fits, values_there}
+use Rattle.sc_machine_rights.specs.Fitting.{FrameFits, Gives, Linked, ReplyFits, WorldFits, coming_to}
+use Rattle.sc_machine_rights.specs.Fitting as fitting
+use Rattle.sc_machine_rights.specs.Points.{Each, PointFits, ResultFits, listed, types_of}
+use Rattle.sc_machine_rights.specs.Points as point
+use Rattle.sc_machine_rights.specs.ValueSteps.{IsThereIfOwn, StandsSo, StepFits, ValuesDo}
+use Rattle.sc_machine_rights.proofs.Frames.{running_frames_move, store_fits, values_there}
 use Rattle.sc_refines_core.specs.Calm.{CalmStep, EachPureIsCalm, InPure, PureAct, PureStep, name_of}
 use Rattle.sc_refines_core.specs.Calm as calm
 use Rattle.sc_refines_core.proofs.PurePoints.{pure_moves}

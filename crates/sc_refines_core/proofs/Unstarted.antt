@@ -36,14 +36,14 @@ use Rattle.sc_model.specs.Runs.{IsReached, opening, root_request, run}
 use Rattle.sc_machine_rights.specs.World as rights
 use Rattle.sc_machine_rights.specs.Stands.{NeedsOf, NamesOf, IsRoutine, AreBlocks, place_of, IsStaged, IsStack}
 use Rattle.sc_machine_rights.proofs.links.Reached.{reached_linked}
-use Rattle.sc_machine_values.specs.Fitting.{FrameFits, Gives, Linked, ReplyFits, WorldFits, coming_to}
-use Rattle.sc_machine_values.specs.Fitting as fitting
-use Rattle.sc_machine_values.specs.Points.{Agrees, Each, PointFits, ResultFits, listed, types_of}
-use Rattle.sc_machine_values.specs.Points as point
-use Rattle.sc_machine_values.specs.Steps.{IsThereIfOwn, StandsSo, StepFits, ValuesDo}
-use Rattle.sc_machine_values.specs.Typed.{IsTyped, Known}
-use Rattle.sc_machine_values.specs.Typed as typed
-use Rattle.sc_machine_values.proofs.Frames.{running_frames_move, store_fits, values_there}
+use Rattle.sc_machine_rights.specs.Fitting.{FrameFits, Gives, Linked, ReplyFits, WorldFits, coming_to}
+use Rattle.sc_machine_rights.specs.Fitting as fitting
+use Rattle.sc_machine_rights.specs.Points.{Agrees, Each, PointFits, ResultFits, listed, types_of}
+use Rattle.sc_machine_rights.specs.Points as point
+use Rattle.sc_machine_rights.specs.ValueSteps.{IsThereIfOwn, StandsSo, StepFits, ValuesDo}
+use Rattle.sc_machine_rights.specs.Typed.{IsTyped, Known}
+use Rattle.sc_machine_rights.specs.Typed as typed
+use Rattle.sc_machine_rights.proofs.Frames.{running_frames_move, store_fits, values_there}
 use Rattle.sc_refines_core.specs.Clauses.{AreOfTypes, InClauses, ClauseStep, HasStartedOrStands, EachStandsInClauses}
 use Rattle.sc_refines_core.specs.Clauses as clauses
 use Rattle.sc_refines_core.specs.Entries.{HasStarted, RefusesNone}

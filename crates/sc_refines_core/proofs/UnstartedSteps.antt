@@ -30,8 +30,8 @@ use Rattle.sc_model.specs.Asking.{passes, send, awaits_if, request_by, is_callba
 use Rattle.sc_model.specs.Preconditions.{verdict_on, is_creation, object_meets, counted_refusal, refuses, correctness_fails, false_clause}
 use Rattle.sc_model.specs.Exits.{is_unset, is_untested, handed_as, handed, leaves_to, exits, leaves_block}
 use Rattle.sc_model.specs.Turns.{effect, settles, waits}
-use Rattle.sc_machine_values.specs.Fitting.{coming_to}
-use Rattle.sc_machine_values.specs.Points.{Each, listed}
+use Rattle.sc_machine_rights.specs.Fitting.{coming_to}
+use Rattle.sc_machine_rights.specs.Points.{Each, listed}
 use Rattle.sc_refines_core.specs.Clauses.{StandsInClauses, ClauseAct, ClauseStep, HasStartedOrStands}
 use Rattle.sc_refines_core.specs.Entries.{HasStarted, RefusesNone}
 use Rattle.sc_refines_core.proofs.UnchangedStacks.{Others, AreAlike, release_alike, finish_alike, passes_alike, send_alike, dropped_if, fallen_stack, others_alike, others_put, others_new, others_stay, then_left}

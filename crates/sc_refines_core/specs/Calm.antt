@@ -32,9 +32,9 @@ use Rattle.sc_model.specs.Runs.{IsReached}
 use Rattle.sc_model.specs.Steps.{Act, Enters, Starts, Until, Refuses, Exits, Fails, Step, Goes, Does, Point}
 use Rattle.sc_model.specs.Tasks.{Task, ApplyBinary, ApplyUnary, AssignTo, Bind, CallQualified, CallUnqualified, Checked, Choose, Conclude, Declare, Do, EndLoop, Ensured, Eval, EvalRight, Forget, In, KeepOld, Repeat, Require, Required, tasks_of}
 use Rattle.sc_model.specs.Values.{Boolean, Operand, Reference}
-use Rattle.sc_machine_values.specs.Points.{types_of}
-use Rattle.sc_machine_values.specs.Steps.{IsThereIfOwn, StandsSo, ValuesDo}
-use Rattle.sc_machine_values.specs.Typed.{Extends, context_in, stacked}
+use Rattle.sc_machine_rights.specs.Points.{types_of}
+use Rattle.sc_machine_rights.specs.ValueSteps.{IsThereIfOwn, StandsSo, ValuesDo}
+use Rattle.sc_machine_rights.specs.Typed.{Extends, context_in, stacked}
 use Rattle.sc_refines_core.specs.Clauses.{IsPureIfRoutine, RunsPure}
 
 -- ---- what is evaluated

@@ -29,11 +29,11 @@ use Rattle.sc_model.specs.Routines.{Text, Routine, routine_named, version_of}
 use Rattle.sc_model.specs.Steps.{Act, Enters, Requests, Starts, Refuses, Fails, Step, Goes, Does, Point}
 use Rattle.sc_model.specs.Tasks.{Task, Eval, ApplyUnary, EvalRight, ApplyBinary, Conclude, CallUnqualified, CallQualified, Require, Required}
 use Rattle.sc_model.specs.Values.{Reference, Value, Operand}
-use Rattle.sc_machine_values.specs.Fitting.{ActualsFit, coming_to}
-use Rattle.sc_machine_values.specs.Points.{Each}
-use Rattle.sc_machine_values.specs.Places.{is_routine, of_actuals}
-use Rattle.sc_machine_values.specs.Steps.{IsThereIfOwn, StandsSo, ValuesDo}
-use Rattle.sc_machine_values.specs.Typed.{context_in, stacked}
+use Rattle.sc_machine_rights.specs.Fitting.{ActualsFit, coming_to}
+use Rattle.sc_machine_rights.specs.Points.{Each}
+use Rattle.sc_machine_rights.specs.Places.{is_routine, of_actuals}
+use Rattle.sc_machine_rights.specs.ValueSteps.{IsThereIfOwn, StandsSo, ValuesDo}
+use Rattle.sc_machine_rights.specs.Typed.{context_in, stacked}
 use Rattle.sc_refines_core.specs.Entries.{HasStarted}
 
 -- a value of an expression of this type, or, where that is INTEGER or BOOLEAN, of any such

@@ -18,7 +18,7 @@ use Rattle.sc_request.specs.Asked.{Numbering, request_of, handlers_of}
 use Rattle.sc_request.specs.Halves.{IsHalfOf}
 use Rattle.sc_request.specs.Logs.{opening}
 use Rattle.sc_request.specs.Steps.{stepped}
-use Rattle.sc_machine_values.specs.Values.{WhereAccepted}
+use Rattle.sc_machine_rights.specs.Values.{WhereAccepted}
 
 -- Where the handler's entry finds a clause false and waits, it is the entry that the handler reserved for last.
 abbrev pub RemembersEntry : System → ℕ → machine.World → State → Type 0

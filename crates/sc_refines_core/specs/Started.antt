@@ -4,7 +4,7 @@ use Rattle.sc_tree.specs.Plain.{System}
 use Rattle.sc_class.specs.ClassNames.{Root}
 use Rattle.sc_model.specs.Handlers as machine
 use Rattle.sc_model.specs.Runs.{IsReached}
-use Rattle.sc_machine_values.specs.Values.{WhereAccepted}
+use Rattle.sc_machine_rights.specs.Values.{WhereAccepted}
 use Rattle.sc_refines_core.specs.Entries.{HasStarted}
 
 -- the frame's next step is a reserve step

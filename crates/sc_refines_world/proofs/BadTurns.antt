@@ -14,8 +14,8 @@ use Rattle.sc_model.specs.Tasks.{Require}
 use Rattle.sc_model.specs.Values.{Reference, Value}
 use Rattle.sc_machine_contracts.specs.RequestLaws as laws
 use Rattle.sc_machine_contracts.specs.RequestLaws.{AnswerComes, MayAnswer}
-use Rattle.sc_machine_values.specs.Fitting.{MayEnd}
-use Rattle.sc_machine_values.specs.Fitting as fitting
+use Rattle.sc_machine_rights.specs.Fitting.{MayEnd}
+use Rattle.sc_machine_rights.specs.Fitting as fitting
 use Rattle.sc_refines_core.specs.Entries.{HasStarted}
 use Rattle.sc_machine_contracts.specs.Starting.{IsVerdict}
 use Rattle.sc_refines_world.specs.Moving as moving

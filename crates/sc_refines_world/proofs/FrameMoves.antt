@@ -33,7 +33,7 @@ use Rattle.sc_model.specs.Tasks.{Declare, Do, Forget, In, Task, ensures, keeps_o
 use Rattle.sc_model.specs.Olds.{olds_of_clauses}
 use Rattle.sc_model.specs.Turns.{effect}
 use Rattle.sc_model.specs.Values.{Attached, Operand, Reference, Value, operand, values_of}
-use Rattle.sc_machine_values.specs.Places.{called_name}
+use Rattle.sc_machine_rights.specs.Places.{called_name}
 use Rattle.sc_refines_core.specs.Entries.{HasStarted}
 use Rattle.sc_machine_contracts.specs.Starting.{IsVerdict}
 use Rattle.sc_refines_world.specs.Moving as moving

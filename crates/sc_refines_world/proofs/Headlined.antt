@@ -4,7 +4,7 @@ use Rattle.sc_machine_rights.proofs.MachineChains.{machine_chains_hold, machine_
 use Rattle.sc_machine_rights.proofs.Posts.{posted_under_right}
 use Rattle.sc_machine_rights.proofs.links.Held.{reached_formals_are_held, reached_names_are_held}
 use Rattle.sc_machine_rights.proofs.links.Reached.{reached_stands}
-use Rattle.sc_machine_values.proofs.AwaitedEnds.{each_non_separate_is_own, each_value_fits}
+use Rattle.sc_machine_rights.proofs.ValueAwaitedEnds.{each_non_separate_is_own, each_value_fits}
 use Rattle.sc_machine_contracts.proofs.Tops.{beyond_is_unused}
 use Rattle.sc_machine_contracts.proofs.Turned.{answers_come}
 use Rattle.sc_machine_contracts.proofs.Starts.{bodies_start_where_they_hold}

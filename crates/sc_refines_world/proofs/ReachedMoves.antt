@@ -20,10 +20,10 @@ use Rattle.sc_model.specs.Turns.{turn_with}
 use Rattle.sc_machine_rights.proofs.links.Reached.{reached_linked}
 use Rattle.sc_machine_rights.proofs.links.FittingActs.{stack_fits}
 use Rattle.sc_machine_rights.proofs.links.Turns as rights
-use Rattle.sc_machine_values.specs.Fitting.{FrameFits, WorldFits, coming_to}
-use Rattle.sc_machine_values.specs.Points.{Each, PointFits}
-use Rattle.sc_machine_values.specs.Steps.{IsThereIfOwn, StandsSo, ValuesDo}
-use Rattle.sc_machine_values.proofs.Frames.{store_fits, values_there}
+use Rattle.sc_machine_rights.specs.Fitting.{FrameFits, WorldFits, coming_to}
+use Rattle.sc_machine_rights.specs.Points.{Each, PointFits}
+use Rattle.sc_machine_rights.specs.ValueSteps.{IsThereIfOwn, StandsSo, ValuesDo}
+use Rattle.sc_machine_rights.proofs.Frames.{store_fits, values_there}
 use Rattle.sc_refines_core.specs.Clauses.{ClauseAct, ClauseStep, HasStartedOrStands, InClauses, StandsInClauses}
 use Rattle.sc_refines_core.specs.Clauses as clauses
 use Rattle.sc_refines_core.specs.Entries.{HasStarted}

@@ -17,7 +17,7 @@ use Rattle.sc_model.specs.Tasks.{tasks_of}
 use Rattle.sc_model.specs.Turns.{turn}
 use Rattle.sc_model.specs.Values.{Operand, Reference, Value, values_of}
 use Rattle.sc_machine_rights.specs.Headline.{AwaitsAnswer}
-use Rattle.sc_machine_values.specs.Places.{called_name}
+use Rattle.sc_machine_rights.specs.Places.{called_name}
 use Rattle.sc_refines_core.specs.Entries.{HasStarted}
 use Rattle.sc_machine_contracts.specs.RequestLaws.{OwnQueueMoves, Stays}
 use Rattle.sc_machine_contracts.specs.Starting.{IsVerdict}

@@ -29,8 +29,8 @@ use Rattle.sc_request.specs.Logs.{Center, next, pick_for, picked, round, settles
 use Rattle.sc_machine_rights.specs.Formals.{FormalsAreHeld, NamesAreHeld}
 use Rattle.sc_machine_rights.specs.Headline.{CallbacksComeFirst, ChainsHold, OnlyWaitersAreTold, RepliesMeetNone, ReservedAreHeld, TargetsAreKept, WaitersAreTold}
 use Rattle.sc_machine_contracts.specs.RequestLaws.{AnswerComes, IsUnused}
-use Rattle.sc_machine_values.specs.Places.{StandsAs}
-use Rattle.sc_machine_values.specs.Values.{WhereAccepted}
+use Rattle.sc_machine_rights.specs.Places.{StandsAs}
+use Rattle.sc_machine_rights.specs.Values.{WhereAccepted}
 use Rattle.sc_machine_contracts.specs.Starting.{StartsWhereTheyHold}
 use Rattle.sc_world.specs.Reports.{report, statuses}
 use Rattle.sc_world.specs.Rounds.{EndsRounds, Rounds, StopsRounds}

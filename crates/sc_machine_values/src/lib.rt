@@ -1,4 +1,0 @@
-//! Values: what fits where in a state of the machine.
-#![tactic(auto)]
-
-pub mod laws;
