@@ -18,7 +18,7 @@ use Rattle.sc_acts.specs.Turning.{round_ended, unless_failed}
 use Rattle.sc_acts.specs.Requesting.{asks_requesting, requested}
 use Rattle.sc_acts.specs.CreatingHandlers.{asks_creating, handler_created}
 use Rattle.sc_acts.specs.CreatingObjects.{asks_created, object_created}
-use Rattle.sc_leaving.specs.Leaving.{asks_leaving, block_left}
+use Rattle.sc_acts.specs.Leaving.{asks_leaving, block_left}
 use Rattle.sc_acts.specs.Blocks.{asks_opening, opened}
 
 -- What the operation makes of the store of the handler of this number.

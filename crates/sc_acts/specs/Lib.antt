@@ -10,3 +10,4 @@ pub mod CreatingHandlers
 pub mod CreatingObjects
 pub mod Blocks
 pub mod Acting
+pub mod Leaving

@@ -7,9 +7,9 @@ ghost use Rattle.sc_acts.specs.Entering.{handler_of};
 ghost use Rattle.sc_region.specs.Calls.{on_top};
 ghost use Rattle.sc_acts.specs.Blocks.{asks_opening, handlers_of, heads_in, heads_of, may_open, opened, opening, written};
 
+use crate::going_on::{go_past, misfit};
 use crate::operands::{has_actuals, last_values};
 use arrayvec::ArrayVec;
-use sc_leaving::{go_past, misfit};
 use sc_lockpass::HandlerNumber;
 use sc_region::{Activation, Stage, Store, Value, Want};
 

@@ -5,8 +5,8 @@ ghost use Rattle.sc_region.specs.Frames.{PlainActivation, activation_of, top_act
 ghost use Rattle.sc_region.specs.OperandList.{operands_onto};
 ghost use Rattle.sc_acts.specs.Entering.{Calls, CallsNone, Has, StandsSo, has_operands, resumed};
 
+use crate::going_on::go_past;
 use arrayvec::ArrayVec;
-use sc_leaving::go_past;
 use sc_region::{Activation, Operands, Stage, Store, Value};
 
 /// How a routine stood before a call, and the operands that the call takes.

@@ -6,9 +6,9 @@ ghost use Rattle.sc_region.specs.Calls.{on_top};
 ghost use Rattle.sc_acts.specs.CreatingHandlers.{asks_creating, creating, creation_in, creation_of, handler_created, may_create};
 
 use crate::act::RemoteCreation;
+use crate::going_on::{go_past, misfit};
 use crate::operands::{has_actuals, last_values};
 use crate::stages::await_if;
-use sc_leaving::{go_past, misfit};
 use sc_lockpass::HandlerNumber;
 use sc_region::{Activation, Reference, Store, Value, Want};
 

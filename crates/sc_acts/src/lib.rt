@@ -1,6 +1,7 @@
 //! Visible operations: what makes a turn.
 //!
-//! An [`Act`] is done on the topmost routine of a store, and what its turn asks of the core is told.
+//! An [`Act`] is done on the topmost routine of a store, and what its turn asks of the core is told. At the end of a separate
+//! block ([`leave`]) what it newly reserved is released, and its routine goes on.
 #![tactic(auto)]
 
 mod act;
@@ -12,6 +13,8 @@ mod creating;
 mod creating_handlers;
 mod entering;
 mod exiting;
+mod going_on;
+mod leaving;
 mod operands;
 mod printing;
 mod refusing;
@@ -24,5 +27,7 @@ pub use act::{Act, Calling, RemoteCall, RemoteCreation};
 pub use acting::act_on;
 pub use beginning::ask_beginning;
 pub use exiting::{copy_handlers, give_back, hand_to, is_unset, meets};
+pub use going_on::{go_past, misfit};
+pub use leaving::leave;
 pub use steps::{end_round_on, unless_failed};
 pub use versions::{routine_of, version_in};

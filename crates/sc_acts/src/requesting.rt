@@ -6,10 +6,10 @@ ghost use Rattle.sc_region.specs.Calls.{on_top};
 ghost use Rattle.sc_acts.specs.Requesting.{asks_requesting, asks_sending, asks_sent, is_waited, request_by, request_in, request_of, requested, sending};
 
 use crate::act::RemoteCall;
+use crate::going_on::{go_past, misfit};
 use crate::operands::{add_last_values, has_call};
 use crate::stages::await_if;
 use arrayvec::ArrayVec;
-use sc_leaving::{go_past, misfit};
 use sc_lockpass::HandlerNumber;
 use sc_region::{Activation, Errand, Request, Store, Want};
 

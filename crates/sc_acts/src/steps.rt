@@ -5,7 +5,7 @@ ghost use Rattle.sc_region.specs.declared.job.Want.TheVariants as want;
 ghost use Rattle.sc_region.specs.Calls.{on_top, past};
 ghost use Rattle.sc_acts.specs.Turning.{back, round_ended, unless_failed};
 
-use sc_leaving::go_past;
+use crate::going_on::go_past;
 use sc_model::Cause;
 use sc_region::{Activation, Operands, Store, Want};
 

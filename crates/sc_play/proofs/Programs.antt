@@ -39,7 +39,7 @@ use Rattle.sc_acts.specs.declared.act.RemoteCreation.{RemoteCreation}
 use Rattle.sc_acts.specs.declared.act.RemoteCall.{RemoteCall}
 use Rattle.sc_acts.specs.Acting.{acted}
 use Rattle.sc_play.specs.Answering.{granted_in, replied_in, runs, top_stage}
-use Rattle.sc_leaving.specs.Leaving.{innermost_in, left_with}
+use Rattle.sc_acts.specs.Leaving.{innermost_in, left_with}
 use Rattle.sc_acts.specs.Blocks.{heads_in, opened_with}
 use Rattle.sc_acts.specs.CreatingHandlers as handlers
 use Rattle.sc_acts.specs.CreatingObjects as objects

@@ -28,7 +28,7 @@ use Rattle.sc_acts.specs.Turning.{round_ended}
 use Rattle.sc_acts.proofs.Options.{none_some}
 use Rattle.sc_acts.specs.Acting.{acted}
 use Rattle.sc_acts.specs.Blocks as blocks
-use Rattle.sc_leaving.specs.Leaving.{closing, innermost_in, left_with}
+use Rattle.sc_acts.specs.Leaving.{closing, innermost_in, left_with}
 use Rattle.sc_acts.specs.Blocks.{heads_in, opened_with}
 use Rattle.sc_acts.specs.CreatingHandlers as handlers
 use Rattle.sc_acts.specs.CreatingHandlers.{created_as, creation_in, creation_with}

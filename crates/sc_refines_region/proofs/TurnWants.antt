@@ -50,7 +50,7 @@ use Rattle.sc_acts.specs.Tables.{formals_at, name_at}
 use Rattle.sc_acts.specs.Turning.{unless_failed}
 use Rattle.sc_interp.specs.Values.{reference_of, value_of, values_of}
 use Rattle.sc_acts.proofs.Options.{some_same}
-use Rattle.sc_leaving.specs.Leaving.{asks_leaving, asks_left, innermost}
+use Rattle.sc_acts.specs.Leaving.{asks_leaving, asks_left, innermost}
 use Rattle.sc_acts.specs.CreatingHandlers.{asks_creating, creation_by, creation_in, creation_with, may_create}
 use Rattle.sc_acts.specs.CreatingHandlers as creating
 use Rattle.sc_acts.specs.Requesting.{asks_requesting, asks_sending, call_of, request_by}

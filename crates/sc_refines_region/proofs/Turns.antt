@@ -33,7 +33,7 @@ use Rattle.sc_refines_region.proofs.RegionSame.{still_fails}
 use Rattle.sc_acts.specs.Acting.{acted, asks_acted}
 use Rattle.sc_play.specs.Answering as answering
 use Rattle.sc_play.specs.Answering.{told, top_stage}
-use Rattle.sc_leaving.specs.Leaving.{block_left, innermost, innermost_in, left_with}
+use Rattle.sc_acts.specs.Leaving.{block_left, innermost, innermost_in, left_with}
 use Rattle.sc_play.specs.Taking as taking
 use Rattle.sc_play.specs.Taking.{asks_taking}
 use Rattle.sc_play.specs.Turns.{Becomes, GoesOn, TurnIn, TurnMade, TurnOf, asks_done, done}

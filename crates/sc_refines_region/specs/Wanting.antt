@@ -15,7 +15,7 @@ use Rattle.sc_refines_region.specs.RegionSteps.{IsProgramFor, names_of, next_wan
 use Rattle.sc_refines_region.specs.RegionTurns.{Half, turn}
 use Rattle.sc_acts.specs.Tables.{formals_at, name_at}
 use Rattle.sc_acts.specs.Turning.{unless_failed}
-use Rattle.sc_leaving.specs.Leaving.{asks_leaving}
+use Rattle.sc_acts.specs.Leaving.{asks_leaving}
 use Rattle.sc_acts.specs.CreatingHandlers.{asks_creating, creation_with, may_create}
 use Rattle.sc_acts.specs.Operands.{has_call}
 use Rattle.sc_acts.specs.Requesting.{asks_requesting, call_of}

@@ -49,7 +49,7 @@ use Rattle.sc_interp.specs.Values.{reference_of, value_of, values_of}
 use Rattle.sc_interp.proofs.Operands.{values_drop}
 use Rattle.sc_acts.specs.Acting.{acted}
 use Rattle.sc_acts.specs.Blocks as blocks
-use Rattle.sc_leaving.specs.Leaving.{closing, innermost, left_with}
+use Rattle.sc_acts.specs.Leaving.{closing, innermost, left_with}
 use Rattle.sc_acts.specs.Blocks.{may_open, opened_with}
 use Rattle.sc_acts.specs.CreatingHandlers as handlers
 use Rattle.sc_acts.specs.CreatingHandlers.{created_as, creation_in, first_object}

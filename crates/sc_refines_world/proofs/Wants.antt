@@ -37,7 +37,7 @@ use Rattle.sc_interp.specs.Told.{HasName, HasProcedure, IsReadyAt, IsTold, Names
 use Rattle.sc_acts.specs.Turning.{unless_failed}
 use Rattle.sc_acts.specs.Acting.{asks_acted}
 use Rattle.sc_play.specs.Answering.{top_stage}
-use Rattle.sc_leaving.specs.Leaving.{asks_left, innermost_in}
+use Rattle.sc_acts.specs.Leaving.{asks_left, innermost_in}
 use Rattle.sc_acts.specs.Blocks.{asks_opened, heads_in}
 use Rattle.sc_acts.specs.CreatingHandlers.{asks_creating, creation_by, creation_of, creation_with, may_create}
 use Rattle.sc_acts.specs.CreatingHandlers as handlers

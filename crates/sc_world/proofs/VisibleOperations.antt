@@ -32,7 +32,7 @@ use Rattle.sc_acts.specs.Refusing.{asks_refusing, is_waited_for, refused_as, ref
 use Rattle.sc_acts.specs.Tables.{version_in, formals_at, listed}
 use Rattle.sc_acts.specs.Turning.{round_ended}
 use Rattle.sc_acts.specs.Acting.{acted, asks_acted}
-use Rattle.sc_leaving.specs.Leaving.{asks_left, closing, innermost_in, left_with}
+use Rattle.sc_acts.specs.Leaving.{asks_left, closing, innermost_in, left_with}
 use Rattle.sc_acts.specs.Blocks.{asks_opened, heads_in, opened_with, opening}
 use Rattle.sc_acts.specs.CreatingHandlers as remote
 use Rattle.sc_acts.specs.CreatingHandlers.{created_as, creating, creation_by, creation_in, creation_with, first_object, may_create}

@@ -3,9 +3,9 @@ ghost use Rattle.std.specs.Prelude.{◌≡◌, IfSome, IfNone};
 ghost use Rattle.std.specs.Option.{option_map};
 ghost use Rattle.sc_region.specs.Calls.{on_top};
 ghost use Rattle.sc_region.specs.Frames.{activation_of, top_activation};
-ghost use Rattle.sc_leaving.specs.Leaving.{asks_leaving, block_left, closing, innermost, innermost_in};
+ghost use Rattle.sc_acts.specs.Leaving.{asks_leaving, block_left, closing, innermost, innermost_in};
 
-use crate::steps::{go_past, misfit};
+use crate::going_on::{go_past, misfit};
 use arrayvec::ArrayVec;
 use sc_lockpass::HandlerNumber;
 use sc_region::{Activation, Store, Want};
