@@ -112,6 +112,7 @@ fn is_tested(
 }
 
 /// The object test is true, and the slot gets the value.
+#[inline(always)]
 fn bind(activation: &mut Activation, count: usize, slot: usize, value: Value) -> Hop
     requires { length (activation_of activation.old).operands.values < (activation_of activation.old).operands.depth }
     ensures passes { BindsIf count true slot value result (activation_of activation.old) (activation_of activation.new) }
@@ -123,6 +124,7 @@ fn bind(activation: &mut Activation, count: usize, slot: usize, value: Value) ->
 }
 
 /// The answer of an object test is the last operand; where it is True, the slot gets the value.
+#[inline(always)]
 fn bind_if(
     activation: &mut Activation,
     count: usize,
@@ -143,6 +145,7 @@ fn bind_if(
 }
 
 /// The object test of the number.
+#[inline(always)]
 fn test_at(program: &Program, number: usize) -> Option<ObjectTest>
     ensures { result ≡ slice_get (pool_of program.now.image.pool).tests number }
 {
@@ -150,6 +153,7 @@ fn test_at(program: &Program, number: usize) -> Option<ObjectTest>
 }
 
 /// The last operand is tested by the object test.
+#[inline(always)]
 fn test_by(
     program: &Program,
     activation: &mut Activation,
@@ -171,6 +175,7 @@ fn test_by(
 }
 
 /// An object test, by its number.
+#[inline(always)]
 pub fn test(
     program: &Program,
     activation: &mut Activation,
