@@ -1,5 +1,5 @@
 -- Routines that call others of the same handler.
-use Rattle.std.specs.Prelude.{◌≡◌, ◌≤◌, ℕ, zero, suc, ◌+◌, Bool, List, [], ◌∷◌, drop, length, min}
+use Rattle.std.specs.Prelude.{◌≡◌, ◌≤◌, ℕ, zero, suc, ◌+◌, Bool, List, [], ◌∷◌, drop, min}
 use Rattle.sc_code.specs.declared.program.RoutineCode.{RoutineCode}
 use Rattle.sc_region.specs.declared.frame.OwnCall.{OwnCall}
 use Rattle.sc_region.specs.declared.frame.Stage.TheVariants as stage
@@ -60,9 +60,8 @@ calls me routine k x =
 
 -- ---- where a routine begins
 
--- Where the other one stood the routine has as many slots, it takes so many actuals, and nothing is reserved.
-pub record StandsAlike (r : RoutineCode) (n : ℕ) (a : PlainActivation) : Type 0 where
-  pub slots : length a.slots ≡ r.slots
+-- The routine takes so many actuals and reserves nothing, and nothing is reserved where the other one stood.
+pub record BeginsPlainly (r : RoutineCode) (n : ℕ) (a : PlainActivation) : Type 0 where
   pub formals : n ≡ r.formals
   pub few : n ≤ r.slots
   pub free : r.separate_formals.items ≡ []

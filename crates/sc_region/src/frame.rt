@@ -1,6 +1,6 @@
 //! Where the routine of a frame stands.
 ghost use Rattle.std.specs.Prelude.{◌≡◌, ◌≤◌, ◌+◌, ◌++◌, ◌-◌, [], IsTrue, OnOk, length, replicate, vec_capacity, vec_len};
-ghost use Rattle.sc_region.specs.Calls.{StandsAlike, in_call};
+ghost use Rattle.sc_region.specs.Calls.{BeginsPlainly, in_call};
 ghost use Rattle.sc_region.specs.Stores.{beginning};
 ghost use Rattle.sc_region.specs.declared.value.Value.TheVariants.{Void};
 ghost use Rattle.sc_region.specs.Frames.{activation_of};
@@ -110,36 +110,44 @@ impl Activation {
     ) -> Result<(), AllocError>
         ensures { OnOk result (activation_of self.new ≡ beginning routine code.now origin actuals.now) }
     {
-        if self.is_alike(code, actuals.len())
+        if self.has_place(code, actuals.len())
             && self.olds.reset_in_place(code.olds)
             && self.operands.reset_in_place(code.depth)
         {
-            self.begin_alike(routine, code, origin, actuals);
+            self.begin_in_place(routine, code, origin, actuals);
             Ok(())
         } else {
             self.begin_otherwise(routine, code, origin, actuals)
         }
     }
 
-    /// Whether the routine has as many slots as what stood here, takes so many actuals, and reserves nothing, and nothing is
-    /// reserved here.
+    /// Whether the routine takes so many actuals and reserves nothing, and what stood here has reserved nothing and leaves memory for
+    /// its slots.
     #[inline(always)]
-    fn is_alike(&self, code: &RoutineCode, actuals: usize) -> bool
-        ensures { IsTrue result → StandsAlike code.now actuals (activation_of self.now) }
+    fn has_place(&self, code: &RoutineCode, actuals: usize) -> bool
+        ensures begins { IsTrue result → BeginsPlainly code.now actuals (activation_of self.now) }
+        ensures room { IsTrue result → code.now.slots ≤ vec_capacity self.now.slots }
     {
         actuals == code.formals
-            && code.slots == self.slots.len()
             && actuals <= code.slots
+            && code.slots <= self.slots.capacity()
             && code.separate_formals.is_empty()
             && self.reserved.is_empty()
             && self.blocks.is_empty()
             && code.blocks <= self.blocks.capacity()
     }
 
-    /// A routine begins where one stood like it, whose operands and kept values are gone.
+    /// A routine begins in the memory of what stood here, whose operands and kept values are gone.
     #[inline(always)]
-    fn begin_alike(&mut self, routine: usize, code: &RoutineCode, origin: Origin, actuals: &[Value])
-        requires alike { StandsAlike code.now (length actuals.now) (activation_of self.old) }
+    fn begin_in_place(
+        &mut self,
+        routine: usize,
+        code: &RoutineCode,
+        origin: Origin,
+        actuals: &[Value],
+    )
+        requires begins { BeginsPlainly code.now (length actuals.now) (activation_of self.old) }
+        requires room { code.now.slots ≤ vec_capacity self.old.slots }
         requires olds { (activation_of self.old).olds ≡ record { room = code.now.olds; values = [] } }
         requires operands { (activation_of self.old).operands ≡ record { depth = code.now.depth; values = [] } }
         ensures { activation_of self.new ≡ beginning routine code.now origin actuals.now }
@@ -149,10 +157,11 @@ impl Activation {
         self.stage = Stage::Runs;
         self.place = 0;
         self.result = code.result.map(|(default, _)| Value::of_default(default));
+        fit(&mut self.slots, code.slots);
         set_slots(&mut self.slots, actuals);
     }
 
-    /// A routine begins, whatever stood here. (A call of its own: most routines begin where one stood like them.)
+    /// A routine begins, whatever stood here. (A call of its own: most routines begin in place.)
     #[inline(never)]
     fn begin_otherwise(
         &mut self,
@@ -187,6 +196,20 @@ impl Activation {
         self.operands.drop_last(operands);
         self.place = self.place.saturating_add(1);
         self.stage = Stage::InCall { gives };
+    }
+}
+
+/// There are so many slots, for which there is room, whatever they hold.
+#[inline(always)]
+fn fit(slots: &mut Vec<Value>, count: usize)
+    requires { count ≤ vec_capacity slots.old }
+    ensures { vec_len slots.new ≡ count }
+{
+    if slots.len() < count {
+        let more = count - slots.len();
+        add_voids(slots, more);
+    } else {
+        slots.truncate(count);
     }
 }
 
