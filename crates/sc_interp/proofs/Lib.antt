@@ -27,3 +27,4 @@ pub mod Switches
 pub mod OneObject
 pub mod Loads
 pub mod Away
+pub mod Forms
