@@ -14,6 +14,7 @@ use sc_worklog::LoggedRegion;
 use std::sync::Mutex;
 
 /// What lies under the locks, and whether memory was refused to a turn.
+#[inline(never)]
 pub fn left_of<'p, P: OfProgram>(
     recorded: RecordedCore<P>,
     slots: Vec<Mutex<Slot<'p, P>>>,
@@ -74,6 +75,7 @@ pub fn difference(left: &LoggedLeft<'_>) -> Option<HandlerNumber>
 }
 
 /// The same, without logs.
+#[inline(never)]
 pub fn without_logs<'p>(left: LoggedLeft<'p>, room: Vec<Region<'p>>) -> Left<'p>
     requires room { vec_len left.regions ≤ vec_capacity room }
     requires empty { room.items ≡ [] }

@@ -205,6 +205,7 @@ fn play_shared<'p, P: OfProgram + Send + Sync, R: Threads + Wait + Sync, G: Gate
 }
 
 /// Rounds of the workers, until the run is over or they were stopped and no handler is out: why they were.
+#[inline(never)]
 fn rounds<'p, P: OfProgram + Send + Sync, R: Threads + Wait + Sync, G: Gate>(
     rt: &R,
     mut scheduler: Scheduler<P>,

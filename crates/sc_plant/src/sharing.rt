@@ -36,6 +36,7 @@ struct Rooms<'p, P: OfProgram> {
 ///
 /// # Errors
 /// Where memory is refused: what there was.
+#[inline(never)]
 pub fn share<'p, P: OfProgram>(alloc: Global, left: Left<'p>) -> Result<Shared<'p, P>, Left<'p>>
     requires { IsOnWayIn P.image left }
     ensures slots { IfOk result (λ shared. vec_len shared.slots ≡ 512) }
