@@ -1,5 +1,5 @@
 -- A test tells whether a fact holds.
-use Rattle.std.proofs.Common.{◌≡◌, ◌↔◌, IsTrue, true, false, refl}
+use Rattle.std.proofs.Common.{◌↔◌, IsTrue, true, false, refl}
 
 pub holds : {P : Type 0} → P → (IsTrue true ↔ P)
 holds p = (λ e. p, λ q. refl)

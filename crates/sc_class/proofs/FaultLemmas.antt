@@ -1,6 +1,6 @@
 -- Faults that are found class by class, and those that no class has.
 use Rattle.std.proofs.Common.{◌≡◌, ◌<◌, ◌≤◌, ◌+◌, ℕ, Bool, true, false, List, [], Option, Some, None, length, get_or, map, refl, ap, sym, subst, ◌∙◌, ◌⊎◌, inl, inr, arith}
-use Rattle.std.specs.Prelude.{Any, nat_lt, slice_get}
+use Rattle.std.specs.Prelude.{nat_lt, slice_get}
 use Rattle.std.specs.Option.{option_map_or}
 use Rattle.std.proofs.lemmas.Option.{slice_get_within}
 use Rattle.std.proofs.lemmas.List.{length-map, append-nil}
@@ -11,10 +11,11 @@ use Rattle.sc_tree.specs.View.{class_of}
 use Rattle.sc_class.specs.Internal.Found.{FindsFirstPlace, first_place}
 use Rattle.sc_class.specs.Internal.FaultAt.{FaultAt, FaultBefore}
 use Rattle.sc_class.specs.Names.{OneClashes}
-use Rattle.sc_class.specs.Tables.Features.{redefined_by, redefined_names, not_redefined, inherited_features, features}
-use Rattle.sc_class.specs.Faults.Scopes.{ClassClashes, in_features, in_routine, in_invariant, inherited_names, RoutineClashes, ClausesClash, feature_names}
+use Rattle.sc_class.specs.Tables.Features.{redefined_by, redefined_names, not_redefined, inherited_features}
+use Rattle.sc_class.specs.Faults.Scopes.{ClassClashes, in_features, in_routine, in_invariant, inherited_names, feature_names}
 use Rattle.sc_class.specs.declared.faults.scopes.features.Part.TheVariants.{Inherited}
 use Rattle.sc_class.specs.Internal.ScopeSearch.{names_of_part, names_clash}
+use Rattle.sc_class.specs.Internal.FeatureFaults.{TextsClash}
 use Rattle.sc_class.proofs.SearchLemmas.{first_same, first_either}
 use Rattle.sc_class.proofs.Items.{some_is, item_in}
 use Rattle.sc_class.proofs.NamesFound.{names_found}
@@ -69,31 +70,23 @@ module _ (s : System) (k : ℕ) (c : Class) (is_class : slice_get s.classes k �
   names_are : redefined_names s k ≡ redefined_by c
   names_are = ap (λ (o : Option Class). option_map_or redefined_by o []) is_class
 
-  -- in one of its own routines, or in its invariant
-  abbrev InTexts : Span → Type 0
-  InTexts p = Any (λ (f : Feature). RoutineClashes (feature_names (features s k)) f.kind p) c.features ⊎ ClausesClash (feature_names (features s k)) c.invariant p
-
   features_found : FindsFirstPlace (OneClashes (inherited_names s k c) (map (λ (f : Feature). f.name) c.features)) (names_clash (names_of_part Inherited s k) [] (map (λ (f : Feature). f.name) c.features))
   features_found =
       subst (λ known. FindsFirstPlace (OneClashes known (map (λ (f : Feature). f.name) c.features)) (names_clash (names_of_part Inherited s k) [] (map (λ (f : Feature). f.name) c.features)))
       (append-nil (names_of_part Inherited s k) ∙ ap (λ (ns : List Name). feature_names (not_redefined ns (inherited_features s k))) names_are)
       (names_found (names_of_part Inherited s k) [] (map (λ (f : Feature). f.name) c.features))
 
-  pub class_found : (a d e : Option Span) → a ≡ names_clash (names_of_part Inherited s k) [] (map (λ (f : Feature). f.name) c.features) →
-      FindsFirstPlace (λ p. Any (λ f. RoutineClashes (feature_names (features s k)) f.kind p) c.features) d → FindsFirstPlace (ClausesClash (feature_names (features s k)) c.invariant) e →
-      (de all : Option Span) → de ≡ first_place d e → all ≡ first_place a de → FindsFirstPlace (ClassClashes s k c) all
-  class_found a d e declared h v de all i j =
-      subst (FindsFirstPlace (ClassClashes s k c)) (sym (j ∙ ap (first_place a) i))
-      (first_either (λ (p : Span). p.start) {P = OneClashes (inherited_names s k c) (map (λ (f : Feature). f.name) c.features)} {Q = InTexts} {R = ClassClashes s k c} a (first_place d e)
-      (λ p. in_features) (λ p. within) (λ p. parts) (subst (FindsFirstPlace (OneClashes (inherited_names s k c) (map (λ (f : Feature). f.name) c.features))) (sym declared) features_found)
-      (first_either (λ (p : Span). p.start) {P = λ p. Any (λ (f : Feature). RoutineClashes (feature_names (features s k)) f.kind p) c.features} {Q = ClausesClash (feature_names (features s k)) c.invariant} {R = InTexts} d e
-      (λ p. inl) (λ p. inr) (λ p y. y) h v))
+  pub class_found : (a t all : Option Span) → a ≡ names_clash (names_of_part Inherited s k) [] (map (λ (f : Feature). f.name) c.features) → FindsFirstPlace (TextsClash s k c) t → all ≡ first_place a t → FindsFirstPlace (ClassClashes s k c) all
+  class_found a t all declared h e =
+      subst (FindsFirstPlace (ClassClashes s k c)) (sym e)
+      (first_either (λ (p : Span). p.start) {P = OneClashes (inherited_names s k c) (map (λ (f : Feature). f.name) c.features)} {Q = TextsClash s k c} {R = ClassClashes s k c} a t
+      (λ p. in_features) (λ p. within) (λ p. parts) (subst (FindsFirstPlace (OneClashes (inherited_names s k c) (map (λ (f : Feature). f.name) c.features))) (sym declared) features_found) h)
     where
-      within : {p : Span} → InTexts p → ClassClashes s k c p
+      within : {p : Span} → TextsClash s k c p → ClassClashes s k c p
       within (inl y) = in_routine y
       within (inr y) = in_invariant y
 
-      parts : {p : Span} → ClassClashes s k c p → OneClashes (inherited_names s k c) (map (λ (f : Feature). f.name) c.features) p ⊎ InTexts p
+      parts : {p : Span} → ClassClashes s k c p → OneClashes (inherited_names s k c) (map (λ (f : Feature). f.name) c.features) p ⊎ TextsClash s k c p
       parts (in_features y) = inl y
       parts (in_routine y) = inr (inl y)
       parts (in_invariant y) = inr (inr y)

@@ -33,7 +33,7 @@ place-not_redefined x names (f ∷ fs) =
     by false true false g i h = ap (λ (b : Bool). first_place (if b then Some f.feature.name.span else None) (place_among x (feature_names (not_redefined names fs)))) i ∙ ap (first_place (Some f.feature.name.span)) h
     by false false l g i h = ap (λ (b : Bool). first_place (if b then Some f.feature.name.span else None) (place_among x (feature_names (not_redefined names fs)))) i ∙ h
 
-declared_names : (s : System) (k : ℕ) → feature_names (declared_features s k) ≡ declared_feature_names_at s k
+pub declared_names : (s : System) (k : ℕ) → feature_names (declared_features s k) ≡ declared_feature_names_at s k
 declared_names s k = by (slice_get s.classes k)
   where
     names_of : (fs : List Feature) → feature_names (map (declared_in k) fs) ≡ map (λ (f : Feature). f.name) fs

@@ -15,6 +15,8 @@ pub mod ScopeSteps
 pub mod NamesFound
 pub mod ScopesFound
 pub mod FeaturePlaces
+pub mod FoundFaults
+pub mod Lines
 pub mod LimitLemmas
 pub mod TableLemmas
 pub mod SizeLemmas

@@ -1,10 +1,9 @@
 -- The ancestors of a class are those that are reached from it over parents.
-use Rattle.std.proofs.Common.{◌≡◌, ◌<◌, ℕ, true, List, [], ◌∷◌, length}
+use Rattle.std.proofs.Common.{◌≡◌, ℕ, true, List, [], ◌∷◌, length}
 use Rattle.sc_tree.specs.Plain.{System}
-use Rattle.sc_class.specs.Tables.Ancestors.{parent_number}
 use Rattle.sc_class.specs.Tables.Conformance.{is_ancestor}
 use Rattle.sc_class.specs.Tables.Heirs.{IsReached, is_itself, over_parent, AncestorsReached}
-use Rattle.sc_class.proofs.Ancestry.{Way, arrived, climbs, parent_within, way_from, simple, all_below, is_reached, few}
+use Rattle.sc_class.proofs.Ancestry.{Way, arrived, climbs, way_from, simple, all_below, is_reached, few}
 
 of_way : {s : System} {j k : ℕ} {xs : List ℕ} → Way s j k xs → IsReached s j k
 of_way arrived = is_itself

@@ -6,6 +6,8 @@ pub mod FaultAt
 pub mod NameIndex
 pub mod DeclaredNames
 pub mod KnownFeatures
+pub mod Lines
+pub mod FeatureFaults
 pub mod AncestorLists
 pub mod Systems
 pub mod NoFaults

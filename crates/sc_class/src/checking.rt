@@ -13,12 +13,11 @@ use crate::class_tables::Tables;
 use crate::class_tables::hierarchy::Hierarchy;
 use crate::class_tables::outline::Outline;
 use crate::fault::ClassFault;
-use crate::faults::class_clashes::clash;
 use crate::faults::cycles::cycle;
+use crate::faults::features::feature_faults;
 use crate::faults::left_out::left_out;
 use crate::faults::limits::passes_limit;
 use crate::faults::parents::{repeated_class, unknown_parent};
-use crate::faults::redefinition::bad_redefinitions;
 use crate::faults::root_procedure::has_root;
 use crate::root::Root;
 use sc_tree::System;
@@ -54,10 +53,11 @@ fn refuse_features(alloc: Global, outline: &Outline, root: &Root) -> Result<(), 
         IfErr result (λ fault. (fault ≡ OutOfMemory) ⊎ (ClassesStand s → HasLeastCode s (root_of root.now) fault)) }
     ensures place { IfErr result (IsPlacedFirst (in_outline outline.now) (root_of root.now)) }
 {
-    if let Some(span) = clash(alloc, outline)? {
+    let faults = feature_faults(alloc, outline)?;
+    if let Some(span) = faults.clash {
         return Err(ClassFault::DuplicateFeature { span });
     }
-    if let Some(span) = bad_redefinitions(alloc, outline)? {
+    if let Some(span) = faults.redefinition {
         return Err(ClassFault::BadRedefinition { span });
     }
     if !has_root(alloc, outline, root)? {

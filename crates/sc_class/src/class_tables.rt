@@ -13,6 +13,8 @@ pub mod declared_names;
 pub mod feature_entry;
 pub mod hierarchy;
 mod known_features;
+pub mod line;
+pub mod order;
 pub mod outline;
 mod queries;
 

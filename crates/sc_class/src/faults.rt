@@ -2,6 +2,7 @@
 
 pub mod class_clashes;
 pub mod cycles;
+pub mod features;
 pub mod left_out;
 pub mod limits;
 pub mod parents;

@@ -13,12 +13,14 @@ ghost use Rattle.sc_class.specs.View.{entry_of};
 ghost use Rattle.sc_class.specs.Faults.Scopes.{feature_names};
 ghost use Rattle.sc_class.specs.Internal.NameIndex.{place_among};
 ghost use Rattle.sc_class.specs.Internal.KnownFeatures.{declarer, declarer_known, place_in, place_known};
+ghost use Rattle.sc_class.specs.Internal.Lines.{kept_below, with_own};
 
 use crate::class_tables::ancestry::features_of;
 use crate::class_tables::declared_names::{DeclaredNames, declared_names_of, redefined_in};
 use crate::class_tables::feature_entry::FeatureEntry;
 use crate::class_tables::hierarchy::Hierarchy;
 use crate::class_tables::known_features::KnownFeatures;
+use crate::class_tables::line::NamedFeatures;
 use crate::faults::limits::{MAX_CLASSES, MAX_FEATURES};
 use crate::faults::places::first_place;
 use crate::names::NameIndex;
@@ -296,6 +298,41 @@ impl<'s> Outline<'s> {
         }
         let above = self.hierarchy.classes().len().saturating_sub(1);
         self.place_from(self.hierarchy.parent(class), above, name)
+    }
+
+    /// The features of this name of the class at the number, where its parent has these. It looks up to three times by
+    /// hash.
+    pub fn named_below(&self, class: usize, name: &str, above: NamedFeatures) -> NamedFeatures
+        ensures { result ≡ with_own (system_of self.now.hierarchy.system.now) class name.now above }
+    {
+        let kept = self.named_unless_redefined(class, name, above);
+        match self.declared(class, name) {
+            None => kept,
+            Some(entry) => NamedFeatures {
+                class: Some(entry.class),
+                place: first_place(self.declared_place(class, name), kept.place),
+            },
+        }
+    }
+
+    /// The features of this name of the parent of the class at the number, where it has these, that the class doesn't
+    /// redefine.
+    fn named_unless_redefined(
+        &self,
+        class: usize,
+        name: &str,
+        above: NamedFeatures,
+    ) -> NamedFeatures
+        ensures { result ≡ kept_below (system_of self.now.hierarchy.system.now) class name.now above }
+    {
+        if self.redefines(class, name) {
+            NamedFeatures {
+                class: None,
+                place: None,
+            }
+        } else {
+            above
+        }
     }
 
     /// Adds the features that the class at the number declares itself, but for those of the redefined names.

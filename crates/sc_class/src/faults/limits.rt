@@ -18,7 +18,11 @@ pub const MAX_FEATURES: usize = 256;
 fn has_many_features(alloc: Global, outline: &Outline, number: usize) -> Result<bool, AllocError>
     ensures { IfOk result (λ many. many ≡ limits.has_many_features (in_outline outline.now) number) }
 {
-    let ancestry = Ancestry { outline, number };
+    let ancestry = Ancestry {
+        outline,
+        number,
+        line: None,
+    };
     let features = ancestry.features(alloc)?;
     Ok(features.len() > MAX_FEATURES)
 }

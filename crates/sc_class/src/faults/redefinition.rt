@@ -1,25 +1,22 @@
 //! What classes redefine.
 
-ghost use Rattle.std.specs.Prelude.{◌≡◌, IfOk, map};
+ghost use Rattle.std.specs.Prelude.{◌≡◌, map};
 ghost use Rattle.sc_tree.specs.View.{clause_of, class_of, declaration_of, kind_of, name_of, type_if_any};
-ghost use Rattle.sc_class.specs.Internal.FaultAt.{FaultAt};
 ghost use Rattle.sc_class.specs.Internal.Found.{FindsFirstPlace};
 ghost use Rattle.sc_class.specs.Faults.Redefinition as redefinition;
-ghost use Rattle.sc_class.specs.Internal.Systems.{in_hierarchy, in_outline, in_ancestry};
+ghost use Rattle.sc_class.specs.Internal.Systems.{in_hierarchy, in_ancestry};
 
 use crate::class_tables::ancestry::Ancestry;
 use crate::class_tables::conformance::{is_same_type, type_conforms};
 use crate::class_tables::declared_names::redefined_in;
 use crate::class_tables::hierarchy::Hierarchy;
-use crate::class_tables::outline::Outline;
 use crate::faults::places::first_place;
 use crate::names::is_same_text;
 use sc_text::Span;
 use sc_tree::{Class, Clause, Declaration, DeclaredType, FeatureKind, Name};
-use std::alloc::{AllocError, Global};
 
 /// A fault of what the class redefines.
-fn bad_redefinition(ancestry: &Ancestry, class: &Class) -> Option<Span>
+pub fn bad_redefinition(ancestry: &Ancestry, class: &Class) -> Option<Span>
     ensures { FindsFirstPlace (redefinition.BadlyRedefines (in_ancestry ancestry.now) ancestry.now.number (class_of
         class.now)) result }
 {
@@ -126,18 +123,4 @@ fn is_same_formals(declared: &[Declaration], inherited: &[Declaration]) -> bool
         }
     }
     true
-}
-
-/// A fault of what one of the classes redefines.
-pub fn bad_redefinitions(alloc: Global, outline: &Outline) -> Result<Option<Span>, AllocError>
-    ensures { IfOk result (FindsFirstPlace (FaultAt (in_outline outline.now) (redefinition.BadlyRedefines (in_outline
-        outline.now)))) }
-{
-    let mut found = None;
-    let classes = outline.hierarchy.classes();
-    for (number, class) in classes.iter().enumerate() {
-        let ancestry = Ancestry { outline, number };
-        found = first_place(found, bad_redefinition(&ancestry, class));
-    }
-    Ok(found)
 }

@@ -38,7 +38,11 @@ fn creates_by(
     if !outline.creates(number, procedure) {
         return Ok(false);
     }
-    let ancestry = Ancestry { outline, number };
+    let ancestry = Ancestry {
+        outline,
+        number,
+        line: None,
+    };
     match ancestry.feature(procedure) {
         None => Ok(false),
         Some(entry) => Ok(is_plain_procedure(&entry.feature.kind)),

@@ -12,12 +12,12 @@ use Rattle.sc_class.proofs.checking.refuse_features.Goals as goal
 pub returns-in-Some-clause-fault : goal.returns-in-Some-clause-fault
 returns-in-Some-clause-fault c =
     let s = system_of c.args.outline.now.hierarchy.system.now in
-    inr (duplicated s (root_of c.args.root.now) c.in-Some.span (subst (FindsFirstPlace (FaultAt s (ClassClashes s))) c.in-Some.is c.in_ok-span.ensures).0)
+    inr (duplicated s (root_of c.args.root.now) c.in-Some.span (subst (FindsFirstPlace (FaultAt s (ClassClashes s))) c.in-Some.is c.in_ok-faults.ensures.clash).0)
 
-pub returns-in-Some-2-clause-fault : goal.returns-in-Some-2-clause-fault
-returns-in-Some-2-clause-fault c =
+pub returns-in-Some-redefinition-clause-fault : goal.returns-in-Some-redefinition-clause-fault
+returns-in-Some-redefinition-clause-fault c =
     let s = system_of c.args.outline.now.hierarchy.system.now in
-    inr (redefined_badly s (root_of c.args.root.now) c.in-Some-2.span (subst (FindsFirstPlace (FaultAt s (BadlyRedefines s))) c.in-Some-2.is c.in_ok-span-2.ensures).0)
+    inr (redefined_badly s (root_of c.args.root.now) c.in-Some-redefinition.span (subst (FindsFirstPlace (FaultAt s (BadlyRedefines s))) c.in-Some-redefinition.is c.in_ok-faults.ensures.redefinition).0)
 
 pub returns-then-not-branch-clause-fault : goal.returns-then-not-branch-clause-fault
 returns-then-not-branch-clause-fault c = inr (no_root (sym c.in_ok-has_root.ensures ∙ c.if-not-branch.true))
@@ -25,22 +25,22 @@ returns-then-not-branch-clause-fault c = inr (no_root (sym c.in_ok-has_root.ensu
 pub returns-in-Some-clause-first : goal.returns-in-Some-clause-first
 returns-in-Some-clause-first c = inr (least_4 (system_of c.args.outline.now.hierarchy.system.now) (root_of c.args.root.now) c.in-Some.span)
 
-pub returns-in-Some-2-clause-first : goal.returns-in-Some-2-clause-first
-returns-in-Some-2-clause-first c =
+pub returns-in-Some-redefinition-clause-first : goal.returns-in-Some-redefinition-clause-first
+returns-in-Some-redefinition-clause-first c =
     let s = system_of c.args.outline.now.hierarchy.system.now in
-    inr (least_5 s (root_of c.args.root.now) (subst (FindsFirstPlace (FaultAt s (ClassClashes s))) c.in_default.is c.in_ok-span.ensures) c.in-Some-2.span)
+    inr (least_5 s (root_of c.args.root.now) (subst (FindsFirstPlace (FaultAt s (ClassClashes s))) c.in_default.is c.in_ok-faults.ensures.clash) c.in-Some-redefinition.span)
 
 pub returns-then-not-branch-clause-first : goal.returns-then-not-branch-clause-first
 returns-then-not-branch-clause-first c =
     let s = system_of c.args.outline.now.hierarchy.system.now in
-    inr (least_6 s (root_of c.args.root.now) (subst (FindsFirstPlace (FaultAt s (ClassClashes s))) c.in_default.is c.in_ok-span.ensures) (subst (FindsFirstPlace (FaultAt s (BadlyRedefines s))) c.in_default-2.is c.in_ok-span-2.ensures))
+    inr (least_6 s (root_of c.args.root.now) (subst (FindsFirstPlace (FaultAt s (ClassClashes s))) c.in_default.is c.in_ok-faults.ensures.clash) (subst (FindsFirstPlace (FaultAt s (BadlyRedefines s))) c.in_default-redefinition.is c.in_ok-faults.ensures.redefinition))
 
 pub returns-in-Some-clause-place : goal.returns-in-Some-clause-place
 returns-in-Some-clause-place c =
     let s = system_of c.args.outline.now.hierarchy.system.now in
-    first_4 s (root_of c.args.root.now) c.in-Some.span (subst (FindsFirstPlace (FaultAt s (ClassClashes s))) c.in-Some.is c.in_ok-span.ensures)
+    first_4 s (root_of c.args.root.now) c.in-Some.span (subst (FindsFirstPlace (FaultAt s (ClassClashes s))) c.in-Some.is c.in_ok-faults.ensures.clash)
 
-pub returns-in-Some-2-clause-place : goal.returns-in-Some-2-clause-place
-returns-in-Some-2-clause-place c =
+pub returns-in-Some-redefinition-clause-place : goal.returns-in-Some-redefinition-clause-place
+returns-in-Some-redefinition-clause-place c =
     let s = system_of c.args.outline.now.hierarchy.system.now in
-    first_5 s (root_of c.args.root.now) c.in-Some-2.span (subst (FindsFirstPlace (FaultAt s (BadlyRedefines s))) c.in-Some-2.is c.in_ok-span-2.ensures)
+    first_5 s (root_of c.args.root.now) c.in-Some-redefinition.span (subst (FindsFirstPlace (FaultAt s (BadlyRedefines s))) c.in-Some-redefinition.is c.in_ok-faults.ensures.redefinition)

@@ -44,10 +44,9 @@ impl<'l, 't, 's> Features<'l, 't, 's> {
     pub fn place(&self, name: &str) -> Option<Span>
         ensures { result ≡ place_among name.now self.now }
     {
-        let class = self.ancestry.number;
         match self.part {
-            Part::All => self.ancestry.outline.place(class, name),
-            Part::Inherited => self.ancestry.outline.inherited_place(class, name),
+            Part::All => self.ancestry.place(name),
+            Part::Inherited => self.ancestry.inherited_place(name),
         }
     }
 }
