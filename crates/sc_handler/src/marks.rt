@@ -9,7 +9,7 @@ use sc_region::{Job, Request, Value, Want};
 /// The mark of a settlement, whatever its values are.
 pub(crate) fn settlement_mark(handler: HandlerNumber, job: &Job, turns: u32, want: &Want) -> u64 {
     let whose = (handler as u64) << 32 | turns as u64;
-    spread(job_word(job) ^ want_word(want).rotate_left(24) ^ whose)
+    spread(spread(job_word(job) ^ whose) ^ want_word(want))
 }
 
 /// The mark of values.
@@ -51,7 +51,7 @@ fn want_word(want: &Want) -> u64 {
 }
 
 fn request_word(request: &Request) -> u64 {
-    reference_word(request.target) ^ errand_word(request.errand).rotate_left(16)
+    spread(reference_word(request.target)) ^ errand_word(request.errand)
 }
 
 fn handlers_word(handlers: &ArrayVec<HandlerNumber, 16>) -> u64 {
