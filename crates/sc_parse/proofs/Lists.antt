@@ -1,6 +1,6 @@
 -- Reading the lists of a class, one turn at a time, by the numbers that code counts with.
 use Rattle.std.proofs.Common.{◌≡◌, ℕ, suc, ◌+◌, ◌-◌, ◌≤◌, ◌<◌, max, ◌||◌, Bool, true, false, List, [], ◌∷◌, ◌++◌, length, Ok, Err, ap, sym, ◌∙◌, arith}
-use Rattle.std.specs.Prelude.{if◌then◌else◌, map}
+use Rattle.std.specs.Prelude.{Result, MatchResult, if◌then◌else◌, map}
 use Rattle.std.proofs.lemmas.List.{map-append}
 use Rattle.sc_text.specs.declared.token.Terminal.TheVariants as terminal
 use Rattle.sc_tree.specs.Plain.{Name, Declaration, Clause, Feature, Parent, Class}
@@ -13,9 +13,22 @@ use Rattle.sc_parse.specs.Reading.Assertions.{clause, clauses_from, clauses}
 use Rattle.sc_parse.specs.Reading.Classes.{is_done, declaration, more_declarations, locals_from, locals, exports, feature, features_from, sections_from, sections, parent, parents_from, class, classes_from}
 use Rattle.sc_parse.proofs.Faults.{Fails-bind, Fails-along}
 use Rattle.sc_tree.proofs.ReadingSteps.{bind_ok, choose_true, choose_false}
-use Rattle.sc_parse.specs.Reading.Reads.{Fails}
+use Rattle.sc_parse.specs.Reading.Reads.{Fails, Gives, Takes}
 use Rattle.sc_parse.specs.declared.fault.ParseFault.{ParseFault}
+use Rattle.sc_parse.specs.declared.fault.ParseFault.TheVariants as fault
 use Rattle.sc_parse.proofs.Turns.{turns_of}
+
+-- ---- lists that are made of what was read
+
+pub Gives-made : {A X : Type 0} (view : X → A) (a : Read A) (r : Result X ParseFault) (x : A) (h : ℕ) (rest : Ahead) →
+    MatchResult r (λ v. view v ≡ x) (λ e. e ≡ fault.OutOfMemory) → a ≡ Ok (x, h, rest) → Gives view a r rest
+Gives-made view a (Ok v) x h rest e q = (h, rw e q)
+Gives-made view a (Err e) x h rest p q = rw p tt
+
+pub Takes-made : {A X : Type 0} (view : X → A) (a : Taken A) (r : Result X ParseFault) (x : A) (rest : Ahead) →
+    MatchResult r (λ v. view v ≡ x) (λ e. e ≡ fault.OutOfMemory) → a ≡ Ok (x, rest) → Takes view a r rest
+Takes-made view a (Ok v) x rest e q = rw e q
+Takes-made view a (Err e) x rest p q = rw p tt
 
 -- ---- names, formals, locals and parents
 

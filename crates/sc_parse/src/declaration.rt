@@ -1,10 +1,11 @@
 //! Formal arguments, locals and result types (ECMA-367, 8.5 and 8.8).
 
-ghost use Rattle.std.specs.Prelude.{◌≡◌, [], IfOk, map};
+ghost use Rattle.std.specs.Prelude.{◌≡◌, [], MatchResult, map};
 ghost use Rattle.sc_parse.specs.Reading.Looks.{left};
 ghost use Rattle.sc_tree.specs.Grammar.Classes as grammar;
 ghost use Rattle.sc_parse.specs.Reading.Classes as spec;
 ghost use Rattle.sc_parse.specs.Reading.Reads.{ahead, declarations_in, names_in, type_in, type_if_any_in, Takes};
+ghost use Rattle.sc_parse.specs.declared.fault.ParseFault.TheVariants.{OutOfMemory};
 
 use crate::cursor::Parser;
 use crate::fault::ParseFault;
@@ -12,16 +13,17 @@ use crate::list::fitted;
 use crate::types::copied_type;
 use sc_text::Terminal;
 use sc_tree::{Declaration, DeclaredType, Name};
-use std::alloc::{AllocError, Global};
+use std::alloc::Global;
 
 /// Each name, declared with the type.
 fn declared_with(
     alloc: Global,
     names: Vec<Name>,
     declared: &DeclaredType,
-) -> Result<Vec<Declaration>, AllocError>
-    ensures { IfOk result (λ ds. declarations_in ds
-        ≡ map (grammar.declared_as (type_in declared.now)) (names_in names)) }
+) -> Result<Vec<Declaration>, ParseFault>
+    ensures { MatchResult result (λ ds. declarations_in ds
+        ≡ map (grammar.declared_as (type_in declared.now)) (names_in names))
+        (λ e. e ≡ OutOfMemory) }
 {
     let mut declarations = Vec::new(alloc);
     for name in names {
@@ -43,8 +45,7 @@ impl<'a> Parser<'a> {
         let names = self.names()?;
         self.expect(Terminal::Colon)?;
         let declared = self.declared_type()?;
-        let declarations = declared_with(self.alloc, names, &declared)?;
-        Ok(declarations)
+        declared_with(self.alloc, names, &declared)
     }
 
     /// The formals of the first declaration and those of each that follows.

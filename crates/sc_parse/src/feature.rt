@@ -1,19 +1,20 @@
 //! Features, and whom they are exported to (ECMA-367, 8.5, 8.7 and 8.8).
 
-ghost use Rattle.std.specs.Prelude.{◌≡◌, ◌∷◌, ℕ, [], IfOk, IsTrue, map};
+ghost use Rattle.std.specs.Prelude.{◌≡◌, ◌∷◌, ℕ, [], IfOk, IsTrue, MatchResult, map};
 ghost use Rattle.sc_parse.specs.Reading.Looks.{left};
 ghost use Rattle.sc_tree.specs.Grammar.Classes as grammar;
 ghost use Rattle.sc_parse.specs.Reading.Classes as spec;
 ghost use Rattle.sc_tree.specs.Sections.{share_lists};
 ghost use Rattle.sc_parse.specs.Reading.Reads.{ahead, opening_in, opening_ahead, closing_in, closing_ahead, feature_with, declarations_in, features_in, name_in, names_in, type_in, type_if_any_in, Gives, Takes};
 ghost use Rattle.sc_parse.specs.Reading.Sections.{AddsExported, begun_at};
+ghost use Rattle.sc_parse.specs.declared.fault.ParseFault.TheVariants.{OutOfMemory};
 
 use crate::cursor::Parser;
 use crate::fault::ParseFault;
 use crate::types::copied_type;
 use sc_text::Terminal;
 use sc_tree::{Clause, Declaration, DeclaredType, Feature, FeatureKind, Instr, Name, Routine};
-use std::alloc::{AllocError, Global};
+use std::alloc::Global;
 use std::rc::Rc;
 
 /// The classes that a feature is exported to by this list; `ANY` alone is the same as no list.
@@ -32,9 +33,10 @@ fn attributes_of(
     exports: &Rc<Vec<Name>>,
     names: Vec<Name>,
     declared: &DeclaredType,
-) -> Result<Vec<Feature>, AllocError>
-    ensures { IfOk result (λ features. features_in features
-        ≡ map (grammar.attribute_of (names_in exports.now.value) (type_in declared.now)) (names_in names)) }
+) -> Result<Vec<Feature>, ParseFault>
+    ensures { MatchResult result (λ features. features_in features
+        ≡ map (grammar.attribute_of (names_in exports.now.value) (type_in declared.now)) (names_in names))
+        (λ e. e ≡ OutOfMemory) }
 {
     let mut features = Vec::new(alloc);
     for name in names {
@@ -56,9 +58,10 @@ fn one_feature(
     exports: &Rc<Vec<Name>>,
     name: Name,
     kind: FeatureKind,
-) -> Result<Vec<Feature>, AllocError>
-    ensures { IfOk result (λ features. features_in features
-        ≡ feature_with (names_in exports.now.value) (name_in name) kind ∷ []) }
+) -> Result<Vec<Feature>, ParseFault>
+    ensures { MatchResult result (λ features. features_in features
+        ≡ feature_with (names_in exports.now.value) (name_in name) kind ∷ [])
+        (λ e. e ≡ OutOfMemory) }
 {
     let exports = exports.clone()?;
     let mut features = Vec::new(alloc);
@@ -155,8 +158,7 @@ impl<'a> Parser<'a> {
             body,
             postcondition,
         };
-        let features = one_feature(self.alloc, exports, name, FeatureKind::Routine(routine))?;
-        Ok(features)
+        one_feature(self.alloc, exports, name, FeatureKind::Routine(routine))
     }
 
     /// What follows the name, the formals and the result type of a feature.
@@ -174,9 +176,7 @@ impl<'a> Parser<'a> {
         let is_attribute = formals.is_empty() && !self.begins_routine();
         match result_type {
             Some(declared) if is_attribute => {
-                let kind = FeatureKind::Attribute(declared);
-                let features = one_feature(self.alloc, exports, name, kind)?;
-                Ok(features)
+                one_feature(self.alloc, exports, name, FeatureKind::Attribute(declared))
             }
             result_type => self.routine(exports, name, formals, result_type, room),
         }
@@ -196,8 +196,7 @@ impl<'a> Parser<'a> {
         let names = self.more_names(first)?;
         self.expect(Terminal::Colon)?;
         let declared = self.declared_type()?;
-        let features = attributes_of(self.alloc, exports, names, &declared)?;
-        Ok(features)
+        attributes_of(self.alloc, exports, names, &declared)
     }
 
     /// A routine, or attributes of one type.

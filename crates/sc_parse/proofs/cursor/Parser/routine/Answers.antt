@@ -1,4 +1,4 @@
-use Rattle.std.proofs.Common.{◌≡◌, ℕ, max, List, [], ◌∷◌, Ok, ◌∙◌}
+use Rattle.std.proofs.Common.{◌≡◌, ℕ, max, List, [], ◌∷◌, Ok, refl, ◌∙◌}
 use Rattle.sc_parse.specs.Reading.Looks.{Ahead}
 use Rattle.sc_tree.specs.declared.system.FeatureKind.TheVariants as kind
 use Rattle.sc_tree.specs.declared.system.Routine.{Routine}
@@ -7,8 +7,9 @@ use Rattle.sc_parse.specs.Reading.Classes as spec
 use Rattle.sc_tree.specs.View.{kind_of}
 use Rattle.sc_tree.proofs.ReadingSteps.{bind_ok}
 use Rattle.std.proofs.lemmas.Result.{err_from_is_err_and}
-use Rattle.sc_parse.specs.Reading.Reads.{ahead, clauses_in, declarations_in, instrs_in, name_in, names_in, type_if_any_in, feature_with, opening_ahead, closing_ahead}
+use Rattle.sc_parse.specs.Reading.Reads.{ahead, clauses_in, declarations_in, instrs_in, name_in, names_in, type_if_any_in, features_in, feature_with, opening_ahead, closing_ahead}
 use Rattle.sc_parse.proofs.Faults.{Fails-along, Fails-bind}
+use Rattle.sc_parse.proofs.Lists.{Gives-made}
 use Rattle.sc_parse.proofs.Parts.{routine_is, routine_with, after_opening}
 use Rattle.sc_parse.proofs.cursor.Parser.routine.Goals as goal
 
@@ -48,7 +49,6 @@ returns-in_err-body c =
     (Fails-bind _ _ c.in_err-body.field-0.0 c.in_err-body.ensures))
 
 pub returns : goal.returns
-returns c = (
-  max c.in_ok-precondition.ensures.0 c.in_ok-body.ensures.0,
-  routine_read c.args.room _ _ _ (ahead c.args.self.now) _ _ _ _ _ c.in_ok-precondition.ensures.1 c.in_ok-body.ensures.1 c.in_ok-features.ensures,
-)
+returns c =
+    Gives-made features_in _ c.one_feature.result _ _ _ c.one_feature.ensures
+    (routine_read c.args.room _ _ _ (ahead c.args.self.now) _ _ _ _ _ c.in_ok-precondition.ensures.1 c.in_ok-body.ensures.1 refl)
