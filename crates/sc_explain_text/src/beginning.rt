@@ -3,7 +3,7 @@
 use crate::layout::Layout;
 use crate::lines::Lines;
 use crate::reading::{first_bytes, tokens_of, word_at};
-use sc_parse::{ParseFault, parse};
+use sc_parse::{ParseFault, let_go, parse};
 use sc_text::Token;
 use std::alloc::Global;
 
@@ -130,7 +130,10 @@ fn is_begun(alloc: Global, lines: &mut Lines, text: &str) -> bool {
 /// Whether a system begins with the tokens of a text of this length.
 fn are_begun(alloc: Global, lines: &mut Lines, tokens: &[Token], length: usize) -> bool {
     match parse(alloc, tokens) {
-        Ok(_) => true,
+        Ok(system) => {
+            let_go(system);
+            true
+        }
         Err(ParseFault::NotInGrammar { span }) => span.start >= end_of(tokens, length),
         Err(ParseFault::OutOfMemory) => {
             lines.lack();
