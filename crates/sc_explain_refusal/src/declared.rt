@@ -2,7 +2,7 @@
 
 use sc_explain_text::Related;
 use sc_text::Span;
-use sc_tree::{Class, Declaration, Feature, FeatureKind, Name, System};
+use sc_tree::{Class, Declaration, Feature, FeatureKind, Name, Routine, System};
 
 /// The other declaration of the name at fault: a class's where `is_class`, else that of a feature of the class or of an
 /// ancestor, or of a formal or a local of the routine.
@@ -124,11 +124,17 @@ pub fn feature_around(class: &Class, span: Span) -> Option<&Feature> {
     around
 }
 
+/// The routine that a feature is, if it is one.
+pub fn routine_of(feature: &Feature) -> Option<&Routine> {
+    match &feature.kind {
+        FeatureKind::Attribute(_) => None,
+        FeatureKind::Routine(routine) => Some(routine),
+    }
+}
+
 /// The place of another formal or local of the name.
 fn other_in_routine(feature: &Feature, name: &str, span: Span) -> Option<Span> {
-    let FeatureKind::Routine(routine) = &feature.kind else {
-        return None;
-    };
+    let routine = routine_of(feature)?;
     let found = other_declared(&routine.formals, name, span);
     if found.is_some() {
         return found;

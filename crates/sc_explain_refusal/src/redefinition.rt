@@ -1,11 +1,11 @@
 //! What a redefinition lacks.
 
 use crate::declared::{
-    class_around, declared_in, feature_around, feature_named, inherits, parent_of,
+    class_around, declared_in, feature_around, feature_named, inherits, parent_of, routine_of,
 };
 use sc_explain_text::{Lines, word_at};
 use sc_text::Span;
-use sc_tree::{Class, Feature, FeatureKind, Name, System};
+use sc_tree::{Class, Feature, Name, System};
 
 /// Adds how a feature that has the name of an inherited one is declared, where the one at fault has or is inherited.
 pub fn push_redefine(lines: &mut Lines, text: &str, system: &System, span: Span) {
@@ -96,18 +96,18 @@ fn lacking_in_list(system: &System, class: &Class, span: Span) -> &'static str {
 
 /// What is wrong with a feature that redefines another.
 fn lacking_in_feature(system: &System, class: &Class, feature: &Feature) -> &'static str {
-    match (&feature.kind, inherited(system, class, &feature.name)) {
-        (FeatureKind::Attribute(_), _) => "an attribute redefines nothing: give it another name",
-        (_, Some(known)) if !is_routine(known) => {
-            "an attribute isn't redefined: give the routine another name"
-        }
-        (FeatureKind::Routine(routine), _) => {
-            if routine.precondition.is_empty() && routine.postcondition.is_empty() {
-                "a redefinition has formals of the same names and types, and a result that conforms, or none as well"
-            } else {
-                "a redefinition keeps the contract that it inherits: leave `require` and `ensure` out"
-            }
-        }
+    let Some(routine) = routine_of(feature) else {
+        return "an attribute redefines nothing: give it another name";
+    };
+    if let Some(known) = inherited(system, class, &feature.name)
+        && !is_routine(known)
+    {
+        return "an attribute isn't redefined: give the routine another name";
+    }
+    if routine.precondition.is_empty() && routine.postcondition.is_empty() {
+        "a redefinition has formals of the same names and types, and a result that conforms, or none as well"
+    } else {
+        "a redefinition keeps the contract that it inherits: leave `require` and `ensure` out"
     }
 }
 
@@ -129,8 +129,5 @@ fn inherited<'s>(system: &'s System, class: &Class, name: &Name) -> Option<&'s F
 }
 
 fn is_routine(feature: &Feature) -> bool {
-    match &feature.kind {
-        FeatureKind::Attribute(_) => false,
-        FeatureKind::Routine(_) => true,
-    }
+    routine_of(feature).is_some()
 }

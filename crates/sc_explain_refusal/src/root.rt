@@ -1,9 +1,9 @@
 //! Why a system can't be run from a root, and from which it can.
 
-use crate::declared::feature_named;
+use crate::declared::{feature_named, routine_of};
 use sc_class::Root;
 use sc_explain_text::{Lines, word_at};
-use sc_tree::{Class, Feature, FeatureKind, System};
+use sc_tree::{Class, Feature, Routine, System};
 
 /// Adds why the system of a text isn't run from this root, and what helps.
 pub fn explain_root(lines: &mut Lines, text: &str, system: &System, root: &Root) {
@@ -46,24 +46,29 @@ fn words_of(feature: Option<&Feature>) -> (&'static str, &'static str) {
             "help: declare it, as `make do .. end`, and list it under `create`\n",
         );
     };
-    match &feature.kind {
-        FeatureKind::Routine(routine) if routine.result_type.is_none() => {
-            if routine.formals.is_empty() {
-                (
-                    " isn't listed under `create`\n",
-                    "help: list it before the first `feature`, as `create make`\n",
-                )
-            } else {
-                (
-                    " has formals, and a run begins without actuals\n",
-                    "help: declare a procedure without formals, and list it under `create`\n",
-                )
-            }
-        }
-        _ => (
+    match procedure_of(feature) {
+        None => (
             " gives a value, and a run begins with a procedure\n",
             "help: declare a procedure without formals, and list it under `create`\n",
         ),
+        Some(procedure) if procedure.formals.is_empty() => (
+            " isn't listed under `create`\n",
+            "help: list it before the first `feature`, as `create make`\n",
+        ),
+        Some(_) => (
+            " has formals, and a run begins without actuals\n",
+            "help: declare a procedure without formals, and list it under `create`\n",
+        ),
+    }
+}
+
+/// The routine that a feature is, if it gives no value.
+fn procedure_of(feature: &Feature) -> Option<&Routine> {
+    let routine = routine_of(feature)?;
+    if routine.result_type.is_none() {
+        Some(routine)
+    } else {
+        None
     }
 }
 
@@ -114,11 +119,9 @@ fn push_other_root(lines: &mut Lines, text: &str, system: &System, root: &Root) 
 fn is_root<'s>(system: &'s System, class: &'s Class, name: &str) -> bool {
     match feature_named(system, class, name) {
         None => false,
-        Some(feature) => match &feature.kind {
-            FeatureKind::Attribute(_) => false,
-            FeatureKind::Routine(routine) => {
-                routine.result_type.is_none() && routine.formals.is_empty()
-            }
+        Some(feature) => match procedure_of(feature) {
+            None => false,
+            Some(procedure) => procedure.formals.is_empty(),
         },
     }
 }

@@ -121,15 +121,23 @@ pub fn part_of(text: &str, span: Span) -> &str {
 fn is_closed(part: &str) -> bool {
     let mut depth = 0_usize;
     for byte in part.as_bytes() {
-        match byte {
-            b'(' => depth = depth.saturating_add(1),
-            b'\n' => return false,
-            b')' if depth == 0 => return false,
-            b')' => depth -= 1,
-            _ => {}
-        }
+        let Some(behind) = depth_behind(depth, *byte) else {
+            return false;
+        };
+        depth = behind;
     }
     depth == 0
+}
+
+/// How many parentheses are open behind a byte of a part, where so many are open before it; none where the part ends its
+/// line there or closes what it hasn't opened.
+fn depth_behind(depth: usize, byte: u8) -> Option<usize> {
+    match byte {
+        b'(' => depth.checked_add(1),
+        b')' => depth.checked_sub(1),
+        b'\n' => None,
+        _ => Some(depth),
+    }
 }
 
 /// Adds a part of the text in quotes, or `this` where there is none, between words.

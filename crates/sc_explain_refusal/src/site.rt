@@ -31,7 +31,7 @@ pub enum Kind {
 }
 
 /// Where in a body something stands.
-#[derive(Clone, Copy, PartialEq, Eq)]
+#[derive(Clone, Copy)]
 pub enum Place {
     /// In an instruction, outside of the conditions of ifs and loops.
     Instruction,

@@ -1,7 +1,7 @@
 //! A sentence on one fault, with the types and names that are found in the checked tables.
 
 use crate::class_tables::{let_tables_go, tables_of};
-use crate::declared::{class_around, feature_around};
+use crate::declared::{class_around, feature_around, routine_of};
 use crate::scope::{Scope, part_of};
 use crate::site::{Aim, Found, Kind, Place, Search, pass_clauses};
 use crate::walk::Walk;
@@ -9,7 +9,7 @@ use sc_class::{ClassId, Root, Tables};
 use sc_explain_text::Lines;
 use sc_rules::{Context, Rule};
 use sc_text::Span;
-use sc_tree::{Class, FeatureKind, Name, Routine, System};
+use sc_tree::{Class, Name, Routine, System};
 use sc_typing::{Purity, RoutineContext, result_type};
 use std::alloc::Global;
 
@@ -210,10 +210,7 @@ fn routine_in<'s>(class: &RoutineContext<'s, 's>, text: &'s Routine) -> RoutineC
 
 /// The routine that is the feature around a part of the text, if it is one.
 fn routine_around(class: &Class, span: Span) -> Option<&Routine> {
-    match &feature_around(class, span)?.kind {
-        FeatureKind::Attribute(_) => None,
-        FeatureKind::Routine(text) => Some(text),
-    }
+    routine_of(feature_around(class, span)?)
 }
 
 /// Whether one of the names stands there.
