@@ -296,7 +296,10 @@ const ROWS: &str = "0 1|differs 0
 0 5, 0 9999996|bad 3";
 
 /// The same of the first version.
-const FIRST_ROWS: &str = "0 5, 63 1|yes
+const FIRST_ROWS: &str = "0 4|differs 0
+0 5|yes
+0 6|yes
+0 5, 63 1|yes
 0 5, 64 1|bad 3";
 
 #[test]
@@ -321,41 +324,6 @@ end 1
 #[test]
 fn altered_records_of_the_smallest_run(rt: HostRuntime) -> Result<(), Fail> {
     expect(&rt, FIVE_TURNS, &[(Says::Altered, FIVE_TURNS_ANSWERS)])
-}
-
-/// Texts, and what the audit of the same run answers to each.
-const TEXTS: &str = "scoop record 1
-0 5
-end 1
-|yes
-#
-scoop record 1
-0 6
-end 1
-|yes
-#
-scoop record 1
-0 4
-end 1
-|differs 0
-#
-scoop record 1
-0 05
-end 1
-|bad 2
-#
-scoop record 1
-0 5
-|bad 3
-#
-scoop record 1
-0 5
-end 2
-|bad 3";
-
-#[test]
-fn texts_that_are_nearly_its_record(rt: HostRuntime) -> Result<(), Fail> {
-    expect(&rt, FIVE_TURNS, &[(Says::Text, TEXTS)])
 }
 
 /// The record of the run of RELAY on one worker: handlers take turns in the order of their numbers, and each goes on until it

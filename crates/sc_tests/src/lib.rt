@@ -1,18 +1,16 @@
 //! Tests alone, of what the program doesn't show and no clause says.
 //!
-//! Tables of rows, each a text or some steps and what comes of it: a formula of 3,000 levels ([`formulas`]), how long code
-//! may be ([`lowered`]), a handler's store ([`stores`]) and its log ([`worklogs`]). Runs by several workers ([`together`]),
-//! audits with records that aren't a run's own ([`audits`]), and worlds that one thread plays ([`worlds`]).
+//! Tables of rows, each a text or some steps and what comes of it: a formula of 3,000 levels ([`formulas`]), a handler's store
+//! ([`stores`]) and its log ([`worklogs`]). Runs by several workers ([`together`]), audits with records that aren't a run's own
+//! ([`audits`]), and worlds that one thread plays ([`worlds`]).
 //!
-//! `proofs/` has rows of definitions: of rights, entries, conformance and of what is seen through a call.
+//! `proofs/` has rows of definitions: of rights, entries, conformance, of what is seen through a call, and of how long code is.
 #![tactic(auto)]
 
 #[cfg(test)]
 mod audits;
 #[cfg(test)]
 mod formulas;
-#[cfg(test)]
-mod lowered;
 #[cfg(test)]
 mod programs;
 #[cfg(test)]

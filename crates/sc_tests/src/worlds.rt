@@ -1,35 +1,12 @@
-//! Worlds that one thread plays, number by number, also where memory is refused to a turn.
+//! Worlds that one thread plays, number by number, where memory is refused to a turn.
 
 use crate::programs::program_of;
 use crate::rows::{expect_text, text_of};
 use crate::together::{RELAY, RELAY_REPORT};
 use sc_lockpass::{HandlerNumber, Version};
-use sc_world::{Turned, World};
-use std::alloc::AllocError;
+use sc_world::World;
 use std::process::Abort;
 use std::test::Fail;
-
-/// The turn of a handler. Where memory is refused to it nothing has changed, so that it can be made again.
-fn turn_again(world: &mut World<'_>, handler: HandlerNumber) -> Result<Turned, AllocError> {
-    match world.turn(handler) {
-        Err(_) => world.turn(handler),
-        turned => turned,
-    }
-}
-
-/// The turns of these handlers come to this, one after the other.
-fn expect_turns<R: Abort>(
-    rt: &R,
-    world: &mut World<'_>,
-    handlers: &[HandlerNumber],
-    wanted: Turned,
-) -> Result<(), Fail> {
-    for handler in handlers {
-        let turned = turn_again(world, *handler)?;
-        assert!(rt; turned == wanted);
-    }
-    Ok(())
-}
 
 /// A call back to the caller's handler.
 const CALLBACK: &str = "class APPLICATION create make
@@ -47,13 +24,10 @@ feature
 end
 ";
 
-/// Its turns, of which each moves.
+/// Its turns.
 const CALLBACK_TURNS: [HandlerNumber; 22] = [
     0, 0, 0, 1, 0, 0, 1, 1, 1, 0, 0, 0, 1, 1, 0, 1, 1, 1, 0, 0, 0, 0,
 ];
-
-/// Handlers that aren't there: none of them has a turn.
-const STRANGERS: [HandlerNumber; 7] = [2, 63, 64, 255, 511, 512, 65535];
 
 const CALLBACK_REPORT: &str = "handler 0 free refused 0 output 2
 11
@@ -61,24 +35,6 @@ handler 1 free refused 0 output 1
 1
 stopped idle
 ";
-
-fn expect_moves<R: Abort>(rt: &R, world: &mut World<'_>) -> Result<(), Fail> {
-    for handler in &CALLBACK_TURNS {
-        expect_turns(rt, world, &[*handler], Turned::Moved)?;
-        expect_turns(rt, world, &STRANGERS, Turned::Nothing)?;
-    }
-    expect_turns(rt, world, &[0, 1], Turned::Nothing)?;
-    let report = text_of(world.report()?)?;
-    expect_text(rt, &report, CALLBACK_REPORT, CALLBACK);
-    Ok(())
-}
-
-#[test]
-fn says_whether_a_turn_moves(rt: HostRuntime) -> Result<(), Fail> {
-    let program = program_of(rt.alloc(), CALLBACK, "application", "make")?;
-    let mut world = World::open(rt.alloc(), &program, Version::One)?;
-    expect_moves(&rt, &mut world)
-}
 
 /// A handler that calls a routine of its own.
 const RAISING: &str = "class APPLICATION create make
