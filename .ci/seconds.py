@@ -7,6 +7,7 @@ proof, of its tests (they are proved with the crate once more, and run) and of i
 The status is that of `rt ci`. It says nothing of the kind itself, so its checks are looked at twice a second in /proc.
 Told to stop, this ends the checks that run, and waits until `rt ci` has put back what it had set aside.
 """
+import glob
 import os
 import re
 import signal
@@ -20,12 +21,12 @@ PARTS = ("proof", "tests", "edits")
 
 
 class Process:
-    """A process as /proc tells of it: its parent, and its seconds with those of its children that have ended."""
+    """A process as /proc tells of it: its seconds with those of its children that have ended."""
 
     def __init__(self, number):
         with open(f"/proc/{number}/stat", encoding="utf-8", errors="replace") as it:
             fields = it.read().rpartition(")")[2].split()
-        self.number, self.parent, self.started = number, int(fields[1]), fields[19]
+        self.number, self.started = number, int(fields[19])
         self.seconds = sum(map(int, fields[11:15])) / TICKS
 
     def words(self):
@@ -36,14 +37,26 @@ class Process:
         return os.path.basename(os.readlink(f"/proc/{self.number}/cwd"))
 
 
-def processes():
+def children(number):
+    """Returns the processes that a process has started, by its threads, as /proc lists them."""
     found = []
-    for name in filter(str.isdigit, os.listdir("/proc")):
+    for thread in glob.glob(f"/proc/{number}/task/*/children"):
         try:
-            found.append(Process(int(name)))
-        except (OSError, IndexError, ValueError):
-            pass  # it has ended
+            with open(thread, encoding="utf-8") as it:
+                numbers = it.read().split()
+        except OSError:
+            continue
+        for child in map(int, numbers):
+            try:
+                found.append(Process(child))
+            except (OSError, IndexError, ValueError):
+                pass  # it has ended
     return found
+
+
+def whole(process):
+    """Returns the seconds of a process and of all that it has started."""
+    return process.seconds + sum(map(whole, children(process.number)))
 
 
 def part_of(process):
@@ -67,15 +80,7 @@ class Costs:
         self.started, self.begun, self.of_process, self.parts, self.ended = started, time.time(), {}, {}, {}
 
     def look(self):
-        now = processes()
-        children = {}
-        for it in now:
-            children.setdefault(it.parent, []).append(it)
-
-        def whole(it):
-            return it.seconds + sum(map(whole, children.get(it.number, [])))
-
-        for it in children.get(self.started, []):
+        for it in children(self.started):
             key = it.number, it.started
             # (a check is another program for the moment in which it starts)
             self.parts[key] = self.parts.get(key) or part_of(it)
@@ -106,8 +111,8 @@ def end(running):
     threading.Thread(target=running.stdout.read, daemon=True).start()
     running.send_signal(signal.SIGINT)
     while running.poll() is None:
-        for it in processes():
-            if it.parent == running.pid and part_of(it):
+        for it in children(running.pid):
+            if part_of(it):
                 try:
                     os.kill(it.number, signal.SIGKILL)
                 except OSError:
