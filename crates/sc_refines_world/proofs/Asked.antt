@@ -25,8 +25,8 @@ use Rattle.sc_handler.specs.Changes.{answered, fallen, is_waited_by, placed, req
 use Rattle.sc_handler.specs.Fits.{fits_turns}
 use Rattle.sc_request.specs.Sessions.{answer_to, fail, finish, is_callback, passed_if, passes, release, return_rights, send, with_handler}
 use Rattle.sc_request.specs.Settling.{asks_of, awaits_if, begun, creates, creates_with, creation, done, done_if, ends, ends_service, made_at, may_ask, posts_unheld, sends, settled, waits_again}
-use Rattle.sc_machine_rights.specs.Points.{Each}
-use Rattle.sc_machine_rights.proofs.Lists.{each_append}
+use Rattle.sc_machine_laws.specs.states.Points.{Each}
+use Rattle.sc_machine_laws.proofs.states.Lists.{each_append}
 
 -- ---- requests
 

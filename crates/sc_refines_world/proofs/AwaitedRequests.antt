@@ -9,18 +9,18 @@ use Rattle.sc_model.specs.Failures.{requests_at}
 use Rattle.sc_model.specs.Handlers as machine
 use Rattle.sc_model.specs.Handlers.{Awaits, Failed, InCall, Refused, Reply, Reserves, ReservesBlock, Runs}
 use Rattle.sc_model.specs.Runs.{IsReached}
-use Rattle.sc_machine_rights.specs.World.{Frame, Handler, Request, SupplierFailed, Wait, World, and_begun, and_this, popped, requests_of}
-use Rattle.sc_machine_rights.specs.Consistent.{IsOne, IsOpen, StackWaits}
-use Rattle.sc_machine_rights.specs.Headline.{lower, topmost}
-use Rattle.sc_machine_rights.specs.Lawful.{IsLawful}
-use Rattle.sc_machine_rights.specs.Served.{Serves}
-use Rattle.sc_machine_rights.specs.Stands.{AreBlocks, AreRequests, Awaited, IsCreation, IsPoster, IsRequest, IsRoutine, IsStack, IsStaged, NamesOf, NeedsOf, Place, Stands, answer_of, place_of}
-use Rattle.sc_machine_rights.specs.Steps.{IsTold, answered, waits_for}
-use Rattle.sc_machine_rights.proofs.MachineFrames.{contains_cases, contains_first, contains_later, contains_none}
-use Rattle.sc_machine_rights.proofs.Waits.{true_false}
-use Rattle.sc_machine_rights.proofs.links.Reached.{reached_stands}
-use Rattle.sc_machine_contracts.proofs.StandingRequests.{begun_in, standing, standing_is, this_if}
-use Rattle.sc_machine_contracts.proofs.Tops.{reply_same}
+use Rattle.sc_machine_laws.specs.states.World.{Frame, Handler, Request, SupplierFailed, Wait, World, and_begun, and_this, popped, requests_of}
+use Rattle.sc_machine_laws.specs.states.Consistent.{IsOne, IsOpen, StackWaits}
+use Rattle.sc_machine_laws.specs.states.Headline.{lower, topmost}
+use Rattle.sc_machine_laws.specs.states.Lawful.{IsLawful}
+use Rattle.sc_machine_laws.specs.states.Served.{Serves}
+use Rattle.sc_machine_laws.specs.states.Stands.{AreBlocks, AreRequests, Awaited, IsCreation, IsPoster, IsRequest, IsRoutine, IsStack, IsStaged, NamesOf, NeedsOf, Place, Stands, answer_of, place_of}
+use Rattle.sc_machine_laws.specs.states.Steps.{IsTold, answered, waits_for}
+use Rattle.sc_machine_laws.proofs.states.MachineFrames.{contains_cases, contains_first, contains_later, contains_none}
+use Rattle.sc_machine_laws.proofs.states.Waits.{true_false}
+use Rattle.sc_machine_laws.proofs.states.links.Reached.{reached_stands}
+use Rattle.sc_machine_laws.proofs.StandingRequests.{begun_in, standing, standing_is, this_if}
+use Rattle.sc_machine_laws.proofs.Tops.{reply_same}
 use Rattle.sc_refines_world.specs.Moving.{HasRequestAt, WaitersHaveRequests}
 
 none_some : {X A : Type 0} (x : X) → None ≡ Some x → A

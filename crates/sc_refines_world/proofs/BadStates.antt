@@ -28,13 +28,13 @@ use Rattle.sc_model.specs.Steps.{Point, Unqualified}
 use Rattle.sc_model.specs.Tasks.{Print, Require}
 use Rattle.sc_model.specs.Turns.{turn}
 use Rattle.sc_model.specs.Values.{Attached, Boolean, Integer, Void}
-use Rattle.sc_machine_rights.specs.Headline.{topmost}
-use Rattle.sc_machine_rights.specs.Fitting.{IsThere, is_due, is_made}
-use Rattle.sc_machine_rights.specs.Places.{StandsAs, attribute, no_names}
-use Rattle.sc_machine_rights.specs.Points as point
-use Rattle.sc_machine_rights.specs.Points.{Agrees}
-use Rattle.sc_machine_rights.specs.ValueSteps.{is_excluded}
-use Rattle.sc_machine_rights.specs.Typed.{IsTyped, Known}
+use Rattle.sc_machine_laws.specs.states.Headline.{topmost}
+use Rattle.sc_machine_laws.specs.states.Fitting.{IsThere, is_due, is_made}
+use Rattle.sc_machine_laws.specs.states.Places.{StandsAs, attribute, no_names}
+use Rattle.sc_machine_laws.specs.states.Points as point
+use Rattle.sc_machine_laws.specs.states.Points.{Agrees}
+use Rattle.sc_machine_laws.specs.states.ValueSteps.{is_excluded}
+use Rattle.sc_machine_laws.specs.states.Typed.{IsTyped, Known}
 use Rattle.sc_refines_world.specs.Moving.{HasRequestAt}
 use Rattle.sc_refines_world.specs.Refining.{HasHeadline}
 use Rattle.sc_refines_world.specs.Texts.{IsBehindFormals, IsTypedByRules, KnowsItsText}

@@ -12,12 +12,12 @@ use Rattle.sc_model.specs.Routines.{Routine}
 use Rattle.sc_model.specs.Steps.{Point, Unqualified}
 use Rattle.sc_model.specs.Tasks.{Require}
 use Rattle.sc_model.specs.Values.{Reference, Value}
-use Rattle.sc_machine_contracts.specs.RequestLaws as laws
-use Rattle.sc_machine_contracts.specs.RequestLaws.{AnswerComes, MayAnswer}
-use Rattle.sc_machine_rights.specs.Fitting.{MayEnd}
-use Rattle.sc_machine_rights.specs.Fitting as fitting
-use Rattle.sc_refines_core.specs.Entries.{HasStarted}
-use Rattle.sc_machine_contracts.specs.Starting.{IsVerdict}
+use Rattle.sc_machine_laws.specs.RequestLaws as laws
+use Rattle.sc_machine_laws.specs.RequestLaws.{AnswerComes, MayAnswer}
+use Rattle.sc_machine_laws.specs.states.Fitting.{MayEnd}
+use Rattle.sc_machine_laws.specs.states.Fitting as fitting
+use Rattle.sc_machine_laws.specs.settlements.Entries.{HasStarted}
+use Rattle.sc_machine_laws.specs.Starting.{IsVerdict}
 use Rattle.sc_refines_world.specs.Moving as moving
 use Rattle.sc_refines_world.specs.Moving.{AsksForNone, Begins, BeginsWithOne, ComesTo, FramesMove, IsEntered, IsTaken, call, end, fall, go_on, refuse, return, stay, take_callback, take_next}
 use Rattle.sc_refines_world.specs.Refining.{ComeUnderRight}

@@ -25,11 +25,11 @@ use Rattle.sc_refines_region.specs.RegionHalves.{IsHalfOfFrame, IsStageFor, IsTo
 use Rattle.sc_refines_region.specs.RegionTurns.{Half, told, told_frames}
 use Rattle.sc_refines_region.specs.Turns.{begun_half}
 use Rattle.sc_refines_region.specs.Waiting.{IsInContract, IsVersion}
-use Rattle.sc_machine_rights.specs.Fitting.{FrameFits, WorldFits, coming_to}
-use Rattle.sc_machine_rights.specs.Points.{Each, PointFits, types_of}
-use Rattle.sc_machine_rights.specs.ValueSteps.{IsThereIfOwn, StepFits, ValuesDo}
-use Rattle.sc_machine_rights.proofs.Frames.{store_fits, values_there}
-use Rattle.sc_machine_rights.proofs.Moves.{moves_fit}
+use Rattle.sc_machine_laws.specs.states.Fitting.{FrameFits, WorldFits, coming_to}
+use Rattle.sc_machine_laws.specs.states.Points.{Each, PointFits, types_of}
+use Rattle.sc_machine_laws.specs.states.ValueSteps.{IsThereIfOwn, StepFits, ValuesDo}
+use Rattle.sc_machine_laws.proofs.states.Frames.{store_fits, values_there}
+use Rattle.sc_machine_laws.proofs.states.Moves.{moves_fit}
 
 -- the routine is a version, and where its next visible step finds a clause false, it stands in its contract there
 abbrev pub StandsInContract : System → Reference → Routine → Point → Type 0

@@ -34,7 +34,7 @@ use Rattle.sc_model.specs.Steps.{Act, Creates, CreatesHandler, Does, Enters, Exi
 use Rattle.sc_model.specs.Takes.{replies, takes_answer, takes_creation, takes_errand, takes_kind, takes_next, takes_version}
 use Rattle.sc_model.specs.Turns.{effect, goes_on, settles, turn_with, waits}
 use Rattle.sc_model.specs.Values.{Attached, Operand, Reference, Value, operand, values_of}
-use Rattle.sc_machine_rights.proofs.links.Looks.{m_put-off, m_put-own}
+use Rattle.sc_machine_laws.proofs.states.links.Looks.{m_put-off, m_put-own}
 use Rattle.sc_refines_world.specs.Moving.{Acts, BeginsWithOne, CreatedBeginWithOne}
 
 -- ---- what leaves the number of handlers

@@ -33,9 +33,9 @@ use Rattle.sc_model.specs.Tasks.{Declare, Do, Forget, In, Task, ensures, keeps_o
 use Rattle.sc_model.specs.Olds.{olds_of_clauses}
 use Rattle.sc_model.specs.Turns.{effect}
 use Rattle.sc_model.specs.Values.{Attached, Operand, Reference, Value, operand, values_of}
-use Rattle.sc_machine_rights.specs.Places.{called_name}
-use Rattle.sc_refines_core.specs.Entries.{HasStarted}
-use Rattle.sc_machine_contracts.specs.Starting.{IsVerdict}
+use Rattle.sc_machine_laws.specs.states.Places.{called_name}
+use Rattle.sc_machine_laws.specs.settlements.Entries.{HasStarted}
+use Rattle.sc_machine_laws.specs.Starting.{IsVerdict}
 use Rattle.sc_refines_world.specs.Moving as moving
 use Rattle.sc_refines_world.specs.Moving.{Acts, AsksForNone, ComesTo, FramesMove, GoesOn, IsTaken, RequestsStay, call, end, fall, go_on, is_plain, refuse, return, stay, take_callback, take_next}
 use Rattle.sc_refines_world.proofs.StayingRequests.{Alike, alike_again, alike_same, alike_to, counted_like, rest_same, rest_alike, put_own, put_like, release_like, finish_like, passes_like, send_like, new_like, stack_own, rest_put, rest_stack, fails_falls, either, IsHanded, handed_same}

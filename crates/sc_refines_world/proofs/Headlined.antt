@@ -1,14 +1,14 @@
 -- The headline holds of each state that the machine on an accepted system reaches.
-use Rattle.sc_machine_rights.proofs.MachineHolders.{machine_callbacks_come_first, machine_only_waiters_are_told, machine_replies_meet_none, machine_reserved_are_held, machine_waiters_are_told}
-use Rattle.sc_machine_rights.proofs.MachineChains.{machine_chains_hold, machine_targets_are_kept}
-use Rattle.sc_machine_rights.proofs.Posts.{posted_under_right}
-use Rattle.sc_machine_rights.proofs.links.Held.{reached_formals_are_held, reached_names_are_held}
-use Rattle.sc_machine_rights.proofs.links.Reached.{reached_stands}
-use Rattle.sc_machine_rights.proofs.ValueAwaitedEnds.{each_non_separate_is_own, each_value_fits}
-use Rattle.sc_machine_contracts.proofs.Tops.{beyond_is_unused}
-use Rattle.sc_machine_contracts.proofs.Turned.{answers_come}
-use Rattle.sc_machine_contracts.proofs.Starts.{bodies_start_where_they_hold}
-use Rattle.sc_machine_contracts.specs.SettledObjects.{SettledMeetWhereReached}
+use Rattle.sc_machine_laws.proofs.states.MachineHolders.{machine_callbacks_come_first, machine_only_waiters_are_told, machine_replies_meet_none, machine_reserved_are_held, machine_waiters_are_told}
+use Rattle.sc_machine_laws.proofs.states.MachineChains.{machine_chains_hold, machine_targets_are_kept}
+use Rattle.sc_machine_laws.proofs.states.Posts.{posted_under_right}
+use Rattle.sc_machine_laws.proofs.states.links.Held.{reached_formals_are_held, reached_names_are_held}
+use Rattle.sc_machine_laws.proofs.states.links.Reached.{reached_stands}
+use Rattle.sc_machine_laws.proofs.states.ValueAwaitedEnds.{each_non_separate_is_own, each_value_fits}
+use Rattle.sc_machine_laws.proofs.Tops.{beyond_is_unused}
+use Rattle.sc_machine_laws.proofs.Turned.{answers_come}
+use Rattle.sc_machine_laws.proofs.Starts.{bodies_start_where_they_hold}
+use Rattle.sc_machine_laws.specs.SettledObjects.{SettledMeetWhereReached}
 use Rattle.sc_refines_world.specs.Refining.{MachineHasHeadline}
 use Rattle.sc_refines_world.proofs.ReachedMoves.{reached_turns_move}
 use Rattle.sc_refines_world.proofs.Ownership.{reached_frames_run_on_own, reached_no_turn_is_excluded, reached_objects_are_of_classes, reached_references_lead, reached_requests_stand_at_targets}

@@ -12,8 +12,8 @@ use Rattle.sc_rules.specs.Names.{Entities, Entity, entity, block_type, blocks, f
 use Rattle.sc_model.specs.Values.{Value, Operand, default_of}
 use Rattle.sc_model.specs.Environments.{Binding, bind, block_bound, formals_bound, is_formal, known_of, locals_bound, name_bound, scope_of, with_binding}
 use Rattle.sc_model.specs.Routines.{Routine}
-use Rattle.sc_machine_rights.specs.Points.{Each}
-use Rattle.sc_machine_rights.proofs.Lists.{each_append}
+use Rattle.sc_machine_laws.specs.states.Points.{Each}
+use Rattle.sc_machine_laws.proofs.states.Lists.{each_append}
 use Rattle.sc_refines_world.specs.Texts.{IsBehindFormals}
 
 -- ---- names

@@ -19,11 +19,11 @@ use Rattle.sc_model.specs.Steps.{Act, Creates, CreatesHandler, Does, Enters, Exi
 use Rattle.sc_model.specs.Tasks.{Task, tasks_of}
 use Rattle.sc_model.specs.Turns.{turn}
 use Rattle.sc_model.specs.Values.{Reference, Value, values_of}
-use Rattle.sc_machine_contracts.specs.RequestLaws.{Stays}
-use Rattle.sc_machine_contracts.proofs.Turned.{others_stay}
-use Rattle.sc_machine_rights.specs.Fitting.{FrameFits}
-use Rattle.sc_machine_rights.specs.Points.{Each}
-use Rattle.sc_machine_rights.proofs.Lists.{each_in}
+use Rattle.sc_machine_laws.specs.RequestLaws.{Stays}
+use Rattle.sc_machine_laws.proofs.Turned.{others_stay}
+use Rattle.sc_machine_laws.specs.states.Fitting.{FrameFits}
+use Rattle.sc_machine_laws.specs.states.Points.{Each}
+use Rattle.sc_machine_laws.proofs.states.Lists.{each_in}
 use Rattle.sc_refines_world.specs.Moving as moving
 use Rattle.sc_refines_world.specs.Moving.{Acts, ComesTo, FramesMove, GoesOn, IsEntered, IsTaken, call, end, fall, go_on, is_plain, refuse, return, stay, take_callback, take_next}
 use Rattle.sc_refines_world.specs.Texts.{FramesAreTyped, FramesKnowTheirTexts, IsBehindFormals}

@@ -9,8 +9,8 @@ use Rattle.sc_refines_region.specs.Placed.{SoundJobsAreTaken}
 use Rattle.sc_refines_region.specs.Sound.{NewStoresAreSound}
 use Rattle.sc_refines_region.specs.Joined as joined
 use Rattle.sc_refines_region.specs.Order.{OpensInOrder, TurnsKeepOrder}
-use Rattle.sc_refines_core.specs.Reached.{EntriesAreRemembered, HalvesWhereReached}
-use Rattle.sc_machine_contracts.specs.SettledObjects.{SettledMeetWhereReached}
+use Rattle.sc_machine_laws.specs.settlements.Reached.{EntriesAreRemembered, HalvesWhereReached}
+use Rattle.sc_machine_laws.specs.SettledObjects.{SettledMeetWhereReached}
 use Rattle.sc_world.specs.Worlds.{opened}
 use Rattle.sc_refines_world.specs.Functional.{FirstTurnsAreFunctional, FirstTurnsKeepExact, RunsAreFunctional}
 use Rattle.sc_refines_world.proofs.RefinedRuns.{core, remembered, start}

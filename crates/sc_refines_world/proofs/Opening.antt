@@ -20,7 +20,7 @@ use Rattle.sc_play.specs.Regions.{PlainRegion, new_region}
 use Rattle.sc_refines_region.specs.Taking.{IsNamed, IsNameOf}
 use Rattle.sc_code.specs.RequestRoom.{FitsRequests}
 use Rattle.sc_refines_region.proofs.TurnWants.{distinct_names_have_numbers}
-use Rattle.sc_refines_core.specs.Reached as halves
+use Rattle.sc_machine_laws.specs.settlements.Reached as halves
 use Rattle.sc_world.specs.Worlds.{max_handlers, new_regions}
 use Rattle.sc_refines_world.specs.Standing.{names_in}
 use Rattle.sc_refines_world.proofs.Asked.{AllAsk, Asks}

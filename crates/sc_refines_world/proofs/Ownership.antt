@@ -15,12 +15,12 @@ use Rattle.sc_model.specs.Handlers.{Awaits, Frame, Request, World}
 use Rattle.sc_model.specs.Runs.{IsReached}
 use Rattle.sc_model.specs.Turns.{turn}
 use Rattle.sc_model.specs.Values.{Attached, Operand, Value}
-use Rattle.sc_machine_rights.specs.Fitting.{FrameFits, ObjectFits, ReplyFits, RequestFits, ValueIsThere, WorldFits}
-use Rattle.sc_machine_rights.specs.Places.{StandsAs, attribute, entity, of_result, operand, of_old, actual, reply}
-use Rattle.sc_machine_rights.specs.Points.{Each, ResultFits, listed}
-use Rattle.sc_machine_rights.specs.Points as point
-use Rattle.sc_machine_rights.proofs.ExcludedFailures.{none_is_excluded}
-use Rattle.sc_machine_rights.proofs.Lists.{each_at, each_before, each_behind, each_in, same_some}
+use Rattle.sc_machine_laws.specs.states.Fitting.{FrameFits, ObjectFits, ReplyFits, RequestFits, ValueIsThere, WorldFits}
+use Rattle.sc_machine_laws.specs.states.Places.{StandsAs, attribute, entity, of_result, operand, of_old, actual, reply}
+use Rattle.sc_machine_laws.specs.states.Points.{Each, ResultFits, listed}
+use Rattle.sc_machine_laws.specs.states.Points as point
+use Rattle.sc_machine_laws.proofs.states.ExcludedFailures.{none_is_excluded}
+use Rattle.sc_machine_laws.proofs.states.Lists.{each_at, each_before, each_behind, each_in, same_some}
 use Rattle.sc_refines_world.specs.Belonging.{FramesRunOnOwn, NoTurnIsExcluded, ObjectsAreOfClasses, ReferencesLead, RequestsStandAtTargets}
 use Rattle.sc_refines_world.proofs.ReachedStates.{one_further, reached_fits}
 

@@ -17,20 +17,20 @@ use Rattle.sc_model.specs.Runs.{IsReached}
 use Rattle.sc_model.specs.Steps.{Act, Creates, CreatesHandler, Does, Enters, Exits, Fails, Leaves, Opens, Point, Prints, Refuses, Requests, Starts, Until}
 use Rattle.sc_model.specs.Tasks.{Task}
 use Rattle.sc_model.specs.Turns.{turn_with}
-use Rattle.sc_machine_rights.proofs.links.Reached.{reached_linked}
-use Rattle.sc_machine_rights.proofs.links.FittingActs.{stack_fits}
-use Rattle.sc_machine_rights.proofs.links.Turns as rights
-use Rattle.sc_machine_rights.specs.Fitting.{FrameFits, WorldFits, coming_to}
-use Rattle.sc_machine_rights.specs.Points.{Each, PointFits}
-use Rattle.sc_machine_rights.specs.ValueSteps.{IsThereIfOwn, StandsSo, ValuesDo}
-use Rattle.sc_machine_rights.proofs.Frames.{store_fits, values_there}
-use Rattle.sc_refines_core.specs.Clauses.{ClauseAct, ClauseStep, HasStartedOrStands, InClauses, StandsInClauses}
-use Rattle.sc_refines_core.specs.Clauses as clauses
-use Rattle.sc_refines_core.specs.Entries.{HasStarted}
-use Rattle.sc_refines_core.proofs.Clausal.{clauses_call_pure}
-use Rattle.sc_refines_core.proofs.Unstarted.{each_stands}
-use Rattle.sc_machine_contracts.proofs.Turned as kept
-use Rattle.sc_machine_contracts.specs.Starting.{IsVerdict}
+use Rattle.sc_machine_laws.proofs.states.links.Reached.{reached_linked}
+use Rattle.sc_machine_laws.proofs.states.links.FittingActs.{stack_fits}
+use Rattle.sc_machine_laws.proofs.states.links.Turns as rights
+use Rattle.sc_machine_laws.specs.states.Fitting.{FrameFits, WorldFits, coming_to}
+use Rattle.sc_machine_laws.specs.states.Points.{Each, PointFits}
+use Rattle.sc_machine_laws.specs.states.ValueSteps.{IsThereIfOwn, StandsSo, ValuesDo}
+use Rattle.sc_machine_laws.proofs.states.Frames.{store_fits, values_there}
+use Rattle.sc_machine_laws.specs.settlements.Clauses.{ClauseAct, ClauseStep, HasStartedOrStands, InClauses, StandsInClauses}
+use Rattle.sc_machine_laws.specs.settlements.Clauses as clauses
+use Rattle.sc_machine_laws.specs.settlements.Entries.{HasStarted}
+use Rattle.sc_machine_laws.proofs.settlements.Clausal.{clauses_call_pure}
+use Rattle.sc_machine_laws.proofs.settlements.Unstarted.{each_stands}
+use Rattle.sc_machine_laws.proofs.Turned as kept
+use Rattle.sc_machine_laws.specs.Starting.{IsVerdict}
 use Rattle.sc_refines_world.specs.Moving.{FramesMove, TurnsMoveRequests, is_plain}
 use Rattle.sc_refines_world.proofs.FrameMoves.{AsksAnother}
 use Rattle.sc_refines_world.proofs.TurnMoves.{turn_moves}

@@ -9,9 +9,9 @@ use Rattle.sc_rules.specs.SystemRules.{WellFormed}
 use Rattle.sc_model.specs.Handlers as machine
 use Rattle.sc_model.specs.Runs.{IsReached, opening, run}
 use Rattle.sc_model.specs.Turns.{turn}
-use Rattle.sc_machine_rights.specs.Fitting.{WorldFits}
-use Rattle.sc_machine_rights.proofs.ValueAwaitedEnds.{turns_keep_it}
-use Rattle.sc_machine_rights.proofs.ValueOpening.{opening_fits}
+use Rattle.sc_machine_laws.specs.states.Fitting.{WorldFits}
+use Rattle.sc_machine_laws.proofs.states.ValueAwaitedEnds.{turns_keep_it}
+use Rattle.sc_machine_laws.proofs.states.ValueOpening.{opening_fits}
 
 one_more : (most : ℕ) (s : System) (hs : List ℕ) (h : ℕ) (w : machine.World) → run most s (hs ++ h ∷ []) w ≡ turn most s h (run most s hs w)
 one_more most s [] h w = refl

@@ -26,8 +26,8 @@ use Rattle.sc_refines_region.specs.Halves.{JobFits}
 use Rattle.sc_refines_region.specs.Placed.{SoundJobsAreTaken, begun_when}
 use Rattle.sc_refines_region.specs.Sound.{IsSound, NewStoresAreSound}
 use Rattle.sc_refines_region.specs.Order.{EachInOrder, OpensInOrder, TurnsKeepOrder}
-use Rattle.sc_machine_contracts.specs.SettledObjects.{SettledMeetWhereReached}
-use Rattle.sc_refines_core.specs.Reached.{EntriesAreRemembered, HalvesWhereReached}
+use Rattle.sc_machine_laws.specs.SettledObjects.{SettledMeetWhereReached}
+use Rattle.sc_machine_laws.specs.settlements.Reached.{EntriesAreRemembered, HalvesWhereReached}
 use Rattle.sc_refines_region.specs.Joined as joined
 use Rattle.sc_world.specs.Kept.{KeptAlikeAreAlike, OpeningsAreOf, RunsStayOf}
 use Rattle.sc_world.specs.Worlds.{opened}

@@ -21,7 +21,7 @@ use Rattle.sc_refines_region.proofs.RegionOpening.{new_region as new_store_stand
 use Rattle.sc_play.specs.Regions.{PlainRegion, new_region}
 use Rattle.sc_code.specs.RequestRoom.{FitsRequests}
 use Rattle.sc_request.specs.Laws.{PicksWhereTurns}
-use Rattle.sc_refines_core.specs.Reached.{EntriesAreRemembered, HalvesWhereReached, RemembersAlong}
+use Rattle.sc_machine_laws.specs.settlements.Reached.{EntriesAreRemembered, HalvesWhereReached, RemembersAlong}
 use Rattle.sc_world.specs.Kept.{KeptAlikeAreAlike, OpeningsAreOf, RunsStayOf}
 use Rattle.sc_world.specs.Turning.{Runs}
 use Rattle.sc_world.specs.Worlds.{PlainWorld, max_handlers, opened}

@@ -11,8 +11,8 @@ use Rattle.sc_request.specs.Asked.{errand_of}
 use Rattle.sc_request.specs.Halves.{IsHalfOf, posted_of}
 use Rattle.sc_refines_region.specs.RegionSteps.{AreNamed, IsNamed, number_among, numbering_by}
 use Rattle.sc_refines_region.specs.Taking as coded
-use Rattle.sc_machine_rights.specs.Points.{Each}
-use Rattle.sc_machine_rights.proofs.Lists.{each_append}
+use Rattle.sc_machine_laws.specs.states.Points.{Each}
+use Rattle.sc_machine_laws.proofs.states.Lists.{each_append}
 use Rattle.sc_refines_world.proofs.Asked.{AllAsk}
 
 -- a name that stands at its number among the names is that one

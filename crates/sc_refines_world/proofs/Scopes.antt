@@ -39,7 +39,7 @@ use Rattle.sc_model.specs.ObjectTests.{is_tested, binds_if, binds}
 use Rattle.sc_model.specs.Expressions.{gives_outcome, gives_truth, apply_unary, apply_to_integers, apply_to_booleans, is_same_object, apply_binary, applies, decided_by, evals_right, concludes, gives_found, reads_result, reads_own, begins_kind, begins_feature, begins_name, evaluate}
 use Rattle.sc_model.specs.Instructions.{assigns, prints, chooses_other, chooses, ends_loop, tests, required, opens, actuals_of, procedure_of, begins_routine, begins}
 use Rattle.sc_model.specs.Moves.{performs, step_at}
-use Rattle.sc_machine_rights.proofs.Assigned.{scope_assigned}
+use Rattle.sc_machine_laws.proofs.states.Assigned.{scope_assigned}
 use Rattle.sc_refines_world.proofs.KnownFormals.{Knows, neither, known_more, known_less, known_many, locals_others, block_known}
 use Rattle.sc_refines_world.proofs.TaskTexts.{IsOf, text_behind, AreOf, evals_then, heads_then, checks_then}
 

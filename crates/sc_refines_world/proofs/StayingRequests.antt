@@ -18,7 +18,7 @@ use Rattle.sc_model.specs.Handlers.{Answer, Frame, Handler, Request, World, new_
 use Rattle.sc_model.specs.Preconditions.{counted_refusal}
 use Rattle.sc_model.specs.Sessions.{release, session_ended}
 use Rattle.sc_model.specs.Values.{Value}
-use Rattle.sc_machine_rights.proofs.links.Looks.{m_put-off}
+use Rattle.sc_machine_laws.proofs.states.links.Looks.{m_put-off}
 use Rattle.sc_refines_world.specs.Moving.{Falls, RequestsStay}
 
 -- ---- what stays of a handler

@@ -34,11 +34,11 @@ use Rattle.sc_interp.specs.Serving as serving
 use Rattle.sc_refines_region.specs.Turns.{begun_half}
 use Rattle.sc_refines_region.specs.Halves.{AreComplete, AreWithin, GivesResult, GoesWell, HalfFits, HasRoutine, IsComplete, TopGoesWell}
 use Rattle.sc_refines_region.specs.Waiting.{RefusesInContract}
-use Rattle.sc_machine_rights.specs.Fitting as values
-use Rattle.sc_machine_rights.specs.Fitting.{FrameFits, Gives, Linked, ObjectFits, WorldFits, alone, called}
-use Rattle.sc_machine_rights.specs.Places as places
-use Rattle.sc_machine_rights.specs.Points.{AttributesFit, Each, ResultFits, a_result, no_result}
-use Rattle.sc_machine_rights.specs.ValueSteps.{StepFits}
+use Rattle.sc_machine_laws.specs.states.Fitting as values
+use Rattle.sc_machine_laws.specs.states.Fitting.{FrameFits, Gives, Linked, ObjectFits, WorldFits, alone, called}
+use Rattle.sc_machine_laws.specs.states.Places as places
+use Rattle.sc_machine_laws.specs.states.Points.{AttributesFit, Each, ResultFits, a_result, no_result}
+use Rattle.sc_machine_laws.specs.states.ValueSteps.{StepFits}
 use Rattle.sc_refines_world.proofs.Contracts.{StandsInContract, begun_none, begun_stack, frame, job_here, moves_so, operands_under, same_frame, tells_at, top_in_contract, waits_for_none}
 
 -- ---- routines that are entered

@@ -31,10 +31,10 @@ use Rattle.sc_refines_region.specs.RegionSteps.{numbering_by}
 use Rattle.sc_refines_region.specs.RegionTurns.{Half}
 use Rattle.sc_refines_region.specs.Taking.{IsNamed}
 use Rattle.sc_refines_region.specs.Halves.{GetsReply, JobFits, RequestFits}
-use Rattle.sc_machine_rights.specs.Fitting as values
-use Rattle.sc_machine_rights.specs.Fitting.{IsThere, WorldFits, is_due, is_made}
-use Rattle.sc_machine_rights.specs.Points.{Each}
-use Rattle.sc_machine_rights.proofs.Lists.{each_before, each_behind}
+use Rattle.sc_machine_laws.specs.states.Fitting as values
+use Rattle.sc_machine_laws.specs.states.Fitting.{IsThere, WorldFits, is_due, is_made}
+use Rattle.sc_machine_laws.specs.states.Points.{Each}
+use Rattle.sc_machine_laws.proofs.states.Lists.{each_before, each_behind}
 use Rattle.sc_refines_world.proofs.Asked.{AllAsk}
 use Rattle.sc_refines_world.proofs.Contracts.{job_here}
 use Rattle.sc_refines_world.proofs.TurnHalves.{complete, within, half_fits}

@@ -33,7 +33,7 @@ use Rattle.sc_refines_region.proofs.RegionOpening.{new_region as new_store_stand
 use Rattle.sc_play.specs.Regions.{PlainRegion, Plays, new_region}
 use Rattle.sc_play.specs.Turns.{FirstTurn, Turns, first, more}
 use Rattle.sc_refines_region.specs.Taking.{IsNamed}
-use Rattle.sc_refines_core.specs.Reached.{HalvesWhereReached, RemembersAlong, RemembersEntry}
+use Rattle.sc_machine_laws.specs.settlements.Reached.{HalvesWhereReached, RemembersAlong, RemembersEntry}
 use Rattle.sc_world.specs.Kept.{IsOf, KeptAlikeAreAlike, RunsStayOf, with_last}
 use Rattle.sc_world.specs.Turning.{IsTurn, Makes, Runs, TurnsUnder}
 use Rattle.sc_world.specs.Worlds.{PlainWorld, max_handlers}

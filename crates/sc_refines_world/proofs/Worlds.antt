@@ -27,7 +27,7 @@ use Rattle.sc_play.specs.Turns.{FirstTurn, Turns, first, more}
 use Rattle.sc_refines_region.specs.Halves.{JobFits}
 use Rattle.sc_refines_region.specs.Placed.{SoundJobsAreTaken, begun_when}
 use Rattle.sc_refines_region.specs.Sound.{IsSound}
-use Rattle.sc_refines_core.specs.Reached.{HalvesWhereReached, RemembersAlong}
+use Rattle.sc_machine_laws.specs.settlements.Reached.{HalvesWhereReached, RemembersAlong}
 use Rattle.sc_world.specs.Turning.{IsTurn, Makes, Runs, TurnsUnder}
 use Rattle.sc_world.specs.Worlds.{PlainWorld}
 use Rattle.sc_refines_world.specs.Standing.{IsRegionFor, names_in}

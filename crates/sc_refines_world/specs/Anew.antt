@@ -6,7 +6,7 @@ use Rattle.sc_model.specs.Runs.{opening, run}
 use Rattle.sc_code.specs.declared.program.Image.{Image}
 use Rattle.sc_code.specs.Programs.{IsProgramOf}
 use Rattle.sc_code.specs.RequestRoom.{FitsRequests}
-use Rattle.sc_machine_rights.specs.Values.{WhereAccepted}
+use Rattle.sc_machine_laws.specs.states.Values.{WhereAccepted}
 use Rattle.sc_world.specs.Kept.{kept}
 use Rattle.sc_world.specs.Turning.{IsTurn, Runs}
 use Rattle.sc_world.specs.Worlds.{PlainWorld, opened}

@@ -12,10 +12,10 @@ use Rattle.sc_model.specs.Objects.{Object, fresh_object}
 use Rattle.sc_model.specs.Routines.{routine_named, version_of}
 use Rattle.sc_model.specs.Turns.{turn}
 use Rattle.sc_model.specs.Values.{Attached, Operand, Reference}
-use Rattle.sc_machine_rights.specs.Fitting.{IsThere}
-use Rattle.sc_machine_rights.specs.Places.{StandsAs, called_name}
-use Rattle.sc_machine_rights.specs.Points.{IsAmong}
-use Rattle.sc_machine_rights.specs.ValueSteps.{is_excluded}
+use Rattle.sc_machine_laws.specs.states.Fitting.{IsThere}
+use Rattle.sc_machine_laws.specs.states.Places.{StandsAs, called_name}
+use Rattle.sc_machine_laws.specs.states.Points.{IsAmong}
+use Rattle.sc_machine_laws.specs.states.ValueSteps.{is_excluded}
 
 -- ---- objects
 

@@ -17,7 +17,7 @@ use Rattle.sc_play.specs.Turns.{FirstTurn}
 use Rattle.sc_refines_region.specs.Halves.{JobFits}
 use Rattle.sc_refines_region.specs.Placed.{begun_when}
 use Rattle.sc_refines_region.specs.Sound.{IsSound}
-use Rattle.sc_machine_rights.specs.Values.{WhereAccepted}
+use Rattle.sc_machine_laws.specs.states.Values.{WhereAccepted}
 use Rattle.sc_world.specs.Turning.{Runs}
 use Rattle.sc_world.specs.Worlds.{PlainWorld, opened}
 

@@ -16,11 +16,11 @@ use Rattle.sc_model.specs.Steps.{Act, Calling, CreatesHandler, Does, Enters, Exi
 use Rattle.sc_model.specs.Tasks.{tasks_of}
 use Rattle.sc_model.specs.Turns.{turn}
 use Rattle.sc_model.specs.Values.{Operand, Reference, Value, values_of}
-use Rattle.sc_machine_rights.specs.Headline.{AwaitsAnswer}
-use Rattle.sc_machine_rights.specs.Places.{called_name}
-use Rattle.sc_refines_core.specs.Entries.{HasStarted}
-use Rattle.sc_machine_contracts.specs.RequestLaws.{OwnQueueMoves, Stays}
-use Rattle.sc_machine_contracts.specs.Starting.{IsVerdict}
+use Rattle.sc_machine_laws.specs.states.Headline.{AwaitsAnswer}
+use Rattle.sc_machine_laws.specs.states.Places.{called_name}
+use Rattle.sc_machine_laws.specs.settlements.Entries.{HasStarted}
+use Rattle.sc_machine_laws.specs.RequestLaws.{OwnQueueMoves, Stays}
+use Rattle.sc_machine_laws.specs.Starting.{IsVerdict}
 
 -- ---- frames
 

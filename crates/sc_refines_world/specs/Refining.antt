@@ -26,12 +26,12 @@ use Rattle.sc_region.specs.declared.job.Want.TheVariants as want
 use Rattle.sc_handler.specs.Fits.{goes_on}
 use Rattle.sc_request.specs.Candidates.{comes_again}
 use Rattle.sc_request.specs.Logs.{Center, next, pick_for, picked, round, settles}
-use Rattle.sc_machine_rights.specs.Formals.{FormalsAreHeld, NamesAreHeld}
-use Rattle.sc_machine_rights.specs.Headline.{CallbacksComeFirst, ChainsHold, OnlyWaitersAreTold, RepliesMeetNone, ReservedAreHeld, TargetsAreKept, WaitersAreTold}
-use Rattle.sc_machine_contracts.specs.RequestLaws.{AnswerComes, IsUnused}
-use Rattle.sc_machine_rights.specs.Places.{StandsAs}
-use Rattle.sc_machine_rights.specs.Values.{WhereAccepted}
-use Rattle.sc_machine_contracts.specs.Starting.{StartsWhereTheyHold}
+use Rattle.sc_machine_laws.specs.states.Formals.{FormalsAreHeld, NamesAreHeld}
+use Rattle.sc_machine_laws.specs.states.Headline.{CallbacksComeFirst, ChainsHold, OnlyWaitersAreTold, RepliesMeetNone, ReservedAreHeld, TargetsAreKept, WaitersAreTold}
+use Rattle.sc_machine_laws.specs.RequestLaws.{AnswerComes, IsUnused}
+use Rattle.sc_machine_laws.specs.states.Places.{StandsAs}
+use Rattle.sc_machine_laws.specs.states.Values.{WhereAccepted}
+use Rattle.sc_machine_laws.specs.Starting.{StartsWhereTheyHold}
 use Rattle.sc_world.specs.Reports.{report, statuses}
 use Rattle.sc_world.specs.Rounds.{EndsRounds, Rounds, StopsRounds}
 use Rattle.sc_play.specs.Regions.{PlainRegion}

@@ -6,9 +6,9 @@ use Rattle.sc_rules.specs.Purity.{IsPurity}
 use Rattle.sc_model.specs.Environments.{is_formal, scope_of}
 use Rattle.sc_model.specs.Handlers.{Frame, World, point_of}
 use Rattle.sc_model.specs.Routines.{Routine}
-use Rattle.sc_machine_rights.specs.Fitting.{coming_to}
-use Rattle.sc_machine_rights.specs.Points.{Agrees}
-use Rattle.sc_machine_rights.specs.Typed.{IsTyped, Known}
+use Rattle.sc_machine_laws.specs.states.Fitting.{coming_to}
+use Rattle.sc_machine_laws.specs.states.Points.{Agrees}
+use Rattle.sc_machine_laws.specs.states.Typed.{IsTyped, Known}
 
 -- ---- names
 

@@ -4,8 +4,8 @@ ghost use Rattle.sc_refines_world.specs.Refining.{HandlersComeAgain, IdleWorldIs
 ghost use Rattle.sc_refines_world.specs.Refining.{AttemptsHaveHeadline, AttemptsRunAsMachine, RestRunsAsMachine, TurnsStandExactly};
 ghost use Rattle.sc_refines_world.specs.Refining.{StoppedRoundsStayNear, StoppedWorldStaysNear, WorldHasHeadline, WorldReportsAsMachine, WorldRunsAsMachine};
 
-use sc_machine_contracts::invariant_laws::settled_objects_meet;
-use sc_refines_core::laws::{core_settles_as_half_where_reached, entries_are_remembered};
+use sc_machine_laws::invariant_laws::settled_objects_meet;
+use sc_machine_laws::settlements::laws::{core_settles_as_half_where_reached, entries_are_remembered};
 use sc_refines_region::laws::{
     created_are_new, openings_are_in_order, others_keep_halves, regions_ask, regions_follow,
     turns_keep_order,

@@ -1,8 +1,8 @@
 //! Laws of turns of which there is one outcome, each the contract of a function that does nothing.
 ghost use Rattle.sc_refines_world.specs.Functional.{FirstTurnsAreFunctional, FirstTurnsKeepExact, RunsAreFunctional};
 
-use sc_machine_contracts::invariant_laws::settled_objects_meet;
-use sc_refines_core::laws::{core_settles_as_half_where_reached, entries_are_remembered};
+use sc_machine_laws::invariant_laws::settled_objects_meet;
+use sc_machine_laws::settlements::laws::{core_settles_as_half_where_reached, entries_are_remembered};
 use sc_refines_region::asks::creators_are_told;
 use sc_refines_region::half_laws::programs_serve;
 use sc_refines_region::laws::{

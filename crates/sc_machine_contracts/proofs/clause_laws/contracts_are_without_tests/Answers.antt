@@ -1,5 +1,0 @@
-use Rattle.sc_machine_contracts.proofs.WithoutTests.{texts_are_without_tests}
-use Rattle.sc_machine_contracts.proofs.clause_laws.contracts_are_without_tests.Goals as goal
-
-pub returns : goal.returns
-returns c = texts_are_without_tests

@@ -1,5 +1,0 @@
-use Rattle.sc_machine_contracts.proofs.Contracts.{step_of_contract}
-use Rattle.sc_machine_contracts.proofs.clause_laws.contracts_step.Goals as goal
-
-pub returns : goal.returns
-returns c = step_of_contract

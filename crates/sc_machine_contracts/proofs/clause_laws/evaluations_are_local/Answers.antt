@@ -1,5 +1,0 @@
-use Rattle.sc_machine_contracts.proofs.Locally.{evaluations_are_local}
-use Rattle.sc_machine_contracts.proofs.clause_laws.evaluations_are_local.Goals as goal
-
-pub returns : goal.returns
-returns c = evaluations_are_local

@@ -1,5 +1,0 @@
-use Rattle.sc_machine_contracts.proofs.InvariantSteps.{invariants_are_steps}
-use Rattle.sc_machine_contracts.proofs.clause_laws.invariants_are_steps.Goals as goal
-
-pub returns : goal.returns
-returns c = invariants_are_steps

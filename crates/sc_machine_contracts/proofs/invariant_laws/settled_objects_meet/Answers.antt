@@ -1,5 +1,0 @@
-use Rattle.sc_machine_contracts.proofs.ReachedStates.{settled_objects_meet}
-use Rattle.sc_machine_contracts.proofs.invariant_laws.settled_objects_meet.Goals as goal
-
-pub returns : goal.returns
-returns c = settled_objects_meet

@@ -1,5 +1,0 @@
-use Rattle.sc_machine_contracts.proofs.ReachedStates.{settled_objects_meet_after_turns}
-use Rattle.sc_machine_contracts.proofs.invariant_laws.settled_objects_meet_after_turns.Goals as goal
-
-pub returns : goal.returns
-returns c = settled_objects_meet_after_turns

@@ -1,5 +1,0 @@
-use Rattle.sc_machine_contracts.proofs.OthersFollow.{others_follow}
-use Rattle.sc_machine_contracts.proofs.precondition_laws.frames_follow_after_turns_of_others.Goals as goal
-
-pub returns : goal.returns
-returns c = others_follow

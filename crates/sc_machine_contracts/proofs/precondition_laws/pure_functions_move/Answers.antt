@@ -1,5 +1,0 @@
-use Rattle.sc_machine_contracts.proofs.PointsReached.{pure_moves}
-use Rattle.sc_machine_contracts.proofs.precondition_laws.pure_functions_move.Goals as goal
-
-pub returns : goal.returns
-returns c = pure_moves

@@ -1,5 +1,0 @@
-use Rattle.sc_machine_contracts.proofs.Tops.{callbacks_meet_waiters}
-use Rattle.sc_machine_contracts.proofs.request_laws.callbacks_meet_waiters.Goals as goal
-
-pub returns : goal.returns
-returns c = callbacks_meet_waiters

@@ -1,5 +1,0 @@
-use Rattle.sc_machine_contracts.proofs.Unlent.{ends_the_one}
-use Rattle.sc_machine_contracts.proofs.request_laws.ends_the_one.Goals as goal
-
-pub returns : goal.returns
-returns c = ends_the_one

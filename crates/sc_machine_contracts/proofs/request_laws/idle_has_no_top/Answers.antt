@@ -1,5 +1,0 @@
-use Rattle.sc_machine_contracts.proofs.Tops.{idle_has_no_top}
-use Rattle.sc_machine_contracts.proofs.request_laws.idle_has_no_top.Goals as goal
-
-pub returns : goal.returns
-returns c = idle_has_no_top

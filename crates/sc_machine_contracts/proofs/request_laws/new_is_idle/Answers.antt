@@ -1,5 +1,0 @@
-use Rattle.sc_machine_contracts.proofs.Unused.{new_is_idle}
-use Rattle.sc_machine_contracts.proofs.request_laws.new_is_idle.Goals as goal
-
-pub returns : goal.returns
-returns c = new_is_idle

@@ -1,5 +1,0 @@
-use Rattle.sc_machine_contracts.proofs.Unlent.{no_callback_there}
-use Rattle.sc_machine_contracts.proofs.request_laws.no_callback.Goals as goal
-
-pub returns : goal.returns
-returns c = no_callback_there

@@ -1,5 +1,0 @@
-use Rattle.sc_machine_contracts.proofs.Rights.{rights_stay}
-use Rattle.sc_machine_contracts.proofs.request_laws.rights_stay.Goals as goal
-
-pub returns : goal.returns
-returns c = rights_stay

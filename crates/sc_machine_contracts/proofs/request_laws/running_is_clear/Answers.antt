@@ -1,5 +1,0 @@
-use Rattle.sc_machine_contracts.proofs.Tops.{running_is_clear}
-use Rattle.sc_machine_contracts.proofs.request_laws.running_is_clear.Goals as goal
-
-pub returns : goal.returns
-returns c = running_is_clear

@@ -1,0 +1,5 @@
+use Rattle.sc_machine_laws.proofs.states.links.Held.{reached_names_are_held}
+use Rattle.sc_machine_laws.proofs.states.laws.block_names_are_held.Goals as goal
+
+pub returns : goal.returns
+returns c = reached_names_are_held

@@ -1,0 +1,5 @@
+use Rattle.sc_machine_laws.proofs.states.LawProofs.{posted_under_right}
+use Rattle.sc_machine_laws.proofs.states.steps.posted_under_right.Goals as goal
+
+pub returns : goal.returns
+returns c = posted_under_right

@@ -1,0 +1,276 @@
+-- How frames that evaluate clauses of a precondition, and frames of pure functions, stand beside the evaluation by the
+-- definition.
+use Rattle.std.specs.Prelude.{ℕ, ◌≡◌, ◌≢◌, ◌<◌, ◌⊎◌, Bool, true, false, List, [], ◌∷◌, ◌++◌, Option, Some, None, is_some, length, take, Contains}
+use Rattle.sc_tree.specs.Plain.{System, Clause}
+use Rattle.sc_proctype.specs.declared.entity_type.EntityType.{EntityType}
+use Rattle.sc_rules.specs.Names.{RoutineName}
+use Rattle.sc_model.specs.Values.{Reference, Value, Operand, values_of}
+use Rattle.sc_model.specs.Environments.{Binding, formals_bound}
+use Rattle.sc_model.specs.Objects.{Object}
+use Rattle.sc_model.specs.Routines.{Routine, routine_named}
+use Rattle.sc_model.specs.Olds.{olds_of_clauses}
+use Rattle.sc_model.specs.Tasks.{Task, Do, In, Declare, Forget, Require, Required, keeps_olds, ensures}
+use Rattle.sc_model.specs.Steps.{Calling, Point, Act, Enters, Requests, Does}
+use Rattle.sc_model.specs.Moves.{step}
+use Rattle.sc_model.specs.Entries.{result_of}
+use Rattle.sc_model.specs.Clauses.{body_point}
+use Rattle.sc_model.specs.Handlers.{Request, Calls, Origin, Called, Requested, Reply, Failed, Refused, Stage, Runs, Reserves, InCall, Awaits, Frame, World, point_of}
+use Rattle.sc_machine_laws.specs.states.Headline.{is_awaiting}
+use Rattle.sc_machine_laws.specs.states.Points.{Each}
+use Rattle.sc_machine_laws.specs.settlements.Calm.{name_of}
+use Rattle.sc_machine_laws.specs.settlements.Entries.{HasStarted}
+use Rattle.sc_machine_laws.specs.settlements.Clauses.{RunsPureIfRoutine}
+use Rattle.sc_machine_laws.specs.Evaluating.{Answers, Reaches, EndsTrue, clause_point, extended}
+use Rattle.sc_machine_laws.specs.Texts.{TaskHasNoOld, IsOfContract}
+
+-- ---- objects, handlers that may be asked, and actuals
+
+abbrev pub objects_of : World → ℕ → List Object
+objects_of w k = (w.handlers k).objects
+
+-- the handlers whose objects an evaluation on this one may ask: itself and these
+abbrev pub MayAsk : ℕ → List ℕ → ℕ → Type 0
+MayAsk h asked k = (k ≡ h) ⊎ Contains asked k
+
+-- itself alone
+abbrev pub Own : ℕ → ℕ → Type 0
+Own h k = k ≡ h
+
+-- the formals of a frame with its actuals: the first names that are known in it
+abbrev pub bound_in : Frame → List Binding
+bound_in f = take (length f.routine.text.formals) f.environment
+
+-- these are the routine's formals with some actuals
+abbrev pub AreBound : System → Routine → List Binding → Type 0
+AreBound s r bs = (vs : List Value) × (formals_bound s r.text.formals 0 r.text.formals vs ≡ Some bs)
+
+-- ---- what is left of a routine
+
+-- behind its body
+abbrev pub behind_body : Routine → List Task
+behind_body r = Forget (length r.text.formals) ∷ In r.contract ∷ ensures 0 r.ensure
+
+-- its body, and what is behind
+abbrev pub body_tasks : Routine → List Task
+body_tasks r = In r.text ∷ Declare r.locals ∷ Do r.body ∷ behind_body r
+
+-- behind a clause of its precondition: the clauses that are left, the `old`s, the body
+abbrev pub behind_clause : Routine → List Clause → List Task
+behind_clause r ks = Require ks ∷ keeps_olds (olds_of_clauses r.ensure) ++ body_tasks r
+
+-- ---- points: an evaluation within one text
+
+-- The evaluation that began at `start` has come here; behind it these tasks are left.
+pub record IsAt (s : System) (M : ℕ → Type 0) (O : ℕ → List Object) (me : Reference) (start : Point) (ts : List Task)
+    (p : Point) : Type 0 where
+  pub at : Point
+  pub reaches : Reaches s M O me start at
+  pub stands : p ≡ extended p.olds ts at
+  pub without_old : Each TaskHasNoOld at.tasks
+
+-- It has made this call, and what the call gives is still to come.
+pub record HasDone (s : System) (M : ℕ → Type 0) (O : ℕ → List Object) (me : Reference) (start : Point) (ts : List Task)
+    (a : Act) (p : Point) : Type 0 where
+  pub before : Point
+  pub after : Point
+  pub reaches : Reaches s M O me start before
+  pub step_is : step s me before ≡ Does a after
+  pub stands : p ≡ extended p.olds ts after
+  pub without_old : Each TaskHasNoOld after.tasks
+
+-- ---- points: a pure function, with these actuals
+
+abbrev pub start_of : System → (ℕ → List Object) → Reference → Routine → List Binding → Point
+start_of s O me r bs = body_point s r (O me.handler) bs
+
+-- It stands in its precondition or its `old`s, in its body, or behind it.
+pub data PureAt (s : System) (O : ℕ → List Object) (me : Reference) (r : Routine) (bs : List Binding) (p : Point) :
+    Type 0 where
+  before : (ts : List Task) → p.tasks ≡ ts ++ body_tasks r → Each IsOfContract ts → p.environment ≡ bs →
+      p.result ≡ result_of r.text.result → PureAt s O me r bs p
+  during : IsAt s (Own me.handler) O me (start_of s O me r bs) (behind_body r) p → PureAt s O me r bs p
+  behind : {e : Point} → Reaches s (Own me.handler) O me (start_of s O me r bs) e → e.tasks ≡ [] →
+      p.result ≡ e.result → Each IsOfContract p.tasks → PureAt s O me r bs p
+
+-- The same, where it has made a call on its handler. `For` says of object, name and actuals what is so where the call
+-- stands in the body.
+pub data PureCalls (s : System) (O : ℕ → List Object) (me : Reference) (r : Routine) (bs : List Binding)
+    (t : EntityType) (For : Reference → List ℕ → List Operand → Type 0) (p : Point) : Type 0 where
+  before : (ts : List Task) → p.tasks ≡ ts ++ body_tasks r → Each IsOfContract ts → p.environment ≡ bs →
+      p.result ≡ result_of r.text.result → PureCalls s O me r bs t For p
+  during : {c : Calling} {o : Reference} {x : List ℕ} {us : List Operand} → o.handler ≡ me.handler →
+      HasDone s (Own me.handler) O me (start_of s O me r bs) (behind_body r) (Enters c o x us (Some t)) p →
+      For o x us → PureCalls s O me r bs t For p
+  behind : {e : Point} → Reaches s (Own me.handler) O me (start_of s O me r bs) e → e.tasks ≡ [] →
+      p.result ≡ e.result → Each IsOfContract p.tasks → PureCalls s O me r bs t For p
+
+-- ---- points: a precondition
+
+-- the clause of the routine before its evaluation, where these are the actuals
+abbrev pub clause_of : (ℕ → List Object) → Reference → Routine → List Binding → Clause → Point
+clause_of O me r bs k = clause_point (O me.handler) r.contract bs (result_of r.text.result) k
+
+-- between clauses, where these are left
+abbrev pub between_point : (ℕ → List Object) → Reference → Routine → List Binding → List Clause → Point
+between_point O me r bs ks = record {
+  objects = O me.handler;
+  text = r.contract;
+  environment = bs;
+  result = result_of r.text.result;
+  olds = [];
+  tasks = behind_clause r ks;
+  values = [];
+}
+
+-- these clauses hold
+abbrev pub Hold : System → (ℕ → Type 0) → (ℕ → List Object) → Reference → Routine → List Binding → List Clause →
+    Type 0
+Hold s M O me r bs ks = Each (λ (k : Clause). EndsTrue s M O me (clause_of O me r bs k)) ks
+
+-- Some clauses hold; it stands before the others, or inside the next one.
+pub data ClausesAt (s : System) (M : ℕ → Type 0) (O : ℕ → List Object) (me : Reference) (r : Routine)
+    (bs : List Binding) (p : Point) : Type 0 where
+  between : (done ks : List Clause) → r.require ≡ done ++ ks → Hold s M O me r bs done →
+      p ≡ between_point O me r bs ks → ClausesAt s M O me r bs p
+  inside : (done ks : List Clause) (k : Clause) → r.require ≡ done ++ k ∷ ks → Hold s M O me r bs done → p.olds ≡ [] →
+      IsAt s M O me (clause_of O me r bs k) (Required k ∷ behind_clause r ks) p → ClausesAt s M O me r bs p
+
+-- Inside a clause it has done this, a call or a request.
+pub data ClauseDone (s : System) (M : ℕ → Type 0) (O : ℕ → List Object) (me : Reference) (r : Routine)
+    (bs : List Binding) (a : Act) (p : Point) : Type 0 where
+  inside : (done ks : List Clause) (k : Clause) → r.require ≡ done ++ k ∷ ks → Hold s M O me r bs done → p.olds ≡ [] →
+      HasDone s M O me (clause_of O me r bs k) (Required k ∷ behind_clause r ks) a p → ClauseDone s M O me r bs a p
+
+-- ---- frames
+
+-- The frame runs what was called of the object by this name, with these actuals.
+pub record IsFor (s : System) (o : Reference) (x : List ℕ) (vs : List Value) (c : Frame) : Type 0 where
+  pub current_is : c.current ≡ o
+  pub routine_is : routine_named s o.class x ≡ Some c.routine
+  pub bound_is : formals_bound s c.routine.text.formals 0 c.routine.text.formals vs ≡ Some (bound_in c)
+
+-- the frame above, if there is one, is for this call
+abbrev pub AboveIsFor : System → Option Frame → Reference → List ℕ → List Operand → Type 0
+AboveIsFor s None o x us = ⊥
+AboveIsFor s (Some c) o x us = IsFor s o x (values_of us) c
+
+-- how a pure function's frame in this stage, below this one, stands beside its evaluation
+abbrev pub FollowsPure : System → (ℕ → List Object) → Option Frame → Frame → Stage → Type 0
+FollowsPure s O above f Runs = PureAt s O f.current f.routine (bound_in f) (point_of f (O f.current.handler))
+FollowsPure s O above f (InCall (Some t)) =
+    PureCalls s O f.current f.routine (bound_in f) t (AboveIsFor s above) (point_of f (O f.current.handler))
+FollowsPure s O above f stage = ⊥
+
+-- ---- other handlers
+
+-- Nothing of the handler k changes as long as h asks nothing of it: it has failed, or has nothing to do and h alone may
+-- post to it, or waits and h alone may call it back.
+pub data IsQuiet (w : World) (h k : ℕ) : Type 0 where
+  failed : is_some (w.handlers k).failure ≡ true → IsQuiet w h k
+  idle : (w.handlers k).stack ≡ [] → (w.handlers k).queue ≡ [] → w.rights.queue k ≡ Some h → IsQuiet w h k
+  waiting : w.rights.top k ≡ Some h → IsQuiet w h k
+
+abbrev pub is_called : Origin → Bool
+is_called (Called c) = true
+is_called (Requested r) = false
+
+-- no request began the frame, and it runs a pure function
+abbrev pub IsCalledPure : (RoutineName → Bool) → Frame → Type 0
+IsCalledPure pure f = (is_called f.origin ≡ true) × (pure (name_of f.routine) ≡ true)
+
+-- what h asks for a clause
+abbrev pub clause_request : ℕ → Reference → List ℕ → List Operand → Request
+clause_request h o x us =
+    record { poster = Some h; target = o; errand = Calls x; actuals = values_of us; is_waited = true; passed = None }
+
+-- The request of h for a clause stands at its target; until it ends nothing else happens there, where the target was
+-- asked before.
+pub data RequestStands (s : System) (pure : RoutineName → Bool) (w : World) (h : ℕ) (asked : List ℕ) (o : Reference)
+    (x : List ℕ) (us : List Operand) : Type 0 where
+  queued : (qs : List Request) → (w.handlers o.handler).queue ≡ qs ++ clause_request h o x us ∷ [] →
+      w.rights.queue o.handler ≡ Some h →
+      (Contains asked o.handler → (qs ≡ []) × ((w.handlers o.handler).stack ≡ [])) →
+      RequestStands s pure w h asked o x us
+  called_back : (w.handlers o.handler).callback ≡ Some (clause_request h o x us) → w.rights.top o.handler ≡ Some h →
+      RequestStands s pure w h asked o x us
+  runs : (fs below : List Frame) (c : Frame) → (w.handlers o.handler).stack ≡ fs ++ c ∷ below →
+      Each (IsCalledPure pure) fs → pure (name_of c.routine) ≡ true →
+      c.origin ≡ Requested (clause_request h o x us) → IsFor s o x (values_of us) c →
+      ((below ≡ []) × ((w.handlers o.handler).queue ≡ []) × (w.rights.queue o.handler ≡ Some h))
+      ⊎ (w.rights.top o.handler ≡ Some h) →
+      RequestStands s pure w h asked o x us
+
+-- What a frame of h has asked, and waits for, where nothing has failed: its request stands, or the value has come.
+pub data IsPending (s : System) (pure : RoutineName → Bool) (w : World) (h : ℕ) (asked : List ℕ) (o : Reference)
+    (x : List ℕ) (us : List Operand) : Type 0 where
+  stands : (w.handlers h).answer ≡ None → RequestStands s pure w h asked o x us → IsPending s pure w h asked o x us
+  replied : {v : Value} → (w.handlers h).answer ≡ Some (Reply (Some v)) →
+      Answers s (Own o.handler) (objects_of w) o x us v → IsQuiet w h o.handler → IsPending s pure w h asked o x us
+
+-- ---- a routine in its precondition
+
+-- how it stands beside the evaluation of its clauses, by its stage, where it has asked these handlers
+abbrev pub StandsByStage : System → (RoutineName → Bool) → World → ℕ → List ℕ → Option Frame → Frame → Stage → Type 0
+StandsByStage s pure w h asked above f Runs =
+    ClausesAt s (MayAsk h asked) (objects_of w) f.current f.routine (bound_in f) (point_of f (w.handlers h).objects)
+StandsByStage s pure w h asked above f Reserves =
+    (asked ≡ []) × (point_of f (w.handlers h).objects
+    ≡ between_point (objects_of w) f.current f.routine (bound_in f) f.routine.require)
+StandsByStage s pure w h asked above f (InCall (Some t)) =
+    (c : Calling) × (o : Reference) × (x : List ℕ) × (us : List Operand)
+    × ClauseDone s (MayAsk h asked) (objects_of w) f.current f.routine (bound_in f) (Enters c o x us (Some t))
+    (point_of f (w.handlers h).objects)
+    × (o.handler ≡ h) × AboveIsFor s above o x us
+StandsByStage s pure w h asked above f (Awaits k (Some t) false) =
+    (o : Reference) × (x : List ℕ) × (us : List Operand)
+    × ClauseDone s (MayAsk h asked) (objects_of w) f.current f.routine (bound_in f) (Requests o x us (Some t) false)
+    (point_of f (w.handlers h).objects)
+    × (o.handler ≡ k) × (k ≢ h) × (above ≡ None) × RunsPureIfRoutine s pure o x × IsPending s pure w h asked o x us
+StandsByStage s pure w h asked above f stage = ⊥
+
+-- a frame in this stage waits for k
+abbrev pub AwaitsOf : Stage → ℕ → Type 0
+AwaitsOf (Awaits j gives is_creation) k = j ≡ k
+AwaitsOf stage k = ⊥
+
+-- The routine stands in its precondition. The handlers that it has asked are others and quiet, but the one that it
+-- waits for; and nothing is bound in it but its actuals.
+pub record InPrecondition (s : System) (pure : RoutineName → Bool) (w : World) (h : ℕ) (above : Option Frame)
+    (f : Frame) : Type 0 where
+  pub asked : List ℕ
+  pub quiet : (k : ℕ) → Contains asked k → (k ≢ h) × (IsQuiet w h k ⊎ AwaitsOf f.stage k)
+  pub environment_is : f.environment ≡ bound_in f
+  pub stands : StandsByStage s pure w h asked above f f.stage
+
+-- The frame waits for an answer, and what has come is no reply: its handler fails with its next turn.
+abbrev pub IsLost : World → ℕ → Frame → Type 0
+IsLost w h f =
+    (is_awaiting f.stage ≡ true) × (((w.handlers h).answer ≡ Some Failed) ⊎ ((w.handlers h).answer ≡ Some Refused))
+
+-- ---- stacks and worlds
+
+-- Above a frame that evaluates stand pure functions alone, on the same handler.
+abbrev pub AboveIsPure : (RoutineName → Bool) → Option Frame → Type 0
+AboveIsPure pure None = Unit {0}
+AboveIsPure pure (Some g) = IsCalledPure pure g
+
+-- The frame follows the evaluation by the definition: its body has started, or it is lost, or it stands in its
+-- precondition; and where it runs a pure function, it stands beside that function's evaluation.
+pub record FrameFollows (s : System) (pure : RoutineName → Bool) (w : World) (h : ℕ) (above : Option Frame)
+    (f : Frame) : Type 0 where
+  pub in_precondition : HasStarted f.tasks
+      ⊎ (IsLost w h f ⊎ (AboveIsPure pure above × InPrecondition s pure w h above f))
+  pub in_pure : pure (name_of f.routine) ≡ true →
+      AboveIsPure pure above × FollowsPure s (objects_of w) above f f.stage
+  pub is_bound : pure (name_of f.routine) ≡ true → AreBound s f.routine (bound_in f)
+  pub reserves_nothing : pure (name_of f.routine) ≡ true → f.reserved ≡ []
+
+-- So does each frame of the stack, below this one.
+abbrev pub StackFollows : System → (RoutineName → Bool) → World → ℕ → Option Frame → List Frame → Type 0
+StackFollows s pure w h above [] = Unit {0}
+StackFollows s pure w h above (f ∷ below) = FrameFollows s pure w h above f × StackFollows s pure w h (Some f) below
+
+-- So does each frame of each handler that hasn't failed.
+abbrev pub WorldFollows : System → (RoutineName → Bool) → World → Type 0
+WorldFollows s pure w = (h : ℕ) → h < w.count → (w.handlers h).failure ≡ None →
+    StackFollows s pure w h None (w.handlers h).stack

@@ -1,0 +1,12 @@
+pub mod settlements
+pub mod states
+pub mod RequestLaws
+pub mod Evaluating
+pub mod Formulas
+pub mod ClauseLaws
+pub mod Texts
+pub mod SettledObjects
+pub mod Following
+pub mod Points
+pub mod Starting
+pub mod Turns

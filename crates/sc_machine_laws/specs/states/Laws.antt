@@ -1,0 +1,107 @@
+-- What follows in every state that is reached.
+use Rattle.std.specs.Prelude.{ℕ, ◌≡◌, ◌≢◌, ◌⊎◌, ◌↔◌, List, [], ◌∷◌, Some, None, true, false}
+use Rattle.sc_lockpass.specs.Passing as passing
+use Rattle.sc_lockpass.specs.Passing.{Passed}
+use Rattle.sc_machine_laws.specs.states.World.{Wait, Request, Reservation, Frame, World, holder, rights_of, give_back, fail, requests_of}
+use Rattle.sc_machine_laws.specs.states.Steps.{IsActive, IsTold, IsIdle, answered, Holds, Ends, MayFail, EachHeld, Step}
+use Rattle.sc_machine_laws.specs.states.Consistent.{StackWaits, IsOpen, IsOne}
+use Rattle.sc_machine_laws.specs.states.Chains.{WaitsOn, InChain}
+use Rattle.sc_machine_laws.specs.states.Lawful.{IsLawful, IsReached}
+
+-- Each step keeps it, and so it holds in every state that is reached.
+abbrev pub StepsAreLawful : Type 0
+StepsAreLawful = (w v : World) → IsLawful w → Step w v → IsLawful v
+
+abbrev pub ReachedAreLawful : Type 0
+ReachedAreLawful = (w : World) → IsReached w → IsLawful w
+
+-- ---- posted under a right, and taken in order
+
+-- A request that comes to stand at a handler is new, and its poster then holds that handler.
+abbrev pub PostedUnderRight : Type 0
+PostedUnderRight =
+    (w v : World) → IsLawful w → Step w v → (k : ℕ) (r : Request) → IsOne r (requests_of (v.handlers k))
+    → IsOne r (requests_of (w.handlers k)) ⊎ ((r.number ≡ w.next) × Holds w r.poster k)
+
+-- ---- kept for the request
+
+-- From its post to its end a request keeps its target from being reserved.
+abbrev pub KeptForRequest : Type 0
+KeptForRequest = (w : World) → IsLawful w → (k : ℕ) (r : Request) → IsOne r (requests_of (w.handlers k)) → IsIdle k w
+    → ⊥
+
+-- ---- the chain
+
+-- One of the chain of a request that is waited for may post to its target or push on its waiting stack, or has
+-- failed.
+abbrev pub ChainsHold : World → Type 0
+ChainsHold w =
+    (p k : ℕ) → WaitsOn w p k
+    → (z : ℕ) × ((holder (w.queue k) ≡ Some z) ⊎ ((holder (w.top k) ≡ Some z) ⊎ ((w.handlers z).failed ≡ true)))
+    × InChain w p z
+
+-- While none of the chain has failed, one of it holds the target.
+abbrev pub ChainHolds : Type 0
+ChainHolds =
+    (w : World) → IsLawful w → (p k : ℕ) → WaitsOn w p k → ((z : ℕ) → InChain w p z → (w.handlers z).failed ≡ false)
+    → (z : ℕ) × Holds w z k × InChain w p z
+
+-- ---- held while it runs
+
+-- The frame is the topmost, or it stands under frames that no request began: its own calls and its open blocks.
+abbrev pub RunsIn : Frame → List Frame → Type 0
+RunsIn f [] = ⊥
+RunsIn f (g ∷ fs) = (g ≡ f) ⊎ ((g.origin ≡ None) × RunsIn f fs)
+
+-- What such a frame needs is held, where its handler goes on.
+abbrev pub HeldWhileItRuns : Type 0
+HeldWhileItRuns =
+    (w : World) → IsLawful w → (p : ℕ) (f : Frame) → IsActive (w.handlers p) → RunsIn f (w.handlers p).stack
+    → EachHeld w p f.needs
+
+-- So is what it newly reserved.
+abbrev pub EachGranted : World → ℕ → List Reservation → Type 0
+EachGranted w p [] = Unit {0}
+EachGranted w p (r ∷ rs) = (holder (w.queue r.handler) ≡ Some p) × EachGranted w p rs
+
+abbrev pub ReservedWhileItRuns : Type 0
+ReservedWhileItRuns =
+    (w : World) → IsLawful w → (p : ℕ) (f : Frame) → IsActive (w.handlers p) → RunsIn f (w.handlers p).stack
+    → EachGranted w p f.reserved
+
+-- ---- told
+
+-- A handler is told where it has an open wait for one that has failed, and only where it waits for one.
+abbrev pub Told : Type 0
+Told =
+    (w : World) → IsLawful w → (p : ℕ)
+    → ((v : Wait) → IsOpen v (w.handlers p) → (w.handlers v.target).failed ≡ true → IsTold (w.handlers p))
+    × (IsTold (w.handlers p) → (v : Wait) × StackWaits v (w.handlers p).stack × ((w.handlers v.target).failed ≡ true))
+
+-- A failure tells those who wait for the handler, and nobody else.
+abbrev pub FailureTells : Type 0
+FailureTells =
+    (w : World) → IsLawful w → (h : ℕ) → MayFail h w → (p : ℕ) → p ≢ h
+    → IsTold ((fail h w).handlers p) ↔ (IsTold (w.handlers p) ⊎ ((v : Wait) × IsOpen v (w.handlers p) × (v.target ≡ h)))
+
+-- ---- one answer
+
+-- No reply meets a reply: a poster that hasn't failed has no answer yet as its request ends, unless a failure was
+-- told to it.
+abbrev pub OneAnswer : Type 0
+OneAnswer =
+    (w : World) → IsLawful w → (h : ℕ) (r : Request) → Ends h r w → (w.handlers r.poster).failed ≡ false
+    → ((w.handlers r.poster).answer ≡ None) ⊎ IsTold (w.handlers r.poster)
+
+-- No callback stands beside a reply.
+abbrev pub CallbackFirst : Type 0
+CallbackFirst = (w : World) → IsLawful w → (k : ℕ) (r : Request) → (w.handlers k).callback ≡ Some r
+    → answered (w.handlers k).answer ≡ false
+
+-- ---- what is given back
+
+-- With the end of a request exactly what was listed as it was put returns.
+abbrev pub ListedReturns : Type 0
+ListedReturns =
+    (w : World) → IsLawful w → (h : ℕ) (r : Request) (p : Passed) → Ends h r w → r.passed ≡ Some p
+    → passing.give_back p (rights_of w) ≡ rights_of (give_back r.number w)

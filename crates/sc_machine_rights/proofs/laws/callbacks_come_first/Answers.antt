@@ -1,6 +1,0 @@
-use Rattle.sc_machine_rights.proofs.MachineHolders.{machine_callbacks_come_first}
-use Rattle.sc_machine_rights.proofs.links.Reached.{reached_stands}
-use Rattle.sc_machine_rights.proofs.laws.callbacks_come_first.Goals as goal
-
-pub returns : goal.returns
-returns c = λ most s root w is. let t = reached_stands most s root w is in machine_callbacks_come_first t.0 w t.1 t.2

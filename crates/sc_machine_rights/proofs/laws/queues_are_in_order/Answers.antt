@@ -1,5 +1,0 @@
-use Rattle.sc_machine_rights.proofs.Queues.{queues_are_in_order}
-use Rattle.sc_machine_rights.proofs.laws.queues_are_in_order.Goals as goal
-
-pub returns : goal.returns
-returns c = queues_are_in_order

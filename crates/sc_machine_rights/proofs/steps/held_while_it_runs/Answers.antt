@@ -1,5 +1,0 @@
-use Rattle.sc_machine_rights.proofs.LawProofs.{held_while_it_runs}
-use Rattle.sc_machine_rights.proofs.steps.held_while_it_runs.Goals as goal
-
-pub returns : goal.returns
-returns c = held_while_it_runs

@@ -1,5 +1,0 @@
-use Rattle.sc_machine_rights.proofs.LawProofs.{posted_under_right}
-use Rattle.sc_machine_rights.proofs.steps.posted_under_right.Goals as goal
-
-pub returns : goal.returns
-returns c = posted_under_right

@@ -1,5 +1,0 @@
-use Rattle.sc_machine_rights.proofs.ValueAwaitedEnds.{each_non_separate_is_own}
-use Rattle.sc_machine_rights.proofs.value_laws.each_non_separate_is_own.Goals as goal
-
-pub returns : goal.returns
-returns c = each_non_separate_is_own

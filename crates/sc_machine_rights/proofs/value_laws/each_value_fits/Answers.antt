@@ -1,5 +1,0 @@
-use Rattle.sc_machine_rights.proofs.ValueAwaitedEnds.{each_value_fits}
-use Rattle.sc_machine_rights.proofs.value_laws.each_value_fits.Goals as goal
-
-pub returns : goal.returns
-returns c = each_value_fits

@@ -1,5 +1,0 @@
-use Rattle.sc_machine_rights.proofs.CallTurns.{entries_keep_it}
-use Rattle.sc_machine_rights.proofs.value_laws.entries_keep_it.Goals as goal
-
-pub returns : goal.returns
-returns c = entries_keep_it

@@ -1,5 +1,0 @@
-use Rattle.sc_machine_rights.proofs.PassingLaws.{fit_where_conforming}
-use Rattle.sc_machine_rights.proofs.value_laws.fit_where_conforming.Goals as goal
-
-pub returns : goal.returns
-returns c = fit_where_conforming

@@ -1,5 +1,0 @@
-use Rattle.sc_machine_rights.proofs.PassingLaws.{fit_where_passed}
-use Rattle.sc_machine_rights.proofs.value_laws.fit_where_passed.Goals as goal
-
-pub returns : goal.returns
-returns c = fit_where_passed

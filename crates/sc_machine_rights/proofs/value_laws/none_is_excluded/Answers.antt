@@ -1,5 +1,0 @@
-use Rattle.sc_machine_rights.proofs.ExcludedFailures.{none_is_excluded}
-use Rattle.sc_machine_rights.proofs.value_laws.none_is_excluded.Goals as goal
-
-pub returns : goal.returns
-returns c = none_is_excluded

@@ -1,5 +1,0 @@
-use Rattle.sc_machine_rights.proofs.Refusals.{refusals_keep_it}
-use Rattle.sc_machine_rights.proofs.value_laws.refusals_keep_it.Goals as goal
-
-pub returns : goal.returns
-returns c = refusals_keep_it

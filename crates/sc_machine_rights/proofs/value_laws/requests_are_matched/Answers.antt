@@ -1,5 +1,0 @@
-use Rattle.sc_machine_rights.proofs.Matches.{requests_are_matched}
-use Rattle.sc_machine_rights.proofs.value_laws.requests_are_matched.Goals as goal
-
-pub returns : goal.returns
-returns c = requests_are_matched

@@ -1,5 +1,0 @@
-use Rattle.sc_machine_rights.proofs.Frames.{running_frames_move}
-use Rattle.sc_machine_rights.proofs.value_laws.running_frames_move.Goals as goal
-
-pub returns : goal.returns
-returns c = running_frames_move

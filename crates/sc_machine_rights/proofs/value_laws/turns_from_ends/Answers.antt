@@ -1,5 +1,0 @@
-use Rattle.sc_machine_rights.proofs.Turns.{turns_from_ends}
-use Rattle.sc_machine_rights.proofs.value_laws.turns_from_ends.Goals as goal
-
-pub returns : goal.returns
-returns c = turns_from_ends

@@ -1,5 +1,0 @@
-use Rattle.sc_machine_rights.proofs.ValuesFit.{fit_where_world_fits}
-use Rattle.sc_machine_rights.proofs.value_laws.values_fit.Goals as goal
-
-pub returns : goal.returns
-returns c = fit_where_world_fits

@@ -1,5 +1,0 @@
-use Rattle.sc_machine_rights.proofs.Reached.{from_turns}
-use Rattle.sc_machine_rights.proofs.value_laws.values_fit_from_turns.Goals as goal
-
-pub returns : goal.returns
-returns c = from_turns

@@ -1,4 +1,0 @@
-//! The core beside the machine: in each state that is reached, its settlements are its half of the machine's steps.
-#![tactic(auto)]
-
-pub mod laws;
