@@ -58,8 +58,8 @@ use Rattle.sc_acts.specs.declared.act.RemoteCreation.{RemoteCreation}
 use Rattle.sc_acts.specs.declared.act.RemoteCall.{RemoteCall}
 use Rattle.sc_acts.specs.Requesting.{awaiting_if, request_in, sending, sent, is_waited}
 use Rattle.sc_play.specs.Turns.{done}
-use Rattle.sc_refines_region.specs.RegionSteps.{number_among}
-use Rattle.sc_refines_region.specs.Wanting.{DistinctNamesHaveNumbers}
+use Rattle.sc_refines_world.specs.regions.RegionSteps.{number_among}
+use Rattle.sc_refines_world.specs.regions.Wanting.{DistinctNamesHaveNumbers}
 use Rattle.sc_refines_world.proofs.Exact.{Grown}
 use Rattle.sc_refines_world.proofs.Molds.{Mold, OneOf, Told, coded_mold, entry_mold, mold_at, mold_of, molds_of, next_mold}
 use Rattle.sc_refines_world.proofs.LeftStores.{Left, still, values_written, values_taken, either, weaken, fallen_one, settled_one, entered_one, entered_if_one, handed_one}

@@ -29,8 +29,8 @@ use Rattle.sc_handler.specs.Picking.{job_of}
 use Rattle.sc_request.specs.Halves.{IsHandlerOf, IsStage, IsTop}
 use Rattle.sc_request.specs.Logs.{Center, pick_for, picked, settles}
 use Rattle.sc_request.specs.Settling.{settled}
-use Rattle.sc_refines_region.specs.RegionHalves.{AreFrames, AreHalvesOf, IsStageFor, stage_of}
-use Rattle.sc_refines_region.specs.RegionSteps.{numbering_by}
+use Rattle.sc_refines_world.specs.regions.RegionHalves.{AreFrames, AreHalvesOf, IsStageFor, stage_of}
+use Rattle.sc_refines_world.specs.regions.RegionSteps.{numbering_by}
 use Rattle.sc_play.specs.Answering.{told_on, top_stage}
 use Rattle.sc_play.specs.Regions.{IsRefused, PlainRegion, Plays}
 use Rattle.sc_play.specs.Turns.{begun}

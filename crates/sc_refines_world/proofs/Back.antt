@@ -13,8 +13,8 @@ use Rattle.sc_region.specs.declared.value.Value.TheVariants.{Integer, Boolean, V
 use Rattle.sc_region.specs.Objects.{PlainObject}
 use Rattle.sc_interp.specs.Objects.{object_in, objects_in, valued}
 use Rattle.sc_interp.specs.Values.{reference_of, value_of, values_of}
-use Rattle.sc_refines_region.specs.RegionSteps.{IsProgramFor}
-use Rattle.sc_refines_region.proofs.MetInvariants.{fresh_many}
+use Rattle.sc_refines_world.specs.regions.RegionSteps.{IsProgramFor}
+use Rattle.sc_refines_world.proofs.regions.MetInvariants.{fresh_many}
 use Rattle.sc_refines_world.specs.Functional.{AreExact, IsExact}
 
 -- ---- values

@@ -21,10 +21,10 @@ use Rattle.sc_handler.specs.Handlers as core
 use Rattle.sc_handler.specs.Handlers.{State}
 use Rattle.sc_handler.specs.Picking.{job_answered, job_at, job_awaiting, job_of, job_with}
 use Rattle.sc_request.specs.Halves.{IsStage}
-use Rattle.sc_refines_region.specs.RegionHalves.{IsHalfOfFrame, IsStageFor, IsToldOf}
-use Rattle.sc_refines_region.specs.RegionTurns.{Half, told, told_frames}
-use Rattle.sc_refines_region.specs.Turns.{begun_half}
-use Rattle.sc_refines_region.specs.Waiting.{IsInContract, IsVersion}
+use Rattle.sc_refines_world.specs.regions.RegionHalves.{IsHalfOfFrame, IsStageFor, IsToldOf}
+use Rattle.sc_refines_world.specs.regions.RegionTurns.{Half, told, told_frames}
+use Rattle.sc_refines_world.specs.regions.Turns.{begun_half}
+use Rattle.sc_refines_world.specs.regions.Waiting.{IsInContract, IsVersion}
 use Rattle.sc_machine_laws.specs.states.Fitting.{FrameFits, WorldFits, coming_to}
 use Rattle.sc_machine_laws.specs.states.Points.{Each, PointFits, types_of}
 use Rattle.sc_machine_laws.specs.states.ValueSteps.{IsThereIfOwn, StepFits, ValuesDo}

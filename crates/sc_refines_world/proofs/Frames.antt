@@ -18,10 +18,10 @@ use Rattle.sc_region.specs.declared.frame.Stage as code_stage
 use Rattle.sc_region.specs.declared.value.Value.{Value}
 use Rattle.sc_region.specs.Frames.{PlainActivation, PlainFrame}
 use Rattle.sc_region.specs.OperandList.{OldList, OperandList}
-use Rattle.sc_refines_region.specs.RegionHalves.{AreFrames, IsFrame, StandsIn}
-use Rattle.sc_refines_region.specs.RegionSteps.{IsProgramFor}
-use Rattle.sc_refines_region.proofs.PassedOperations.{stands_within}
-use Rattle.sc_refines_region.proofs.ProgramRoutines.{code_at, few_operations}
+use Rattle.sc_refines_world.specs.regions.RegionHalves.{AreFrames, IsFrame, StandsIn}
+use Rattle.sc_refines_world.specs.regions.RegionSteps.{IsProgramFor}
+use Rattle.sc_refines_world.proofs.regions.PassedOperations.{stands_within}
+use Rattle.sc_refines_world.proofs.regions.ProgramRoutines.{code_at, few_operations}
 use Rattle.sc_refines_world.proofs.Back.{option_same, reference_same, values_same}
 use Rattle.sc_refines_world.proofs.Molds.{Mold, mold_of, molds_of}
 

@@ -10,7 +10,7 @@ use Rattle.sc_code.specs.declared.program.Image.{Image}
 use Rattle.sc_region.specs.declared.job.Job.{Job}
 use Rattle.sc_request.specs.Laws.{PicksWhereTurns}
 use Rattle.sc_request.specs.Logs.{Center, first_from, first_with_job, next, numbers_from, pick_for}
-use Rattle.sc_refines_region.specs.RegionSteps.{numbering_by}
+use Rattle.sc_refines_world.specs.regions.RegionSteps.{numbering_by}
 use Rattle.sc_world.specs.Worlds.{PlainWorld}
 use Rattle.sc_refines_world.specs.Refining.{IdleWorldIsIdle}
 use Rattle.sc_refines_world.specs.Standing.{StandsFor, names_in}

@@ -14,7 +14,7 @@ use Rattle.sc_region.specs.Frames.{PlainFrame}
 use Rattle.sc_acts.specs.Entering.{routine_in}
 use Rattle.sc_acts.specs.Tables.{version_in}
 use Rattle.sc_interp.specs.Values.{values_of}
-use Rattle.sc_refines_region.specs.RegionSteps.{number_among}
+use Rattle.sc_refines_world.specs.regions.RegionSteps.{number_among}
 
 -- What the half that a store stands for doesn't tell of a frame: its routine, the place, how many `old`s have room, and the slots
 -- behind those of its names.

@@ -2,13 +2,13 @@
 use Rattle.std.proofs.Common.{ℕ, [], refl}
 use Rattle.sc_model.specs.Runs.{opening}
 use Rattle.sc_lockpass.specs.Versions.{most_handlers}
-use Rattle.sc_refines_region.specs.RegionSteps.{RegionsAsk}
+use Rattle.sc_refines_world.specs.regions.RegionSteps.{RegionsAsk}
 use Rattle.sc_region.specs.Stores.{new_store}
 use Rattle.sc_request.specs.Laws.{PicksWhereTurns}
-use Rattle.sc_refines_region.specs.Placed.{SoundJobsAreTaken}
-use Rattle.sc_refines_region.specs.Sound.{NewStoresAreSound}
-use Rattle.sc_refines_region.specs.Joined as joined
-use Rattle.sc_refines_region.specs.Order.{OpensInOrder, TurnsKeepOrder}
+use Rattle.sc_refines_world.specs.regions.Placed.{SoundJobsAreTaken}
+use Rattle.sc_refines_world.specs.regions.Sound.{NewStoresAreSound}
+use Rattle.sc_refines_world.specs.regions.Joined as joined
+use Rattle.sc_refines_world.specs.regions.Order.{OpensInOrder, TurnsKeepOrder}
 use Rattle.sc_machine_laws.specs.settlements.Reached.{EntriesAreRemembered, HalvesWhereReached}
 use Rattle.sc_machine_laws.specs.SettledObjects.{SettledMeetWhereReached}
 use Rattle.sc_world.specs.Worlds.{opened}

@@ -13,13 +13,13 @@ use Rattle.sc_handler.specs.Handlers as core
 use Rattle.sc_handler.specs.Handlers.{new_handler, posted}
 use Rattle.sc_request.specs.Logs as logs
 use Rattle.sc_request.specs.Logs.{root_of}
-use Rattle.sc_refines_region.specs.RegionHalves.{AreHalvesOf, IsRegionHalf}
-use Rattle.sc_refines_region.specs.RegionSteps.{number_among, numbering_by}
-use Rattle.sc_refines_region.specs.RegionTurns.{new_half}
+use Rattle.sc_refines_world.specs.regions.RegionHalves.{AreHalvesOf, IsRegionHalf}
+use Rattle.sc_refines_world.specs.regions.RegionSteps.{number_among, numbering_by}
+use Rattle.sc_refines_world.specs.regions.RegionTurns.{new_half}
 use Rattle.sc_play.specs.Regions.{PlainRegion, new_region}
-use Rattle.sc_refines_region.specs.Taking.{IsNamed, IsNameOf}
+use Rattle.sc_refines_world.specs.regions.Taking.{IsNamed, IsNameOf}
 use Rattle.sc_code.specs.RequestRoom.{FitsRequests}
-use Rattle.sc_refines_region.proofs.TurnWants.{distinct_names_have_numbers}
+use Rattle.sc_refines_world.proofs.regions.TurnWants.{distinct_names_have_numbers}
 use Rattle.sc_machine_laws.specs.settlements.Reached as halves
 use Rattle.sc_world.specs.Worlds.{max_handlers, new_regions}
 use Rattle.sc_refines_world.specs.Standing.{names_in}

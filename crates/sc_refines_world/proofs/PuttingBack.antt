@@ -18,7 +18,7 @@ use Rattle.sc_handler.specs.Handlers.{Answer, Awaits, Handler, HasMade, Idle, Po
 use Rattle.sc_handler.specs.Picking.{job_answered, job_at, job_awaiting, job_idle, job_of, job_reserving, job_with, needs}
 use Rattle.sc_request.specs.Logs.{Center, granted, picked, put_back, put_back_with, ungranted}
 use Rattle.sc_request.specs.Halves.{IsHalfOf}
-use Rattle.sc_refines_region.specs.RegionSteps.{numbering_by}
+use Rattle.sc_refines_world.specs.regions.RegionSteps.{numbering_by}
 use Rattle.sc_play.specs.Regions.{PlainRegion}
 use Rattle.sc_world.specs.Turning.{HeldUpUnder, IsHeldUp}
 use Rattle.sc_world.specs.Worlds.{PlainWorld}

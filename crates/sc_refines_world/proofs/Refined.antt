@@ -18,17 +18,17 @@ use Rattle.sc_region.specs.declared.job.Want.{Want}
 use Rattle.sc_region.specs.Stores.{PlainStore}
 use Rattle.sc_request.specs.Laws.{PicksWhereTurns}
 use Rattle.sc_request.specs.Logs.{next}
-use Rattle.sc_refines_region.specs.RegionHalves.{IsRegionOf}
-use Rattle.sc_refines_region.specs.RegionSteps.{IsProgramFor, RegionsAsk, first_want, numbering_by, task_of}
-use Rattle.sc_refines_region.specs.RegionTurns.{Half, taken_turn}
+use Rattle.sc_refines_world.specs.regions.RegionHalves.{IsRegionOf}
+use Rattle.sc_refines_world.specs.regions.RegionSteps.{IsProgramFor, RegionsAsk, first_want, numbering_by, task_of}
+use Rattle.sc_refines_world.specs.regions.RegionTurns.{Half, taken_turn}
 use Rattle.sc_play.specs.Regions.{EndsIn}
-use Rattle.sc_refines_region.specs.Halves.{JobFits}
-use Rattle.sc_refines_region.specs.Placed.{SoundJobsAreTaken, begun_when}
-use Rattle.sc_refines_region.specs.Sound.{IsSound, NewStoresAreSound}
-use Rattle.sc_refines_region.specs.Order.{EachInOrder, OpensInOrder, TurnsKeepOrder}
+use Rattle.sc_refines_world.specs.regions.Halves.{JobFits}
+use Rattle.sc_refines_world.specs.regions.Placed.{SoundJobsAreTaken, begun_when}
+use Rattle.sc_refines_world.specs.regions.Sound.{IsSound, NewStoresAreSound}
+use Rattle.sc_refines_world.specs.regions.Order.{EachInOrder, OpensInOrder, TurnsKeepOrder}
 use Rattle.sc_machine_laws.specs.SettledObjects.{SettledMeetWhereReached}
 use Rattle.sc_machine_laws.specs.settlements.Reached.{EntriesAreRemembered, HalvesWhereReached}
-use Rattle.sc_refines_region.specs.Joined as joined
+use Rattle.sc_refines_world.specs.regions.Joined as joined
 use Rattle.sc_world.specs.Kept.{KeptAlikeAreAlike, OpeningsAreOf, RunsStayOf}
 use Rattle.sc_world.specs.Worlds.{opened}
 use Rattle.sc_refines_world.specs.Refining.{IsRunWithin, MachineHasHeadline, RoundsRunAsMachine, StoppedRoundsStayNear, StoppedWorldStaysNear, WorldHasHeadline, WorldRunsAsMachine}

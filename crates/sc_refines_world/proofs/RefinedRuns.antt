@@ -15,9 +15,9 @@ use Rattle.sc_region.specs.Stores.{PlainStore, new_store}
 use Rattle.sc_request.specs.Asked.{Numbering}
 use Rattle.sc_request.specs.Halves.{IsHalfOf}
 use Rattle.sc_request.proofs.Opening.{opens}
-use Rattle.sc_refines_region.specs.RegionSteps.{numbering_by}
-use Rattle.sc_refines_region.specs.RegionTurns.{Half, new_half}
-use Rattle.sc_refines_region.proofs.RegionOpening.{new_region as new_store_stands}
+use Rattle.sc_refines_world.specs.regions.RegionSteps.{numbering_by}
+use Rattle.sc_refines_world.specs.regions.RegionTurns.{Half, new_half}
+use Rattle.sc_refines_world.proofs.regions.RegionOpening.{new_region as new_store_stands}
 use Rattle.sc_play.specs.Regions.{PlainRegion, new_region}
 use Rattle.sc_code.specs.RequestRoom.{FitsRequests}
 use Rattle.sc_request.specs.Laws.{PicksWhereTurns}

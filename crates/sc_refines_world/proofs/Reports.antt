@@ -20,7 +20,7 @@ use Rattle.sc_handler.specs.Picking.{job_of, status_idle, status_with}
 use Rattle.sc_request.specs.Halves.{IsStage, IsTop}
 use Rattle.sc_request.specs.Logs.{status_in}
 use Rattle.sc_request.specs.Laws.{PicksWhereTurns}
-use Rattle.sc_refines_region.specs.RegionSteps.{numbering_by}
+use Rattle.sc_refines_world.specs.regions.RegionSteps.{numbering_by}
 use Rattle.sc_play.specs.Regions.{PlainRegion}
 use Rattle.sc_play.specs.Turns.{StopsFirst, begun, is_going}
 use Rattle.sc_world.specs.Reports.{handler_report, handlers_report, is_busy, output_in, report, report_of, some_is_busy, statuses}

@@ -9,8 +9,8 @@ use Rattle.sc_handler.specs.Handlers.{Posted, State}
 use Rattle.sc_handler.specs.Changes as changes
 use Rattle.sc_request.specs.Asked.{errand_of}
 use Rattle.sc_request.specs.Halves.{IsHalfOf, posted_of}
-use Rattle.sc_refines_region.specs.RegionSteps.{AreNamed, IsNamed, number_among, numbering_by}
-use Rattle.sc_refines_region.specs.Taking as coded
+use Rattle.sc_refines_world.specs.regions.RegionSteps.{AreNamed, IsNamed, number_among, numbering_by}
+use Rattle.sc_refines_world.specs.regions.Taking as coded
 use Rattle.sc_machine_laws.specs.states.Points.{Each}
 use Rattle.sc_machine_laws.proofs.states.Lists.{each_append}
 use Rattle.sc_refines_world.proofs.Asked.{AllAsk}

@@ -23,7 +23,7 @@ use Rattle.sc_handler.specs.Fits.{goes_on}
 use Rattle.sc_request.specs.Candidates.{comes_again}
 use Rattle.sc_request.specs.Laws.{PicksWhereTurns}
 use Rattle.sc_request.specs.Logs.{Center, first_from, first_with_job, next, pick_for, picked, round}
-use Rattle.sc_refines_region.specs.RegionSteps.{numbering_by}
+use Rattle.sc_refines_world.specs.regions.RegionSteps.{numbering_by}
 use Rattle.sc_play.specs.Regions.{PlainRegion}
 use Rattle.sc_play.specs.Turns.{Becomes, FirstTurn, Turns, first, more}
 use Rattle.sc_world.specs.Rounds.{MakesAll, Rounds, more as one_more, none, turns_of_picked}

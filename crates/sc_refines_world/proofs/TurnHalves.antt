@@ -27,13 +27,13 @@ use Rattle.sc_handler.specs.Handlers as core
 use Rattle.sc_handler.specs.Handlers.{State}
 use Rattle.sc_handler.specs.Picking.{job_of}
 use Rattle.sc_request.specs.Halves.{IsHalfOf, IsTop}
-use Rattle.sc_refines_region.specs.RegionHalves.{AreHalvesOf, IsHalfOfFrame, IsRegionHalf, IsStageFor, unpassed}
-use Rattle.sc_refines_region.specs.RegionSteps.{numbering_by}
-use Rattle.sc_refines_region.specs.RegionTurns.{Half}
+use Rattle.sc_refines_world.specs.regions.RegionHalves.{AreHalvesOf, IsHalfOfFrame, IsRegionHalf, IsStageFor, unpassed}
+use Rattle.sc_refines_world.specs.regions.RegionSteps.{numbering_by}
+use Rattle.sc_refines_world.specs.regions.RegionTurns.{Half}
 use Rattle.sc_interp.specs.Serving as serving
-use Rattle.sc_refines_region.specs.Turns.{begun_half}
-use Rattle.sc_refines_region.specs.Halves.{AreComplete, AreWithin, GivesResult, GoesWell, HalfFits, HasRoutine, IsComplete, TopGoesWell}
-use Rattle.sc_refines_region.specs.Waiting.{RefusesInContract}
+use Rattle.sc_refines_world.specs.regions.Turns.{begun_half}
+use Rattle.sc_refines_world.specs.regions.Halves.{AreComplete, AreWithin, GivesResult, GoesWell, HalfFits, HasRoutine, IsComplete, TopGoesWell}
+use Rattle.sc_refines_world.specs.regions.Waiting.{RefusesInContract}
 use Rattle.sc_machine_laws.specs.states.Fitting as values
 use Rattle.sc_machine_laws.specs.states.Fitting.{FrameFits, Gives, Linked, ObjectFits, WorldFits, alone, called}
 use Rattle.sc_machine_laws.specs.states.Places as places

@@ -26,11 +26,11 @@ use Rattle.sc_handler.specs.Changes as changes
 use Rattle.sc_request.specs.Asked as asked
 use Rattle.sc_request.specs.Asked.{value_of}
 use Rattle.sc_request.specs.Halves.{IsHalfOf, answer_of, posted_of}
-use Rattle.sc_refines_region.specs.RegionHalves.{AreHalvesOf, IsRegionHalf, IsStageFor}
-use Rattle.sc_refines_region.specs.RegionSteps.{numbering_by}
-use Rattle.sc_refines_region.specs.RegionTurns.{Half}
-use Rattle.sc_refines_region.specs.Taking.{IsNamed}
-use Rattle.sc_refines_region.specs.Halves.{GetsReply, JobFits, RequestFits}
+use Rattle.sc_refines_world.specs.regions.RegionHalves.{AreHalvesOf, IsRegionHalf, IsStageFor}
+use Rattle.sc_refines_world.specs.regions.RegionSteps.{numbering_by}
+use Rattle.sc_refines_world.specs.regions.RegionTurns.{Half}
+use Rattle.sc_refines_world.specs.regions.Taking.{IsNamed}
+use Rattle.sc_refines_world.specs.regions.Halves.{GetsReply, JobFits, RequestFits}
 use Rattle.sc_machine_laws.specs.states.Fitting as values
 use Rattle.sc_machine_laws.specs.states.Fitting.{IsThere, WorldFits, is_due, is_made}
 use Rattle.sc_machine_laws.specs.states.Points.{Each}

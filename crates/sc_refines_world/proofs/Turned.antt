@@ -27,17 +27,17 @@ use Rattle.sc_interp.specs.Told as told
 use Rattle.sc_interp.specs.Told.{IsTold}
 use Rattle.sc_interp.specs.Values.{reference_of}
 use Rattle.sc_acts.proofs.Options.{none_some, some_same}
-use Rattle.sc_refines_region.specs.Laws.{ProgramsServe}
-use Rattle.sc_refines_region.specs.RegionHalves.{AreFrames, IsFrame, IsRegionOf}
-use Rattle.sc_refines_region.specs.RegionSteps.{IsProgramFor}
-use Rattle.sc_refines_region.specs.RegionTurns.{Half}
+use Rattle.sc_refines_world.specs.regions.Laws.{ProgramsServe}
+use Rattle.sc_refines_world.specs.regions.RegionHalves.{AreFrames, IsFrame, IsRegionOf}
+use Rattle.sc_refines_world.specs.regions.RegionSteps.{IsProgramFor}
+use Rattle.sc_refines_world.specs.regions.RegionTurns.{Half}
 use Rattle.sc_play.specs.Answering.{runs, top_stage}
 use Rattle.sc_play.specs.Turns.{Becomes, FirstTurn, GoesOn, TurnIn, TurnMade, done, told_unless}
-use Rattle.sc_refines_region.specs.Making.{CreatorsAreTold, told_half}
-use Rattle.sc_refines_region.specs.Placed.{SoundJobsAreTaken, told_when}
-use Rattle.sc_refines_region.specs.Wanting.{DistinctNamesHaveNumbers}
-use Rattle.sc_refines_region.proofs.SilentOperations.{runs_in}
-use Rattle.sc_refines_region.proofs.Unique.{hop_shown, one_visible}
+use Rattle.sc_refines_world.specs.regions.Making.{CreatorsAreTold, told_half}
+use Rattle.sc_refines_world.specs.regions.Placed.{SoundJobsAreTaken, told_when}
+use Rattle.sc_refines_world.specs.regions.Wanting.{DistinctNamesHaveNumbers}
+use Rattle.sc_refines_world.proofs.regions.SilentOperations.{runs_in}
+use Rattle.sc_refines_world.proofs.regions.Unique.{hop_shown, one_visible}
 use Rattle.sc_refines_world.specs.Functional.{AreExact, FirstTurnsAreFunctional, FirstTurnsKeepExact, IsGiven}
 use Rattle.sc_refines_world.proofs.Acted.{done_tells}
 use Rattle.sc_refines_world.proofs.LeftStores.{Left}

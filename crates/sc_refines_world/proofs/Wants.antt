@@ -31,7 +31,7 @@ use Rattle.sc_interp.specs.declared.hops.Hop.TheVariants as hop
 use Rattle.sc_acts.specs.Entering.{asks_beginning, asks_reserving, asks_with}
 use Rattle.sc_acts.specs.Exiting.{asks_exiting, asks_releasing, asks_returning}
 use Rattle.sc_acts.specs.Refusing.{asks_refusing, is_waited_for}
-use Rattle.sc_refines_region.specs.RegionSteps.{names_of}
+use Rattle.sc_refines_world.specs.regions.RegionSteps.{names_of}
 use Rattle.sc_acts.specs.Tables.{version_in, formals_at, name_at}
 use Rattle.sc_interp.specs.Told.{HasName, HasProcedure, IsReadyAt, IsTold, NamesCall, NamesCreation}
 use Rattle.sc_acts.specs.Turning.{unless_failed}
@@ -47,7 +47,7 @@ use Rattle.sc_acts.specs.Requesting.{asks_requesting, asks_sending, call_of, req
 use Rattle.sc_play.specs.Taking as taking
 use Rattle.sc_play.specs.Taking.{taken}
 use Rattle.sc_play.specs.Turns.{Becomes, FirstTurn, GoesOn, TurnIn, TurnMade, TurnUnder, asks_done, begun}
-use Rattle.sc_refines_region.specs.Taking.{IsNamed, IsNameOf}
+use Rattle.sc_refines_world.specs.regions.Taking.{IsNamed, IsNameOf}
 use Rattle.sc_refines_world.proofs.Asked.{WantAsks}
 
 abbrev AsksNamed : List (List ℕ) → Want → Type 0

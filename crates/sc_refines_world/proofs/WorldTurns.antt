@@ -26,13 +26,13 @@ use Rattle.sc_request.specs.Logs.{Center}
 use Rattle.sc_request.specs.Settling.{settled}
 use Rattle.sc_request.specs.Steps.{stepped}
 use Rattle.sc_request.specs.Laws.{PicksWhereTurns}
-use Rattle.sc_refines_region.specs.RegionHalves.{IsRegionOf, IsRegionHalf}
-use Rattle.sc_refines_region.specs.RegionSteps.{AreNamed, first_want, numbering_by, taken_if, task_of}
-use Rattle.sc_refines_region.specs.RegionTurns.{Half, new_half, taken_turn}
-use Rattle.sc_refines_region.proofs.RegionOpening.{new_region as new_store_stands}
+use Rattle.sc_refines_world.specs.regions.RegionHalves.{IsRegionOf, IsRegionHalf}
+use Rattle.sc_refines_world.specs.regions.RegionSteps.{AreNamed, first_want, numbering_by, taken_if, task_of}
+use Rattle.sc_refines_world.specs.regions.RegionTurns.{Half, new_half, taken_turn}
+use Rattle.sc_refines_world.proofs.regions.RegionOpening.{new_region as new_store_stands}
 use Rattle.sc_play.specs.Regions.{PlainRegion, Plays, new_region}
 use Rattle.sc_play.specs.Turns.{FirstTurn, Turns, first, more}
-use Rattle.sc_refines_region.specs.Taking.{IsNamed}
+use Rattle.sc_refines_world.specs.regions.Taking.{IsNamed}
 use Rattle.sc_machine_laws.specs.settlements.Reached.{HalvesWhereReached, RemembersAlong, RemembersEntry}
 use Rattle.sc_world.specs.Kept.{IsOf, KeptAlikeAreAlike, RunsStayOf, with_last}
 use Rattle.sc_world.specs.Turning.{IsTurn, Makes, Runs, TurnsUnder}

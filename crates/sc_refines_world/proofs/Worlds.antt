@@ -19,14 +19,14 @@ use Rattle.sc_request.specs.Asked.{Numbering}
 use Rattle.sc_request.specs.Halves.{IsHalfOf}
 use Rattle.sc_request.specs.Logs.{Center, picked, settles}
 use Rattle.sc_request.specs.Laws.{PicksWhereTurns}
-use Rattle.sc_refines_region.specs.RegionHalves.{IsRegionOf}
-use Rattle.sc_refines_region.specs.RegionSteps.{IsProgramFor, first_want, numbering_by, task_of}
-use Rattle.sc_refines_region.specs.RegionTurns.{Half, taken_turn}
+use Rattle.sc_refines_world.specs.regions.RegionHalves.{IsRegionOf}
+use Rattle.sc_refines_world.specs.regions.RegionSteps.{IsProgramFor, first_want, numbering_by, task_of}
+use Rattle.sc_refines_world.specs.regions.RegionTurns.{Half, taken_turn}
 use Rattle.sc_play.specs.Regions.{PlainRegion}
 use Rattle.sc_play.specs.Turns.{FirstTurn, Turns, first, more}
-use Rattle.sc_refines_region.specs.Halves.{JobFits}
-use Rattle.sc_refines_region.specs.Placed.{SoundJobsAreTaken, begun_when}
-use Rattle.sc_refines_region.specs.Sound.{IsSound}
+use Rattle.sc_refines_world.specs.regions.Halves.{JobFits}
+use Rattle.sc_refines_world.specs.regions.Placed.{SoundJobsAreTaken, begun_when}
+use Rattle.sc_refines_world.specs.regions.Sound.{IsSound}
 use Rattle.sc_machine_laws.specs.settlements.Reached.{HalvesWhereReached, RemembersAlong}
 use Rattle.sc_world.specs.Turning.{IsTurn, Makes, Runs, TurnsUnder}
 use Rattle.sc_world.specs.Worlds.{PlainWorld}

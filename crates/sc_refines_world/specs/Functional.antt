@@ -10,13 +10,13 @@ use Rattle.sc_region.specs.declared.job.Want.{Want}
 use Rattle.sc_region.specs.Classes.{class_at, defaults_of}
 use Rattle.sc_region.specs.Objects.{PlainObject}
 use Rattle.sc_region.specs.Stores.{PlainStore}
-use Rattle.sc_refines_region.specs.RegionHalves.{IsRegionOf}
-use Rattle.sc_refines_region.specs.RegionSteps.{IsProgramFor, names_of}
-use Rattle.sc_refines_region.specs.RegionTurns.{Half}
+use Rattle.sc_refines_world.specs.regions.RegionHalves.{IsRegionOf}
+use Rattle.sc_refines_world.specs.regions.RegionSteps.{IsProgramFor, names_of}
+use Rattle.sc_refines_world.specs.regions.RegionTurns.{Half}
 use Rattle.sc_play.specs.Turns.{FirstTurn}
-use Rattle.sc_refines_region.specs.Halves.{JobFits}
-use Rattle.sc_refines_region.specs.Placed.{begun_when}
-use Rattle.sc_refines_region.specs.Sound.{IsSound}
+use Rattle.sc_refines_world.specs.regions.Halves.{JobFits}
+use Rattle.sc_refines_world.specs.regions.Placed.{begun_when}
+use Rattle.sc_refines_world.specs.regions.Sound.{IsSound}
 use Rattle.sc_machine_laws.specs.states.Values.{WhereAccepted}
 use Rattle.sc_world.specs.Turning.{Runs}
 use Rattle.sc_world.specs.Worlds.{PlainWorld, opened}

@@ -1,3 +1,4 @@
+pub mod regions
 pub mod Standing
 pub mod Belonging
 pub mod Texts

@@ -8,9 +8,9 @@ use Rattle.sc_region.specs.declared.job.Job.{Job}
 use Rattle.sc_handler.specs.Handlers as core
 use Rattle.sc_handler.specs.Picking.{job_of}
 use Rattle.sc_request.specs.Halves.{IsHalfOf}
-use Rattle.sc_refines_region.specs.RegionHalves.{IsRegionOf, IsRegionHalf}
-use Rattle.sc_refines_region.specs.RegionSteps.{numbering_by}
-use Rattle.sc_refines_region.specs.RegionTurns.{Half}
+use Rattle.sc_refines_world.specs.regions.RegionHalves.{IsRegionOf, IsRegionHalf}
+use Rattle.sc_refines_world.specs.regions.RegionSteps.{numbering_by}
+use Rattle.sc_refines_world.specs.regions.RegionTurns.{Half}
 use Rattle.sc_play.specs.Regions.{IsRefused, PlainRegion, new_region}
 use Rattle.sc_world.specs.Worlds.{PlainWorld}
 

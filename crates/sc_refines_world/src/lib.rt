@@ -4,3 +4,4 @@
 
 pub mod laws;
 pub mod once;
+pub mod regions;

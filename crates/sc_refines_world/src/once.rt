@@ -3,14 +3,14 @@ ghost use Rattle.sc_refines_world.specs.Functional.{FirstTurnsAreFunctional, Fir
 
 use sc_machine_laws::invariant_laws::settled_objects_meet;
 use sc_machine_laws::settlements::laws::{core_settles_as_half_where_reached, entries_are_remembered};
-use sc_refines_region::asks::creators_are_told;
-use sc_refines_region::half_laws::programs_serve;
-use sc_refines_region::laws::{
+use crate::regions::asks::creators_are_told;
+use crate::regions::half_laws::programs_serve;
+use crate::regions::laws::{
     created_are_new, openings_are_in_order, others_keep_halves, regions_ask, regions_follow,
     turns_keep_order,
 };
-use sc_refines_region::sound::{new_stores_are_sound, sound_jobs_are_taken};
-use sc_refines_region::turn_laws::distinct_names_have_numbers;
+use crate::regions::sound::{new_stores_are_sound, sound_jobs_are_taken};
+use crate::regions::turn_laws::distinct_names_have_numbers;
 use sc_request::laws::core_picks_where_the_machine_turns;
 
 /// The first turn under a job leaves one store and asks one thing, on a sound store whose objects have as many attributes as their

@@ -1,5 +1,0 @@
-use Rattle.sc_refines_region.proofs.BlockAsks.{blocks_ask}
-use Rattle.sc_refines_region.proofs.asks.blocks_ask.Goals as goal
-
-pub returns : goal.returns
-returns c = blocks_ask c.programs_serve.ensures

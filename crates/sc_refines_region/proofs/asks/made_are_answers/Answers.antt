@@ -1,5 +1,0 @@
-use Rattle.sc_refines_region.proofs.Creators.{made_are_answers}
-use Rattle.sc_refines_region.proofs.asks.made_are_answers.Goals as goal
-
-pub returns : goal.returns
-returns c = made_are_answers

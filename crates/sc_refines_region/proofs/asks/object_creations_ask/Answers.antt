@@ -1,5 +1,0 @@
-use Rattle.sc_refines_region.proofs.CallAsks.{object_creations_ask}
-use Rattle.sc_refines_region.proofs.asks.object_creations_ask.Goals as goal
-
-pub returns : goal.returns
-returns c = object_creations_ask c.programs_serve.ensures

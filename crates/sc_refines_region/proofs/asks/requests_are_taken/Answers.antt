@@ -1,5 +1,0 @@
-use Rattle.sc_refines_region.proofs.TakenRequests.{requests_are_taken}
-use Rattle.sc_refines_region.proofs.asks.requests_are_taken.Goals as goal
-
-pub returns : goal.returns
-returns c = requests_are_taken

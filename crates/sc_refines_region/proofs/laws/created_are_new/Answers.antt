@@ -1,5 +1,0 @@
-use Rattle.sc_refines_region.proofs.Others.{created_are_new}
-use Rattle.sc_refines_region.proofs.laws.created_are_new.Goals as goal
-
-pub returns : goal.returns
-returns c = created_are_new

@@ -1,5 +1,0 @@
-use Rattle.sc_refines_region.proofs.OtherHandlers.{others_keep_halves}
-use Rattle.sc_refines_region.proofs.laws.others_keep_halves.Goals as goal
-
-pub returns : goal.returns
-returns c = others_keep_halves

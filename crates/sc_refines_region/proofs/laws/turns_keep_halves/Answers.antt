@@ -1,5 +1,0 @@
-use Rattle.sc_refines_region.proofs.Together.{turns_keep_halves}
-use Rattle.sc_refines_region.proofs.laws.turns_keep_halves.Goals as goal
-
-pub returns : goal.returns
-returns c = turns_keep_halves

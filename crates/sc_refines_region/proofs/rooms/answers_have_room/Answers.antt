@@ -1,5 +1,0 @@
-use Rattle.sc_refines_region.proofs.ValueRoom.{answers_have_room}
-use Rattle.sc_refines_region.proofs.rooms.answers_have_room.Goals as goal
-
-pub returns : goal.returns
-returns c = answers_have_room

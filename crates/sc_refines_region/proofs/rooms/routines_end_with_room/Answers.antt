@@ -1,5 +1,0 @@
-use Rattle.sc_refines_region.proofs.ValueRoom.{routines_end_with_room}
-use Rattle.sc_refines_region.proofs.rooms.routines_end_with_room.Goals as goal
-
-pub returns : goal.returns
-returns c = routines_end_with_room c.programs_serve.ensures

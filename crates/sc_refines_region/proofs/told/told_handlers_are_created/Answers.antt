@@ -1,5 +1,0 @@
-use Rattle.sc_refines_region.proofs.ToldOperations.{told_handlers_are_created}
-use Rattle.sc_refines_region.proofs.told.told_handlers_are_created.Goals as goal
-
-pub returns : goal.returns
-returns c = told_handlers_are_created c.programs_serve.ensures

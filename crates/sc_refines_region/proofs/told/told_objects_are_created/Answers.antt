@@ -1,5 +1,0 @@
-use Rattle.sc_refines_region.proofs.ToldOperations.{told_objects_are_created}
-use Rattle.sc_refines_region.proofs.told.told_objects_are_created.Goals as goal
-
-pub returns : goal.returns
-returns c = told_objects_are_created c.programs_serve.ensures

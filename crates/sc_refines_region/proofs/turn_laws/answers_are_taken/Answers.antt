@@ -1,5 +1,0 @@
-use Rattle.sc_refines_region.proofs.Jobs.{answers_are_taken}
-use Rattle.sc_refines_region.proofs.turn_laws.answers_are_taken.Goals as goal
-
-pub returns : goal.returns
-returns c = answers_are_taken

@@ -1,5 +1,0 @@
-use Rattle.sc_refines_region.proofs.Jobs.{bad_answers_are_taken}
-use Rattle.sc_refines_region.proofs.turn_laws.bad_answers_are_taken.Goals as goal
-
-pub returns : goal.returns
-returns c = bad_answers_are_taken

@@ -1,5 +1,0 @@
-use Rattle.sc_refines_region.proofs.TurnWants.{block_ends_ask}
-use Rattle.sc_refines_region.proofs.turn_laws.block_ends_ask.Goals as goal
-
-pub returns : goal.returns
-returns c = block_ends_ask c.programs_serve.ensures

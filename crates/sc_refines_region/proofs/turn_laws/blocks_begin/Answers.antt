@@ -1,5 +1,0 @@
-use Rattle.sc_refines_region.proofs.StageChanges.{blocks_begin}
-use Rattle.sc_refines_region.proofs.turn_laws.blocks_begin.Goals as goal
-
-pub returns : goal.returns
-returns c = blocks_begin c.programs_serve.ensures

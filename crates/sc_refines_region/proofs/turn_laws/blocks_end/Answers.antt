@@ -1,5 +1,0 @@
-use Rattle.sc_refines_region.proofs.StageChanges.{blocks_end}
-use Rattle.sc_refines_region.proofs.turn_laws.blocks_end.Goals as goal
-
-pub returns : goal.returns
-returns c = blocks_end c.programs_serve.ensures

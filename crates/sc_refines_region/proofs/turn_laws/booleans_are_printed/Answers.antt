@@ -1,5 +1,0 @@
-use Rattle.sc_refines_region.proofs.PassedOperations.{booleans_are_printed}
-use Rattle.sc_refines_region.proofs.turn_laws.booleans_are_printed.Goals as goal
-
-pub returns : goal.returns
-returns c = booleans_are_printed c.programs_serve.ensures

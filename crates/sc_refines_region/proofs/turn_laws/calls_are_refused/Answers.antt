@@ -1,5 +1,0 @@
-use Rattle.sc_refines_region.proofs.Refusals.{calls_are_refused}
-use Rattle.sc_refines_region.proofs.turn_laws.calls_are_refused.Goals as goal
-
-pub returns : goal.returns
-returns c = calls_are_refused c.programs_serve.ensures

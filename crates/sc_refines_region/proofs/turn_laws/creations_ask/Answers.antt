@@ -1,5 +1,0 @@
-use Rattle.sc_refines_region.proofs.TurnWants.{creations_ask}
-use Rattle.sc_refines_region.proofs.turn_laws.creations_ask.Goals as goal
-
-pub returns : goal.returns
-returns c = creations_ask c.programs_serve.ensures

@@ -1,5 +1,0 @@
-use Rattle.sc_refines_region.proofs.TurnWants.{distinct_names_have_numbers}
-use Rattle.sc_refines_region.proofs.turn_laws.distinct_names_have_numbers.Goals as goal
-
-pub returns : goal.returns
-returns c = distinct_names_have_numbers

@@ -1,5 +1,0 @@
-use Rattle.sc_refines_region.proofs.StageChanges.{handlers_are_created}
-use Rattle.sc_refines_region.proofs.turn_laws.handlers_are_created.Goals as goal
-
-pub returns : goal.returns
-returns c = handlers_are_created c.programs_serve.ensures

@@ -1,5 +1,0 @@
-use Rattle.sc_refines_region.proofs.StageChanges.{no_block_ends}
-use Rattle.sc_refines_region.proofs.turn_laws.no_block_ends.Goals as goal
-
-pub returns : goal.returns
-returns c = no_block_ends c.programs_serve.ensures

@@ -1,5 +1,0 @@
-use Rattle.sc_refines_region.proofs.TurnWants.{refusals_ask}
-use Rattle.sc_refines_region.proofs.turn_laws.refusals_ask.Goals as goal
-
-pub returns : goal.returns
-returns c = refusals_ask c.programs_serve.ensures

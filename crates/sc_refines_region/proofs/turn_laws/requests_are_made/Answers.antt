@@ -1,5 +1,0 @@
-use Rattle.sc_refines_region.proofs.StageChanges.{requests_are_made}
-use Rattle.sc_refines_region.proofs.turn_laws.requests_are_made.Goals as goal
-
-pub returns : goal.returns
-returns c = requests_are_made c.programs_serve.ensures

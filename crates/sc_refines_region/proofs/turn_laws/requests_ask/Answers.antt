@@ -1,5 +1,0 @@
-use Rattle.sc_refines_region.proofs.TurnWants.{requests_ask}
-use Rattle.sc_refines_region.proofs.turn_laws.requests_ask.Goals as goal
-
-pub returns : goal.returns
-returns c = requests_ask c.programs_serve.ensures

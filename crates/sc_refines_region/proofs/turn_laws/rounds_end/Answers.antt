@@ -1,5 +1,0 @@
-use Rattle.sc_refines_region.proofs.PassedOperations.{rounds_end}
-use Rattle.sc_refines_region.proofs.turn_laws.rounds_end.Goals as goal
-
-pub returns : goal.returns
-returns c = rounds_end c.programs_serve.ensures

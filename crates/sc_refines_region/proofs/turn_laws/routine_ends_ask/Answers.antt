@@ -1,5 +1,0 @@
-use Rattle.sc_refines_region.proofs.TurnWants.{routine_ends_ask}
-use Rattle.sc_refines_region.proofs.turn_laws.routine_ends_ask.Goals as goal
-
-pub returns : goal.returns
-returns c = routine_ends_ask c.programs_serve.ensures

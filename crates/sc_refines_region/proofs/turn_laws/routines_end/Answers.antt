@@ -1,5 +1,0 @@
-use Rattle.sc_refines_region.proofs.Exits.{routines_end}
-use Rattle.sc_refines_region.proofs.turn_laws.routines_end.Goals as goal
-
-pub returns : goal.returns
-returns c = routines_end c.programs_serve.ensures

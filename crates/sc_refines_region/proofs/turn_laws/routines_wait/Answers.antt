@@ -1,5 +1,0 @@
-use Rattle.sc_refines_region.proofs.WaitedClauses.{routines_wait}
-use Rattle.sc_refines_region.proofs.turn_laws.routines_wait.Goals as goal
-
-pub returns : goal.returns
-returns c = routines_wait c.programs_serve.ensures

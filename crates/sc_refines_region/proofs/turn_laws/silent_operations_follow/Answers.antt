@@ -1,5 +1,0 @@
-use Rattle.sc_refines_region.proofs.SilentOperations.{silent_operations_follow}
-use Rattle.sc_refines_region.proofs.turn_laws.silent_operations_follow.Goals as goal
-
-pub returns : goal.returns
-returns c = silent_operations_follow c.programs_serve.ensures

@@ -1,5 +1,0 @@
-use Rattle.sc_refines_region.proofs.TurnAsks.{simple_steps_ask_nothing}
-use Rattle.sc_refines_region.proofs.turn_laws.simple_steps_ask_nothing.Goals as goal
-
-pub returns : goal.returns
-returns c = simple_steps_ask_nothing c.programs_serve.ensures

@@ -1,5 +1,0 @@
-use Rattle.sc_refines_region.proofs.Turns.{jobs_are_taken}
-use Rattle.sc_refines_region.proofs.turning.jobs_are_taken.Goals as goal
-
-pub returns : goal.returns
-returns c = jobs_are_taken c.programs_serve.ensures

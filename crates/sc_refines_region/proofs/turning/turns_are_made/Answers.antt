@@ -1,5 +1,0 @@
-use Rattle.sc_refines_region.proofs.Turns.{turns_are_made}
-use Rattle.sc_refines_region.proofs.turning.turns_are_made.Goals as goal
-
-pub returns : goal.returns
-returns c = turns_are_made c.programs_serve.ensures

@@ -1,5 +1,0 @@
-use Rattle.sc_refines_region.proofs.Versions.{turns_keep_versions}
-use Rattle.sc_refines_region.proofs.turning.turns_keep_versions.Goals as goal
-
-pub returns : goal.returns
-returns c = turns_keep_versions
