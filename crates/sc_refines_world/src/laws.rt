@@ -4,13 +4,15 @@ ghost use Rattle.sc_refines_world.specs.Refining.{HandlersComeAgain, IdleWorldIs
 ghost use Rattle.sc_refines_world.specs.Refining.{AttemptsHaveHeadline, AttemptsRunAsMachine, RestRunsAsMachine, TurnsStandExactly};
 ghost use Rattle.sc_refines_world.specs.Refining.{StoppedRoundsStayNear, StoppedWorldStaysNear, WorldHasHeadline, WorldReportsAsMachine, WorldRunsAsMachine};
 
-use sc_machine_laws::invariant_laws::settled_objects_meet;
-use sc_machine_laws::settlements::laws::{core_settles_as_half_where_reached, entries_are_remembered};
 use crate::regions::laws::{
     created_are_new, openings_are_in_order, others_keep_halves, regions_ask, regions_follow,
     turns_keep_order,
 };
 use crate::regions::sound::{new_stores_are_sound, sound_jobs_are_taken};
+use sc_machine_laws::invariant_laws::settled_objects_meet;
+use sc_machine_laws::settlements::laws::{
+    core_settles_as_half_where_reached, entries_are_remembered,
+};
 use sc_request::laws::core_picks_where_the_machine_turns;
 use sc_world::laws::{
     kept_alike_are_alike, openings_are_of_their_program, runs_stay_of_their_program,

@@ -1,8 +1,6 @@
 //! Laws of turns of which there is one outcome, each the contract of a function that does nothing.
 ghost use Rattle.sc_refines_world.specs.Functional.{FirstTurnsAreFunctional, FirstTurnsKeepExact, RunsAreFunctional};
 
-use sc_machine_laws::invariant_laws::settled_objects_meet;
-use sc_machine_laws::settlements::laws::{core_settles_as_half_where_reached, entries_are_remembered};
 use crate::regions::asks::creators_are_told;
 use crate::regions::half_laws::programs_serve;
 use crate::regions::laws::{
@@ -11,6 +9,10 @@ use crate::regions::laws::{
 };
 use crate::regions::sound::{new_stores_are_sound, sound_jobs_are_taken};
 use crate::regions::turn_laws::distinct_names_have_numbers;
+use sc_machine_laws::invariant_laws::settled_objects_meet;
+use sc_machine_laws::settlements::laws::{
+    core_settles_as_half_where_reached, entries_are_remembered,
+};
 use sc_request::laws::core_picks_where_the_machine_turns;
 
 /// The first turn under a job leaves one store and asks one thing, on a sound store whose objects have as many attributes as their
