@@ -3,7 +3,7 @@ use Rattle.std.proofs.Common.{◌≡◌, List, Option, false, ap, sym, ◌∙◌
 use Rattle.sc_tree.specs.declared.expression.Expr.{Expr}
 use Rattle.sc_tree.specs.Plain.{Name, no_target}
 use Rattle.sc_tree.specs.View.{exprs_of}
-use Rattle.sc_proctype.specs.declared.entity_type.EntityType.{EntityType}
+use Rattle.sc_rules.specs.declared.entity_types.entity_type.EntityType.{EntityType}
 use Rattle.sc_rules.specs.declared.rule.Rule.TheVariants.{NotCreation}
 use Rattle.sc_rules.specs.declared.position.Context.TheVariants.{Body}
 use Rattle.sc_rules.specs.declared.position.Use.TheVariants.{Instruction}

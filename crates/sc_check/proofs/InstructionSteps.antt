@@ -21,7 +21,7 @@ use Rattle.sc_rules.specs.declared.position.Context.TheVariants as context
 use Rattle.sc_rules.specs.declared.position.Position.TheVariants.{Plain, Condition}
 use Rattle.sc_rules.specs.declared.position.Use.TheVariants.{Instruction}
 use Rattle.sc_rules.specs.Names.{RoutineContext, Entities, variable_span}
-use Rattle.sc_proctype.specs.declared.entity_type.EntityType.{EntityType}
+use Rattle.sc_rules.specs.declared.entity_types.entity_type.EntityType.{EntityType}
 use Rattle.sc_rules.specs.Judging.{Judged, ◌>>=◌, judged_actuals, judge_called, judge_each, judge_given, judge_receiver}
 use Rattle.sc_rules.specs.JudgingText.{judge_clause, judge_condition, judge_creation, judge_variable, judge_heads, judge_instr, judge_instrs, judge_branches}
 use Rattle.sc_typing.specs.declared.fault.CheckFault.{CheckFault}

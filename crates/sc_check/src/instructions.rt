@@ -13,7 +13,7 @@ use crate::instructions::blocks::judge_heads;
 use crate::instructions::conditions::{judge_clauses, judge_condition, judge_if_condition};
 use crate::instructions::creation::judge_creation;
 use sc_class::Tables;
-use sc_proctype::{EntityType, conforms};
+use sc_rules::entity_types::{EntityType, conforms};
 use sc_rules::{Context, Use};
 use sc_tree::{Branch, Call, Expr, Head, Instr};
 use sc_typing::{CheckFault, Entity, RoutineContext, variable_span};

@@ -6,8 +6,8 @@ use Rattle.std.proofs.lemmas.Bool.{lt-ltb}
 use Rattle.sc_text.specs.declared.token.Span.{Span}
 use Rattle.sc_tree.specs.Plain.{Name, Variable, Named, ResultVariable}
 use Rattle.sc_class.specs.declared.identity.ClassId.TheVariants as class
-use Rattle.sc_proctype.specs.declared.tag.Tag.TheVariants as tag
-use Rattle.sc_proctype.specs.declared.entity_type.EntityType.{EntityType}
+use Rattle.sc_rules.specs.declared.entity_types.tag.Tag.TheVariants as tag
+use Rattle.sc_rules.specs.declared.entity_types.entity_type.EntityType.{EntityType}
 use Rattle.sc_rules.specs.Names.{to_local, to_attribute, assignee, assignee_of_result, attached, qualified_meaning}
 use Rattle.sc_model.specs.declared.cause.Cause.TheVariants as cause
 use Rattle.sc_model.specs.Values.{Reference, Value, Attached, Operand, operand, values_of}

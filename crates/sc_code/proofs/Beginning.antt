@@ -1,7 +1,7 @@
 -- A routine's code stands for the routine as it begins.
 use Rattle.std.proofs.Common.{◌≡◌, ℕ, suc, ◌+◌, List, [], ◌∷◌, ◌++◌, length, max, take, refl, sym, ap, ◌∙◌, subst, arith, length-append, append_assoc}
 use Rattle.sc_tree.specs.Plain.{System, Declaration, Clause, Expr}
-use Rattle.sc_proctype.specs.declared.entity_type.EntityType.{EntityType}
+use Rattle.sc_rules.specs.declared.entity_types.entity_type.EntityType.{EntityType}
 use Rattle.sc_rules.specs.Names.{Entities, formal_entities}
 use Rattle.sc_model.specs.declared.cause.Cause.TheVariants as cause
 use Rattle.sc_model.specs.Values.{Operand}

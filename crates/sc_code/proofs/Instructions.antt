@@ -3,8 +3,8 @@ use Rattle.std.proofs.Common.{◌≡◌, ◌≤◌, ℕ, suc, ◌+◌, List, [],
 use Rattle.std.specs.Option.{option_map}
 use Rattle.sc_tree.specs.Plain as tree
 use Rattle.sc_tree.specs.Plain.{Name, Variable, Named, ResultVariable, Expr, Exprs, no_exprs, expr_then, Head, Clause, Instr, Instrs, Branches}
-use Rattle.sc_proctype.specs.declared.tag.Tag.TheVariants as tag
-use Rattle.sc_proctype.specs.declared.entity_type.EntityType.{EntityType}
+use Rattle.sc_rules.specs.declared.entity_types.tag.Tag.TheVariants as tag
+use Rattle.sc_rules.specs.declared.entity_types.entity_type.EntityType.{EntityType}
 use Rattle.sc_rules.specs.CallRules.{count}
 use Rattle.sc_rules.specs.Names.{Entities, to_local, assignee_type, assignee_of_result, attached}
 use Rattle.sc_model.specs.declared.cause.Cause.TheVariants as cause

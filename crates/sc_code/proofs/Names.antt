@@ -2,7 +2,7 @@
 use Rattle.std.proofs.Common.{◌≡◌, ℕ, suc, List, [], ◌∷◌, ◌++◌, Option, Some, None, true, false, length, refl, sym, ap, ◌∙◌}
 use Rattle.std.specs.Prelude.{if◌then◌else◌, bytes_eq, slice_get, slice_set}
 use Rattle.std.specs.Option.{option_map}
-use Rattle.sc_proctype.specs.declared.entity_type.EntityType.{EntityType}
+use Rattle.sc_rules.specs.declared.entity_types.entity_type.EntityType.{EntityType}
 use Rattle.sc_model.specs.Values.{Value}
 use Rattle.sc_model.specs.Environments.{Binding, known_of, binding_named, assigned_to, scope_of}
 use Rattle.sc_code.specs.Places.{slot_named}

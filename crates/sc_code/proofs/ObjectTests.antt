@@ -4,8 +4,8 @@ use Rattle.std.specs.Prelude.{if◌then◌else◌, slice_set}
 use Rattle.std.specs.Option.{option_map}
 use Rattle.std.proofs.lemmas.Bool.{lt-ltb}
 use Rattle.sc_tree.specs.Plain.{DeclaredType}
-use Rattle.sc_proctype.specs.declared.entity_type.EntityType.{EntityType}
-use Rattle.sc_proctype.specs.Conformance.{boolean}
+use Rattle.sc_rules.specs.declared.entity_types.entity_type.EntityType.{EntityType}
+use Rattle.sc_rules.specs.entity_types.Conformance.{boolean}
 use Rattle.sc_rules.specs.declared.position.Role.TheVariants as role
 use Rattle.sc_rules.specs.Names.{Entities, test_type}
 use Rattle.sc_model.specs.Values.{Reference, Value, Boolean, Operand, operand}

@@ -12,7 +12,7 @@ use Rattle.sc_class.specs.ClassNames.{Root, number_of}
 use Rattle.sc_class.specs.declared.identity.ClassId.TheVariants as class
 use Rattle.sc_class.specs.Tables.Conformance.{class_conforms, is_expanded}
 use Rattle.sc_class.specs.Tables.Features.{DeclaredFeature, features}
-use Rattle.sc_proctype.specs.declared.entity_type.EntityType.{EntityType}
+use Rattle.sc_rules.specs.declared.entity_types.entity_type.EntityType.{EntityType}
 use Rattle.sc_rules.specs.Types.{is_foreign}
 use Rattle.sc_rules.specs.Names as names
 use Rattle.sc_rules.specs.Names.{Entity, Entities}

@@ -11,9 +11,9 @@ use Rattle.sc_tree.specs.Plain.{DeclaredType, RoutineDeclaration, Name, Variable
 use Rattle.sc_class.specs.declared.identity.ClassId.TheVariants as class
 use Rattle.sc_tree.specs.Properties.{is_print}
 use Rattle.sc_class.specs.Tables.Features.{DeclaredFeature, feature_named}
-use Rattle.sc_proctype.specs.declared.tag.Tag.TheVariants as tag
-use Rattle.sc_proctype.specs.declared.entity_type.EntityType.{EntityType}
-use Rattle.sc_proctype.specs.Conformance.{void, integer, boolean}
+use Rattle.sc_rules.specs.declared.entity_types.tag.Tag.TheVariants as tag
+use Rattle.sc_rules.specs.declared.entity_types.entity_type.EntityType.{EntityType}
+use Rattle.sc_rules.specs.entity_types.Conformance.{void, integer, boolean}
 use Rattle.sc_rules.specs.Names.{Entities, to_local, to_attribute, assignee, current, given_type, signature_of, test_type}
 use Rattle.sc_model.specs.Olds.{olds_in}
 use Rattle.sc_model.specs.Instructions.{actuals_of}

@@ -1,7 +1,7 @@
 -- Which types are told as those that a rule has compared.
 use Rattle.std.specs.Prelude.{◌≡◌, false}
 use Rattle.sc_tree.specs.Plain.{System}
-use Rattle.sc_proctype.specs.Conformance.{conforms}
+use Rattle.sc_rules.specs.entity_types.Conformance.{conforms}
 use Rattle.sc_explain_refusal.specs.declared.types.Compared.{Compared}
 
 -- What is given doesn't conform to what is taken.

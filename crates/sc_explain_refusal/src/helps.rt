@@ -6,7 +6,7 @@ use crate::site::Place;
 use crate::types::{Compared, Passed};
 use sc_class::{ClassId, FeatureEntry};
 use sc_explain_text::{Lines, is_slip, push_instead_of, push_meant, push_near_word, word_at};
-use sc_proctype::{EntityType, Tag, conforms};
+use sc_rules::entity_types::{EntityType, Tag, conforms};
 use sc_rules::{Context, Role};
 use sc_text::Span;
 

@@ -3,7 +3,7 @@
 use crate::site::Place;
 use sc_class::ClassId;
 use sc_explain_text::Lines;
-use sc_proctype::{EntityType, Reserved, Tag};
+use sc_rules::entity_types::{EntityType, Reserved, Tag};
 use sc_rules::{Context, Role, Rule};
 use sc_text::Span;
 use sc_typing::{Entity, RoutineContext};

@@ -5,7 +5,7 @@ use crate::scope::{Scope, part_of, push_quoted};
 use crate::site::{Part, Site};
 use crate::types::{Compared, pass_over, type_found, type_of_actual};
 use sc_explain_text::{Lines, binary_spelling};
-use sc_proctype::{EntityType, Tag};
+use sc_rules::entity_types::{EntityType, Tag};
 use sc_rules::{Context, Position, Role, Rule};
 use sc_text::Span;
 use sc_tree::{BinaryOperator, Call, CreationCall, Expr, UnaryOperator, Variable};

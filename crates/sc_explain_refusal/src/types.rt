@@ -8,7 +8,7 @@ ghost use Rattle.sc_explain_refusal.specs.Mismatch.{IsMismatch};
 use crate::scope::Scope;
 use sc_class::{ClassId, Tables};
 use sc_explain_text::Lines;
-use sc_proctype::{EntityType, Known, Reserved, Tag, combine_argument, conforms};
+use sc_rules::entity_types::{EntityType, Known, Reserved, Tag, combine_argument, conforms};
 use sc_rules::{Context, Position};
 use sc_text::Span;
 use sc_tree::{Call, Declaration, Expr, Variable};

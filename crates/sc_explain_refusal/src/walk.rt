@@ -5,7 +5,7 @@ use crate::site::{
     Kind, Part, Place, Search, pass_clauses, pass_condition, pass_expression, pass_heads,
     pass_simple,
 };
-use sc_proctype::EntityType;
+use sc_rules::entity_types::EntityType;
 use sc_rules::{Context, Position, Role};
 use sc_tree::{Branch, Declaration, Expr, Head, Instr, Routine};
 use sc_typing::{CheckFault, Entity, add_formals, add_locals, block_type, blocks};

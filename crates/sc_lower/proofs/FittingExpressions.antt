@@ -19,7 +19,7 @@ use Rattle.sc_class.specs.Faults.Limits.{is_large, large_routine, many_classes, 
 use Rattle.sc_class.specs.Tables.Features.{DeclaredFeature, feature_named}
 use Rattle.sc_class.proofs.Items.{contains_at}
 use Rattle.sc_class.proofs.Declarers.{found_stands}
-use Rattle.sc_proctype.specs.declared.entity_type.EntityType.{EntityType}
+use Rattle.sc_rules.specs.declared.entity_types.entity_type.EntityType.{EntityType}
 use Rattle.sc_rules.specs.declared.position.Context.{Context}
 use Rattle.sc_rules.specs.declared.position.Position.{Position}
 use Rattle.sc_rules.specs.declared.position.Position.TheVariants as spot

@@ -14,9 +14,9 @@ use Rattle.sc_tree.specs.Plain.{System, FeatureKind, DeclaredType, Clause, Head,
 use Rattle.sc_class.specs.declared.identity.ClassId.{ClassId}
 use Rattle.sc_class.specs.declared.identity.ClassId.TheVariants as class
 use Rattle.sc_class.specs.Tables.Features.{DeclaredFeature, feature_named}
-use Rattle.sc_proctype.specs.declared.tag.Tag.{Tag}
-use Rattle.sc_proctype.specs.declared.tag.Tag.TheVariants as tag
-use Rattle.sc_proctype.specs.declared.entity_type.EntityType.{EntityType}
+use Rattle.sc_rules.specs.declared.entity_types.tag.Tag.{Tag}
+use Rattle.sc_rules.specs.declared.entity_types.tag.Tag.TheVariants as tag
+use Rattle.sc_rules.specs.declared.entity_types.entity_type.EntityType.{EntityType}
 use Rattle.sc_rules.specs.Names.{assignee_type, Signature, signature_of, current}
 use Rattle.sc_model.specs.declared.cause.Cause.TheVariants as cause
 use Rattle.sc_model.specs.Values.{Reference, Value, Integer, Boolean, Void, Attached, Operand}

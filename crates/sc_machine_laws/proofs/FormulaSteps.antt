@@ -12,7 +12,7 @@ use Rattle.sc_tree.specs.declared.expression.UnaryOperator.TheVariants as unary
 use Rattle.sc_tree.specs.declared.expression.BinaryOperator.{BinaryOperator}
 use Rattle.sc_tree.specs.Plain as tree
 use Rattle.sc_tree.specs.Plain.{System, Expr, no_exprs}
-use Rattle.sc_proctype.specs.Conformance.{integer, boolean}
+use Rattle.sc_rules.specs.entity_types.Conformance.{integer, boolean}
 use Rattle.sc_model.specs.Values.{Reference, Value, Boolean, Operand, operand}
 use Rattle.sc_model.specs.Environments.{Binding}
 use Rattle.sc_model.specs.Objects.{attributes_of}

@@ -15,8 +15,8 @@ use Rattle.sc_tree.specs.declared.expression.UnaryOperator.TheVariants as unary
 use Rattle.sc_tree.specs.declared.expression.BinaryOperator.{BinaryOperator}
 use Rattle.sc_tree.specs.Plain as tree
 use Rattle.sc_tree.specs.Plain.{System, Expr}
-use Rattle.sc_proctype.specs.Conformance.{integer, boolean}
-use Rattle.sc_proctype.specs.declared.entity_type.EntityType.{EntityType}
+use Rattle.sc_rules.specs.entity_types.Conformance.{integer, boolean}
+use Rattle.sc_rules.specs.declared.entity_types.entity_type.EntityType.{EntityType}
 use Rattle.sc_model.specs.Values.{Reference, Value, Integer, Boolean, Operand, operand}
 use Rattle.sc_model.specs.Operators.{arithmetic_of, comparison_of, connective_of, is_short}
 use Rattle.sc_model.specs.Olds.{olds_in}

@@ -2,7 +2,7 @@
 -- them.
 use Rattle.std.proofs.Common.{ℕ, ◌≡◌, List, [], ◌∷◌, Option, Some, None, sym, subst}
 use Rattle.sc_tree.specs.Plain.{System, Clause}
-use Rattle.sc_proctype.specs.declared.entity_type.EntityType.{EntityType}
+use Rattle.sc_rules.specs.declared.entity_types.entity_type.EntityType.{EntityType}
 use Rattle.sc_model.specs.Clauses.{body_point}
 use Rattle.sc_model.specs.Entries.{result_of}
 use Rattle.sc_model.specs.Environments.{Binding}

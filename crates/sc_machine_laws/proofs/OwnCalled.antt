@@ -1,7 +1,7 @@
 -- Frames that are called by their own handler, and those that have started, as a pure function runs on top.
 use Rattle.std.proofs.Common.{ℕ, ◌≡◌, ◌⊎◌, Bool, true, List, ◌∷◌, Option, refl, sym, ap, subst, ◌∙◌, inl, inr}
 use Rattle.sc_tree.specs.Plain.{System}
-use Rattle.sc_proctype.specs.declared.entity_type.EntityType.{EntityType}
+use Rattle.sc_rules.specs.declared.entity_types.entity_type.EntityType.{EntityType}
 use Rattle.sc_rules.specs.Names.{RoutineName}
 use Rattle.sc_model.specs.Steps.{Calling, Act, Until, Starts, Does, Point}
 use Rattle.sc_model.specs.Handlers.{Request, Origin, Called, Requested, InCall, Frame, World}

@@ -4,7 +4,7 @@ use Rattle.std.proofs.Common.{ℕ, suc, ◌+◌, ◌≡◌, Bool, true, List, []
 use Rattle.std.specs.Prelude.{length, take}
 use Rattle.sc_tree.specs.Plain as tree
 use Rattle.sc_tree.specs.Plain.{System, Clause, Declaration, FeatureKind}
-use Rattle.sc_proctype.specs.declared.entity_type.EntityType.{EntityType}
+use Rattle.sc_rules.specs.declared.entity_types.entity_type.EntityType.{EntityType}
 use Rattle.sc_rules.specs.declared.position.Role.TheVariants as role
 use Rattle.sc_rules.specs.Names.{reserved}
 use Rattle.sc_rules.specs.Types.{declared_type}

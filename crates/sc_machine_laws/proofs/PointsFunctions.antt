@@ -9,8 +9,8 @@ use Rattle.sc_tree.specs.Plain.{System, Declaration, DeclaredType, FeatureKind}
 use Rattle.sc_class.specs.Tables.Features.{DeclaredFeature, declared_features, named_among}
 use Rattle.sc_class.specs.Tables.Heirs.{StandsInText}
 use Rattle.sc_class.proofs.Declarers.{found_stands}
-use Rattle.sc_proctype.specs.declared.entity_type.EntityType.{EntityType}
-use Rattle.sc_proctype.specs.declared.tag.Reserved.{Reserved}
+use Rattle.sc_rules.specs.declared.entity_types.entity_type.EntityType.{EntityType}
+use Rattle.sc_rules.specs.declared.entity_types.tag.Reserved.{Reserved}
 use Rattle.sc_rules.specs.Names.{RoutineName}
 use Rattle.sc_rules.specs.Names as rules
 use Rattle.sc_rules.specs.Purity.{IsPurity, is_pure_candidate, is_pure_candidate_if_any, no_candidate, reserves}

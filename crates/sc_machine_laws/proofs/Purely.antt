@@ -12,7 +12,7 @@ use Rattle.sc_class.specs.Faults.Scopes.{tests_of, ExprClashes, InstrClashes, in
 use Rattle.sc_class.specs.Faults.Scopes as scopes
 use Rattle.sc_class.specs.declared.fault.ClassFault.TheVariants as fault
 use Rattle.sc_class.specs.Tables.Features.{DeclaredFeature, declared_features, features, feature_named, named_among}
-use Rattle.sc_proctype.specs.declared.entity_type.EntityType.{EntityType}
+use Rattle.sc_rules.specs.declared.entity_types.entity_type.EntityType.{EntityType}
 use Rattle.sc_rules.specs.declared.position.Context.{Context}
 use Rattle.sc_rules.specs.declared.position.Context.TheVariants as context
 use Rattle.sc_rules.specs.declared.position.Position.{Position}

@@ -1,7 +1,7 @@
 -- What is kept of a handler that has not failed: each object meets its class invariant, or is Current of a routine that is tested as it ends.
 use Rattle.std.proofs.Common.{◌≡◌, ◌≢◌, ◌⊎◌, ⊎_elim, inl, inr, ℕ, ◌+◌, Bool, true, false, List, [], ◌∷◌, ◌++◌, Option, Some, None, length, sym, ap, subst, ◌∙◌}
 use Rattle.sc_tree.specs.Plain.{System}
-use Rattle.sc_proctype.specs.declared.entity_type.EntityType.{EntityType}
+use Rattle.sc_rules.specs.declared.entity_types.entity_type.EntityType.{EntityType}
 use Rattle.sc_rules.specs.Names.{RoutineName}
 use Rattle.sc_model.specs.Exits.{handed, handed_as, handed_at}
 use Rattle.sc_model.specs.Handlers.{Request, Origin, Called, Requested, Stage, Runs, Reserves, ReservesBlock, InCall, Awaits, Frame, Handler}

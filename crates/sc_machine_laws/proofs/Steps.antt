@@ -7,7 +7,7 @@ use Rattle.sc_tree.specs.Plain.{System, FeatureKind, Clause, Head, Name, Variabl
 use Rattle.sc_class.specs.declared.identity.ClassId.TheVariants as class
 use Rattle.sc_tree.specs.Properties.{is_print}
 use Rattle.sc_class.specs.Tables.Features.{DeclaredFeature, feature_named}
-use Rattle.sc_proctype.specs.declared.entity_type.EntityType.{EntityType}
+use Rattle.sc_rules.specs.declared.entity_types.entity_type.EntityType.{EntityType}
 use Rattle.sc_rules.specs.CallRules.{count}
 use Rattle.sc_rules.specs.Names.{Entity, unassignable, assignee_of_entity, assignee_of_feature, assignee_of_kind, assignee_of_result, assignee_or, entity_named, is_local, to_local, current, given_type, test_type}
 use Rattle.sc_model.specs.declared.cause.Cause.{Cause}

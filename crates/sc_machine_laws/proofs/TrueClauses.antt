@@ -4,7 +4,7 @@ use Rattle.std.specs.Prelude.{if◌then◌else◌}
 use Rattle.sc_tree.specs.Plain as tree
 use Rattle.sc_tree.specs.Plain.{Clause, FeatureKind, RoutineDeclaration, System}
 use Rattle.sc_class.specs.Tables.Features.{DeclaredFeature}
-use Rattle.sc_proctype.specs.declared.entity_type.EntityType.{EntityType}
+use Rattle.sc_rules.specs.declared.entity_types.entity_type.EntityType.{EntityType}
 use Rattle.sc_model.specs.Clauses.{Evaluation, EvaluationState, Further, Comes, Sticks, after, after_step, body_point, call_of, calls, calls_kind, evaluates_bound, evaluates_routine, gives_attribute, last_value, next, returns, Holds}
 use Rattle.sc_model.specs.Environments.{Binding, binding_named, formals_bound}
 use Rattle.sc_model.specs.Exits.{is_unset_value}

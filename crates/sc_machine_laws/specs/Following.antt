@@ -2,7 +2,7 @@
 -- definition.
 use Rattle.std.specs.Prelude.{ℕ, ◌≡◌, ◌≢◌, ◌<◌, ◌⊎◌, Bool, true, false, List, [], ◌∷◌, ◌++◌, Option, Some, None, is_some, length, take, Contains}
 use Rattle.sc_tree.specs.Plain.{System, Clause}
-use Rattle.sc_proctype.specs.declared.entity_type.EntityType.{EntityType}
+use Rattle.sc_rules.specs.declared.entity_types.entity_type.EntityType.{EntityType}
 use Rattle.sc_rules.specs.Names.{RoutineName}
 use Rattle.sc_model.specs.Values.{Reference, Value, Operand, values_of}
 use Rattle.sc_model.specs.Environments.{Binding, formals_bound}

@@ -5,7 +5,7 @@ use Rattle.sc_tree.specs.Plain as tree
 use Rattle.sc_tree.specs.Plain.{System, Clause, DeclaredType}
 use Rattle.sc_class.specs.ClassNames.{Root}
 use Rattle.sc_class.specs.Tables.Features.{DeclaredFeature}
-use Rattle.sc_proctype.specs.declared.entity_type.EntityType.{EntityType}
+use Rattle.sc_rules.specs.declared.entity_types.entity_type.EntityType.{EntityType}
 use Rattle.sc_rules.specs.Types.{declared_type}
 use Rattle.sc_model.specs.Values.{Operand, Value}
 use Rattle.sc_model.specs.Environments.{Binding, binding_named}

@@ -3,7 +3,7 @@ use Rattle.std.proofs.Common.{◌≡◌, ℕ, Bool, true, false, List, [], ◌�
 use Rattle.std.specs.Prelude.{◌&&◌, ◌||◌, is_some, nat_lt, if◌then◌else◌}
 use Rattle.sc_tree.specs.Plain.{System}
 use Rattle.sc_model.specs.declared.cause.Cause.{Cause}
-use Rattle.sc_proctype.specs.declared.entity_type.EntityType.{EntityType}
+use Rattle.sc_rules.specs.declared.entity_types.entity_type.EntityType.{EntityType}
 use Rattle.sc_model.specs.Handlers.{Request, Answer, Stage, Runs, Reserves, ReservesBlock, InCall, Awaits, Frame, World}
 use Rattle.sc_model.specs.Sessions.{has_requests}
 use Rattle.sc_model.specs.Entries.{entry_needs, block_needs, may_reserve, reserves_if}

@@ -20,10 +20,10 @@ use Rattle.sc_class.specs.Tables.Conformance.{is_expanded, is_ancestor}
 use Rattle.sc_class.specs.Tables.Features.{DeclaredFeature, features, feature_named, invariant_of}
 use Rattle.sc_class.specs.declared.identity.ClassId.{ClassId}
 use Rattle.sc_class.specs.declared.identity.ClassId.TheVariants as class
-use Rattle.sc_proctype.specs.declared.entity_type.EntityType.{EntityType}
-use Rattle.sc_proctype.specs.declared.tag.Tag.TheVariants as tag
-use Rattle.sc_proctype.specs.Conformance.{void, boolean}
-use Rattle.sc_rules.specs.Combiners.{result_tag, combined_result}
+use Rattle.sc_rules.specs.declared.entity_types.entity_type.EntityType.{EntityType}
+use Rattle.sc_rules.specs.declared.entity_types.tag.Tag.TheVariants as tag
+use Rattle.sc_rules.specs.entity_types.Conformance.{void, boolean}
+use Rattle.sc_rules.specs.entity_types.Combiners.{result_tag, combined_result}
 use Rattle.sc_rules.specs.declared.position.Context.TheVariants as context
 use Rattle.sc_rules.specs.declared.position.Position.{Position}
 use Rattle.sc_rules.specs.declared.position.Position.TheVariants as spot

@@ -18,8 +18,8 @@ use Rattle.sc_class.proofs.Items.{some_is}
 use Rattle.sc_class.specs.Tables.Features.{DeclaredFeature, named_among}
 use Rattle.sc_class.specs.declared.identity.ClassId.{ClassId}
 use Rattle.sc_class.specs.declared.identity.ClassId.TheVariants as class
-use Rattle.sc_proctype.specs.declared.entity_type.EntityType.{EntityType}
-use Rattle.sc_proctype.specs.Conformance.{integer, boolean}
+use Rattle.sc_rules.specs.declared.entity_types.entity_type.EntityType.{EntityType}
+use Rattle.sc_rules.specs.entity_types.Conformance.{integer, boolean}
 use Rattle.sc_rules.specs.declared.position.Role.TheVariants as role
 use Rattle.sc_rules.specs.Positions.{is_old}
 use Rattle.sc_rules.specs.Types.{declared_type, is_integer, is_boolean, is_comparable, gives_if, unary_result, binary_result}

@@ -1,6 +1,6 @@
 -- Posting and asking: a request goes to another handler, with lock passing or without.
 use Rattle.std.specs.Prelude.{ℕ, ◌+◌, Bool, true, false, not, ◌&&◌, ◌||◌, List, [], ◌∷◌, ◌++◌, Option, Some, None, is_some, length, nat_lt, ◌==◌, if◌then◌else◌}
-use Rattle.sc_proctype.specs.declared.entity_type.EntityType.{EntityType}
+use Rattle.sc_rules.specs.declared.entity_types.entity_type.EntityType.{EntityType}
 use Rattle.sc_lockpass.specs.Rights.{Rights, is_handler, held}
 use Rattle.sc_lockpass.specs.Passing.{Passed, pass, passed_by}
 use Rattle.sc_waitcond.specs.declared.session.Release.TheVariants as release_at

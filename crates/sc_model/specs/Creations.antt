@@ -4,9 +4,9 @@ use Rattle.std.specs.Prelude.{ℕ, ◌+◌, Bool, false, List, [], ◌∷◌, �
 use Rattle.sc_tree.specs.Plain.{System, Variable}
 use Rattle.sc_class.specs.declared.identity.ClassId.{ClassId}
 use Rattle.sc_class.specs.declared.identity.ClassId.TheVariants as class
-use Rattle.sc_proctype.specs.declared.tag.Tag.{Tag}
-use Rattle.sc_proctype.specs.declared.tag.Tag.TheVariants as tag
-use Rattle.sc_proctype.specs.declared.entity_type.EntityType.{EntityType}
+use Rattle.sc_rules.specs.declared.entity_types.tag.Tag.{Tag}
+use Rattle.sc_rules.specs.declared.entity_types.tag.Tag.TheVariants as tag
+use Rattle.sc_rules.specs.declared.entity_types.entity_type.EntityType.{EntityType}
 use Rattle.sc_rules.specs.Names.{FormalType, Meaning, unknown, target_untyped, named, Assignee, assignee, assignee_type, attached, qualified_meaning}
 use Rattle.sc_model.specs.declared.cause.Cause.TheVariants as cause
 use Rattle.sc_model.specs.Values.{Reference, Attached, Operand, operand}

@@ -1,7 +1,7 @@
 -- Entering a routine, and the reserve steps of routines and of separate blocks.
 use Rattle.std.specs.Prelude.{ℕ, Bool, true, false, List, [], ◌∷◌, Option, Some, None, length, map, drop, nat_lt, if◌then◌else◌}
 use Rattle.sc_tree.specs.Plain.{System}
-use Rattle.sc_proctype.specs.declared.entity_type.EntityType.{EntityType}
+use Rattle.sc_rules.specs.declared.entity_types.entity_type.EntityType.{EntityType}
 use Rattle.sc_waitcond.specs.Entries.{needed}
 use Rattle.sc_waitcond.specs.Reservations.{reserve_fails, reserve_is_enabled}
 use Rattle.sc_waitcond.specs.declared.mark.Marked.{Marked}

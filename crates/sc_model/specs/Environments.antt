@@ -4,9 +4,9 @@ use Rattle.std.specs.List.{filter_map}
 use Rattle.std.specs.Option.{option_map, option_and_then}
 use Rattle.sc_tree.specs.Plain.{System, Declaration, Name}
 use Rattle.sc_class.specs.Tables.Conformance.{is_expanded}
-use Rattle.sc_proctype.specs.declared.tag.Reserved.{Reserved}
-use Rattle.sc_proctype.specs.declared.tag.Reserved.TheVariants.{Formal, BlockName}
-use Rattle.sc_proctype.specs.declared.entity_type.EntityType.{EntityType}
+use Rattle.sc_rules.specs.declared.entity_types.tag.Reserved.{Reserved}
+use Rattle.sc_rules.specs.declared.entity_types.tag.Reserved.TheVariants.{Formal, BlockName}
+use Rattle.sc_rules.specs.declared.entity_types.entity_type.EntityType.{EntityType}
 use Rattle.sc_rules.specs.declared.position.Role.{Role}
 use Rattle.sc_rules.specs.declared.position.Role.TheVariants as role
 use Rattle.sc_rules.specs.Names.{Entity, Entities, entity, is_block, reserved, block_type, blocks}

@@ -15,8 +15,8 @@ use Rattle.sc_tree.specs.Plain as tree
 use Rattle.sc_tree.specs.Plain.{System, FeatureKind, Exprs}
 use Rattle.sc_class.specs.declared.identity.ClassId.TheVariants as class
 use Rattle.sc_class.specs.Tables.Features.{DeclaredFeature, feature_named}
-use Rattle.sc_proctype.specs.declared.entity_type.EntityType.{EntityType}
-use Rattle.sc_proctype.specs.Conformance.{void}
+use Rattle.sc_rules.specs.declared.entity_types.entity_type.EntityType.{EntityType}
+use Rattle.sc_rules.specs.entity_types.Conformance.{void}
 use Rattle.sc_rules.specs.CallRules.{count}
 use Rattle.sc_rules.specs.Names.{current, given_type}
 use Rattle.sc_model.specs.declared.cause.Cause.TheVariants as cause

@@ -1,6 +1,6 @@
 -- Handlers: what each runs, and what it is asked for (after Nienaltowski's thesis).
 use Rattle.std.specs.Prelude.{ℕ, Bool, List, [], Option, None, ◌==◌, if◌then◌else◌}
-use Rattle.sc_proctype.specs.declared.entity_type.EntityType.{EntityType}
+use Rattle.sc_rules.specs.declared.entity_types.entity_type.EntityType.{EntityType}
 use Rattle.sc_lockpass.specs.Rights.{Rights}
 use Rattle.sc_lockpass.specs.Passing.{Passed}
 use Rattle.sc_waitcond.specs.declared.mark.Marked.{Marked}

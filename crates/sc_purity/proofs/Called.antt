@@ -11,7 +11,7 @@ use Rattle.sc_class.specs.Tables.Features.{DeclaredFeature, declared_features, r
 use Rattle.sc_class.proofs.NameLemmas.{same_text}
 use Rattle.sc_class.proofs.Items.{some_is}
 use Rattle.sc_class.proofs.AncestorLemmas.{then_named, named-along}
-use Rattle.sc_proctype.specs.declared.entity_type.EntityType.{EntityType}
+use Rattle.sc_rules.specs.declared.entity_types.entity_type.EntityType.{EntityType}
 use Rattle.sc_rules.specs.Names.{RoutineName, RoutineContext, Entities, Entity, Signature, named, current, routine_of, signature_of_kind, signature_of, meaning_of_feature, print_signature, entity_or, entity_named, meaning_of}
 use Rattle.sc_rules.specs.Sites.{Site}
 use Rattle.sc_rules.specs.Purity.{routine_named, IsBody, body, calls, MayRun, by_call, by_redefinition}

@@ -22,7 +22,7 @@ use Rattle.sc_tree.specs.Plain as plain
 use Rattle.sc_tree.specs.Plain.{DeclaredType, Name, Target, no_target, target}
 use Rattle.sc_tree.specs.View.{expr_of, exprs_of, name_of, target_of, clause_of, creation_call_of, head_of, instr_of, instrs_of, branches_of, variable_of}
 use Rattle.sc_tree.proofs.ViewLemmas.{expr_of-call, instr_of-assign, instr_of-print_text, instr_of-call, instr_of-create, instr_of-if, instr_of-loop, instr_of-check, instr_of-block}
-use Rattle.sc_proctype.specs.declared.entity_type.EntityType.{EntityType}
+use Rattle.sc_rules.specs.declared.entity_types.entity_type.EntityType.{EntityType}
 use Rattle.sc_rules.specs.declared.fault.Fault.{Fault}
 use Rattle.sc_rules.specs.declared.position.Context.{Context}
 use Rattle.sc_rules.specs.declared.position.Context.TheVariants as context

@@ -11,7 +11,7 @@ ghost use Rattle.sc_class.specs.SystemIn.{system_in};
 ghost use Rattle.sc_purity.specs.Internal.Effects.{Adds};
 
 use sc_class::FeatureEntry;
-use sc_proctype::EntityType;
+use sc_rules::entity_types::EntityType;
 use sc_tree::Call;
 use sc_typing::{Assignee, CheckFault, Entity, Meaning, RoutineContext, is_foreign_type};
 

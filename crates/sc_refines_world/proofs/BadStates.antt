@@ -6,8 +6,8 @@ use Rattle.sc_text.specs.declared.token.Span.{Span}
 use Rattle.sc_tree.specs.Plain as tree
 use Rattle.sc_tree.specs.Plain.{Class, Clause, Declaration, System}
 use Rattle.sc_class.specs.declared.identity.ClassId.TheVariants as class
-use Rattle.sc_proctype.specs.declared.entity_type.EntityType.{EntityType}
-use Rattle.sc_proctype.specs.declared.tag.Tag.TheVariants as tag
+use Rattle.sc_rules.specs.declared.entity_types.entity_type.EntityType.{EntityType}
+use Rattle.sc_rules.specs.declared.entity_types.tag.Tag.TheVariants as tag
 use Rattle.sc_formula.specs.Formula as formula
 use Rattle.sc_rules.specs.Names.{Entity, RoutineName, entity, locals_known}
 use Rattle.sc_rules.specs.Types.{declared_type}

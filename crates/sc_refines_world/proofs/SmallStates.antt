@@ -3,8 +3,8 @@ use Rattle.std.proofs.Common.{ℕ, ◌≡◌, ◌==◌, Bool, true, false, List,
 use Rattle.std.specs.Prelude.{Contains, if◌then◌else◌}
 use Rattle.sc_tree.specs.Plain.{no_instrs}
 use Rattle.sc_class.specs.declared.identity.ClassId.TheVariants as class
-use Rattle.sc_proctype.specs.declared.entity_type.EntityType.{EntityType}
-use Rattle.sc_proctype.specs.declared.tag.Tag.{Tag}
+use Rattle.sc_rules.specs.declared.entity_types.entity_type.EntityType.{EntityType}
+use Rattle.sc_rules.specs.declared.entity_types.tag.Tag.{Tag}
 use Rattle.sc_lockpass.specs.Rights.{Rights, unreserved}
 use Rattle.sc_model.specs.Environments.{Binding}
 use Rattle.sc_model.specs.Handlers.{Calls, Frame, Handler, Origin, Request, Stage, World, new_handler}

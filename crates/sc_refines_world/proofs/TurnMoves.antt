@@ -1,7 +1,7 @@
 -- How the frames and requests of a handler change in its turn, whatever that stands on.
 use Rattle.std.proofs.Common.{ℕ, ◌≡◌, ◌<◌, Bool, List, [], ◌∷◌, Option, Some, None, refl}
 use Rattle.sc_tree.specs.Plain.{System}
-use Rattle.sc_proctype.specs.declared.entity_type.EntityType.{EntityType}
+use Rattle.sc_rules.specs.declared.entity_types.entity_type.EntityType.{EntityType}
 use Rattle.sc_model.specs.declared.cause.Cause.{Cause}
 use Rattle.sc_model.specs.declared.cause.Cause.TheVariants as cause
 use Rattle.sc_model.specs.Entries.{block_needs, entry_needs, may_reserve}

@@ -3,9 +3,9 @@ use Rattle.std.specs.List.{range_with_len}
 use Rattle.std.specs.Prelude.{◌≡◌, ◌≢◌, ◌⊎◌, ◌<◌, ◌≤◌, ◌+◌, ◌-◌, ◌++◌, ℕ, suc, Bool, true, false, List, [], ◌∷◌, Option, Some, None, Contains, drop, if◌then◌else◌, length, map, slice_get, take}
 use Rattle.sc_tree.specs.Plain.{System}
 use Rattle.sc_class.specs.ClassNames.{Root}
-use Rattle.sc_proctype.specs.declared.entity_type.EntityType.{EntityType}
-use Rattle.sc_proctype.specs.declared.tag.Reserved.{Reserved}
-use Rattle.sc_proctype.specs.declared.tag.Tag.TheVariants as tag
+use Rattle.sc_rules.specs.declared.entity_types.entity_type.EntityType.{EntityType}
+use Rattle.sc_rules.specs.declared.entity_types.tag.Reserved.{Reserved}
+use Rattle.sc_rules.specs.declared.entity_types.tag.Tag.TheVariants as tag
 use Rattle.sc_lockpass.specs.Rights.{held}
 use Rattle.sc_lockpass.specs.Versions.{most_handlers}
 use Rattle.sc_lockpass.specs.declared.version.Version.{Version}

@@ -4,7 +4,7 @@ use Rattle.std.proofs.lemmas.Bool.{ne_eqb}
 use Rattle.std.proofs.lemmas.List.{length-map}
 use Rattle.std.specs.Prelude.{map, length, nat_lt, is_some, if◌then◌else◌}
 use Rattle.std.specs.Option.{option_map}
-use Rattle.sc_proctype.specs.declared.entity_type.EntityType.{EntityType}
+use Rattle.sc_rules.specs.declared.entity_types.entity_type.EntityType.{EntityType}
 use Rattle.sc_lockpass.specs.Rights.{Rights, is_handler, held}
 use Rattle.sc_lockpass.specs.Passing.{Passed}
 use Rattle.sc_waitcond.specs.declared.session.Release.TheVariants as release_at

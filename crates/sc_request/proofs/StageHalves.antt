@@ -4,7 +4,7 @@ use Rattle.std.proofs.lemmas.Bool.{eq-eqb, ltb-true}
 use Rattle.std.specs.Prelude.{map, length, nat_lt, if◌then◌else◌}
 use Rattle.std.specs.Option.{option_map}
 use Rattle.sc_tree.specs.Plain.{System}
-use Rattle.sc_proctype.specs.declared.entity_type.EntityType.{EntityType}
+use Rattle.sc_rules.specs.declared.entity_types.entity_type.EntityType.{EntityType}
 use Rattle.sc_lockpass.specs.Rights.{Rights}
 use Rattle.sc_waitcond.specs.Reservations.{Standing, reserve_fails, may_reserve}
 use Rattle.sc_waitcond.specs.declared.mark.Marked.{Marked}

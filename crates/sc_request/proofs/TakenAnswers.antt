@@ -1,6 +1,6 @@
 -- Answers are taken, and reserve steps: the core stays the half of the machine.
 use Rattle.std.proofs.Common.{ℕ, ◌≡◌, List, [], ◌∷◌, Option, Some, None, refl, sym, subst, inl}
-use Rattle.sc_proctype.specs.declared.entity_type.EntityType.{EntityType}
+use Rattle.sc_rules.specs.declared.entity_types.entity_type.EntityType.{EntityType}
 use Rattle.sc_lockpass.specs.Rights as maps
 use Rattle.sc_waitcond.specs.declared.session.Release.TheVariants as release_at
 use Rattle.sc_model.specs.Values.{Value}

@@ -1,7 +1,7 @@
 -- The rules' view of a text is the same, whichever functions are taken for pure.
 use Rattle.std.proofs.Common.{◌≡◌, Option, Some, None, refl}
 use Rattle.sc_tree.specs.Plain.{DeclaredType}
-use Rattle.sc_proctype.specs.declared.entity_type.EntityType.{EntityType}
+use Rattle.sc_rules.specs.declared.entity_types.entity_type.EntityType.{EntityType}
 use Rattle.sc_rules.specs.Names.{test_type}
 use Rattle.sc_typing.specs.Views.{routine_in}
 use Rattle.sc_routines.specs.declared.setting.Setting.{Setting}

@@ -3,7 +3,7 @@ use Rattle.std.proofs.Common.{◌≡◌, ℕ, List, ◌++◌, Option, length, sy
 use Rattle.sc_tree.specs.declared.expression.Expr as coded
 use Rattle.sc_tree.specs.Plain.{Expr, Exprs, Variable}
 use Rattle.sc_tree.specs.View.{exprs_of}
-use Rattle.sc_proctype.specs.declared.entity_type.EntityType.{EntityType}
+use Rattle.sc_rules.specs.declared.entity_types.entity_type.EntityType.{EntityType}
 use Rattle.sc_rules.specs.CallRules.{count}
 use Rattle.sc_rules.specs.Names.{Entities, Assignee, assignee, assignee_type}
 use Rattle.sc_code.specs.Operations.{Operation}

@@ -10,7 +10,7 @@ use Rattle.sc_tree.specs.Plain.{Name, Expr, Exprs}
 use Rattle.sc_tree.specs.View.{exprs_of}
 use Rattle.sc_class.specs.declared.identity.ClassId.TheVariants as class
 use Rattle.sc_class.specs.Tables.Features.{DeclaredFeature, feature_named}
-use Rattle.sc_proctype.specs.declared.entity_type.EntityType.{EntityType}
+use Rattle.sc_rules.specs.declared.entity_types.entity_type.EntityType.{EntityType}
 use Rattle.sc_rules.specs.CallRules.{count}
 use Rattle.sc_rules.specs.Names.{Entities, current}
 use Rattle.sc_model.specs.Olds.{olds_in, olds_of, olds_of_each}

@@ -3,7 +3,7 @@ use Rattle.std.proofs.Common.{◌≡◌, ◌≤◌, ℕ, zero, suc, List, [], �
 use Rattle.sc_tree.specs.Plain.{Name, Head, Expr}
 use Rattle.sc_tree.specs.declared.instruction.Head as tree_head
 use Rattle.sc_tree.specs.View.{head_of}
-use Rattle.sc_proctype.specs.declared.entity_type.EntityType.{EntityType}
+use Rattle.sc_rules.specs.declared.entity_types.entity_type.EntityType.{EntityType}
 use Rattle.sc_rules.specs.declared.position.Role.TheVariants as role
 use Rattle.sc_typing.specs.declared.declarations.names.Entity.{Entity}
 use Rattle.sc_rules.specs.Names.{Entities, entity, block_type, blocks}

@@ -1,7 +1,7 @@
 -- The setting where one more `old` is kept.
 use Rattle.std.proofs.Common.{◌≡◌, List, [], ◌∷◌, ◌++◌, Option, Some, None, refl, sym, ap, ◌∙◌, append_assoc}
 use Rattle.sc_tree.specs.Plain.{Expr}
-use Rattle.sc_proctype.specs.declared.entity_type.EntityType.{EntityType}
+use Rattle.sc_rules.specs.declared.entity_types.entity_type.EntityType.{EntityType}
 use Rattle.sc_rules.specs.Names.{Entities}
 use Rattle.sc_code.specs.Operations.{Operation, KeepOld}
 use Rattle.sc_code.specs.Places.{Setting, expr_type, old_types, with_old, with_type}

@@ -14,8 +14,8 @@ use Rattle.sc_tree.specs.Plain.{Name, DeclaredType, Expr}
 use Rattle.sc_tree.specs.View.{exprs_of}
 use Rattle.sc_class.specs.declared.identity.ClassId.TheVariants as class
 use Rattle.sc_class.specs.Tables.Features.{feature_named}
-use Rattle.sc_proctype.specs.declared.entity_type.EntityType.{EntityType}
-use Rattle.sc_proctype.specs.Conformance.{boolean}
+use Rattle.sc_rules.specs.declared.entity_types.entity_type.EntityType.{EntityType}
+use Rattle.sc_rules.specs.entity_types.Conformance.{boolean}
 use Rattle.sc_rules.specs.CallRules.{count}
 use Rattle.sc_rules.specs.Names.{Entities, test_type}
 use Rattle.sc_model.specs.Olds.{olds_in, olds_of_each}

@@ -4,7 +4,7 @@ use Rattle.std.specs.Option.{option_map}
 use Rattle.sc_tree.specs.Plain as tree
 use Rattle.sc_tree.specs.Plain.{System, FeatureKind}
 use Rattle.sc_class.specs.Tables.Features.{DeclaredFeature, feature_named}
-use Rattle.sc_proctype.specs.declared.entity_type.EntityType.{EntityType}
+use Rattle.sc_rules.specs.declared.entity_types.entity_type.EntityType.{EntityType}
 use Rattle.sc_rules.specs.Names.{RoutineName, Meaning, unknown, target_untyped, named, current, signature_of, signature_of_kind, meaning_of_feature}
 use Rattle.sc_routines.specs.declared.own_feature.OwnFeature.{OwnFeature}
 use Rattle.sc_routines.specs.declared.own_feature.OwnFeature.TheVariants as own

@@ -1,7 +1,7 @@
 -- What a name with no target is to the text that it stands in.
 use Rattle.std.specs.Prelude.{ℕ, List, [], Option, Some, None}
 use Rattle.sc_class.specs.Tables.Features.{feature_named}
-use Rattle.sc_proctype.specs.declared.entity_type.EntityType.{EntityType}
+use Rattle.sc_rules.specs.declared.entity_types.entity_type.EntityType.{EntityType}
 use Rattle.sc_rules.specs.Names.{Entities, current}
 use Rattle.sc_routines.specs.declared.own_feature.OwnFeature.{OwnFeature}
 use Rattle.sc_routines.specs.declared.own_feature.OwnFeature.TheVariants as own

@@ -9,7 +9,7 @@ use Rattle.sc_tree.specs.Plain.{System, Declaration, DeclaredType, FeatureKind, 
 use Rattle.sc_tree.specs.Properties.{is_print}
 use Rattle.sc_tree.specs.View.{name_of, target_of, exprs_of}
 use Rattle.sc_class.specs.Tables.Features.{DeclaredFeature, feature_named}
-use Rattle.sc_proctype.specs.declared.entity_type.EntityType.{EntityType}
+use Rattle.sc_rules.specs.declared.entity_types.entity_type.EntityType.{EntityType}
 use Rattle.sc_rules.specs.CallRules.{count}
 use Rattle.sc_rules.specs.Names.{Assignee, Entities, FormalType, assignee, assignee_type, formal_type, given_type, signature_of, test_type}
 use Rattle.sc_rules.specs.Types.{declared_type}

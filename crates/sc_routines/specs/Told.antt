@@ -4,7 +4,7 @@ use Rattle.std.specs.Option.{option_and_then}
 use Rattle.sc_tree.specs.declared.expression.BinaryOperator.{BinaryOperator}
 use Rattle.sc_tree.specs.Plain.{System, Expr, Instrs, Clause, CreationCall}
 use Rattle.sc_class.specs.Tables.Features.{feature_named}
-use Rattle.sc_proctype.specs.declared.entity_type.EntityType.{EntityType}
+use Rattle.sc_rules.specs.declared.entity_types.entity_type.EntityType.{EntityType}
 use Rattle.sc_rules.specs.Names.{Entities}
 use Rattle.sc_model.specs.Instructions.{actuals_of}
 use Rattle.sc_model.specs.Olds.{olds_of_clauses}

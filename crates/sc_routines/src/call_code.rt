@@ -21,7 +21,7 @@ use crate::setting::Setting;
 use crate::sums::sum;
 use crate::text_sites::call_site;
 use sc_code::TextSite;
-use sc_proctype::EntityType;
+use sc_rules::entity_types::EntityType;
 use sc_tree::Call;
 use sc_typing::Entity;
 use std::alloc::AllocError;

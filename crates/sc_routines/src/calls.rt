@@ -19,7 +19,7 @@ use crate::setting::Setting;
 use crate::unlinked::{UnlinkedCall, UnlinkedOperation};
 use sc_class::Tables;
 use sc_code::TextSite;
-use sc_proctype::{EntityType, Tag};
+use sc_rules::entity_types::{EntityType, Tag};
 use sc_tree::Declaration;
 use sc_typing::{Formals, Meaning, Signature, declared_type};
 use std::alloc::AllocError;

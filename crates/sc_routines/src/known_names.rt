@@ -10,8 +10,8 @@ ghost use Rattle.sc_code.specs.Places as places;
 ghost use Rattle.sc_code.specs.View.{residence_of, tested_of};
 
 use sc_code::{Residence, TestedType};
-use sc_proctype::{EntityType, Reserved, Tag};
 use sc_rules::Role;
+use sc_rules::entity_types::{EntityType, Reserved, Tag};
 use sc_typing::Entity;
 
 /// The slot of the first entity of this name, with its type.

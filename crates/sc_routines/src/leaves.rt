@@ -4,7 +4,7 @@ ghost use Rattle.std.specs.Prelude.{◌≡◌, ◌+◌, ◌++◌, ◌∷◌, [],
 ghost use Rattle.std.specs.Option.{option_map};
 ghost use Rattle.sc_tree.specs.View.{name_of, type_if_any};
 ghost use Rattle.sc_class.specs.SystemIn.{system_in};
-ghost use Rattle.sc_proctype.specs.Conformance.{boolean, integer, void};
+ghost use Rattle.sc_rules.specs.entity_types.Conformance.{boolean, integer, void};
 ghost use Rattle.sc_rules.specs.Names as rules;
 ghost use Rattle.sc_typing.specs.Views.{entity_of};
 ghost use Rattle.sc_code.specs.Emitted as emitted;
@@ -26,8 +26,8 @@ use crate::setting::Setting;
 use crate::sums::sum;
 use crate::unlinked::UnlinkedOperation;
 use sc_code::{SiteKind, TestedType, TextSite};
-use sc_proctype::EntityType;
 use sc_rules::Role;
+use sc_rules::entity_types::EntityType;
 use sc_text::Span;
 use sc_tree::{DeclaredType, Name};
 use sc_typing::{Entity, Meaning};

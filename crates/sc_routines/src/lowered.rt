@@ -1,6 +1,6 @@
 //! What is told of expressions that are lowered.
 
-use sc_proctype::EntityType;
+use sc_rules::entity_types::EntityType;
 
 /// What is told of an expression that is lowered.
 #[derive(Clone, Copy)]

@@ -14,7 +14,7 @@ use crate::lowered::Lowered;
 use crate::sums::sum;
 use crate::unlinked::UnlinkedOperation;
 use sc_code::{SiteKind, TextSite};
-use sc_proctype::EntityType;
+use sc_rules::entity_types::EntityType;
 use sc_text::Span;
 use sc_tree::{BinaryOperator, UnaryOperator};
 use sc_typing::Entity;

@@ -2,7 +2,7 @@
 
 ghost use Rattle.std.specs.Prelude.{◌≡◌, ◌++◌, IfOk, OnOk, length, map};
 ghost use Rattle.sc_tree.specs.View.{clause_of, declaration_of, type_if_any};
-ghost use Rattle.sc_proctype.specs.declared.entity_type.EntityType.{EntityType};
+ghost use Rattle.sc_rules.specs.declared.entity_types.entity_type.EntityType.{EntityType};
 ghost use Rattle.sc_typing.specs.Views.{entity_of};
 ghost use Rattle.sc_class.specs.SystemIn.{system_in};
 ghost use Rattle.sc_model.specs.Olds as model;
@@ -25,7 +25,7 @@ use crate::setting::Setting;
 use crate::unlinked::UnlinkedOperation;
 use sc_class::Tables;
 use sc_code::{SiteKind, TextSite};
-use sc_proctype::EntityType;
+use sc_rules::entity_types::EntityType;
 use sc_text::Span;
 use sc_tree::{Clause, Routine};
 use sc_typing::{Entity, Purity, RoutineContext, add_formals, result_type};

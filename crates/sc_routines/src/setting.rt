@@ -1,6 +1,6 @@
 //! Where code is emitted.
 
-use sc_proctype::EntityType;
+use sc_rules::entity_types::EntityType;
 use sc_typing::RoutineContext;
 
 /// Where a piece of code is emitted.

@@ -4,7 +4,7 @@ use Rattle.std.specs.Prelude.{not, ◌&&◌, ◌||◌, is_some}
 use Rattle.std.specs.List.{list_any, list_all}
 use Rattle.sc_text.specs.declared.token.Span.{Span}
 use Rattle.sc_tree.specs.Plain.{System, DeclaredType, Name, Expr, Binary, ObjectTest, Target, target, Exprs}
-use Rattle.sc_proctype.specs.declared.entity_type.EntityType.{EntityType}
+use Rattle.sc_rules.specs.declared.entity_types.entity_type.EntityType.{EntityType}
 use Rattle.sc_rules.specs.declared.rule.Rule.{Rule}
 use Rattle.sc_rules.specs.declared.rule.Rule.TheVariants.{WrongArity, TargetDetachable, TargetUncontrolled}
 use Rattle.sc_rules.specs.declared.position.Context.{Context}
@@ -12,7 +12,7 @@ use Rattle.sc_rules.specs.declared.position.Position.{Position}
 use Rattle.sc_rules.specs.declared.position.Use.TheVariants.{Value}
 use Rattle.sc_class.specs.declared.identity.ClassId.{ClassId}
 use Rattle.sc_class.specs.Tables.Conformance.{type_class}
-use Rattle.sc_proctype.specs.declared.tag.Tag.{Tag}
+use Rattle.sc_rules.specs.declared.entity_types.tag.Tag.{Tag}
 use Rattle.sc_rules.specs.Types as declared
 use Rattle.sc_rules.specs.Types.{declared_tag, is_controlled, is_controlled_tag}
 use Rattle.sc_rules.specs.Positions.{span_of, is_require, may_give}

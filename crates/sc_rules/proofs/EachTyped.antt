@@ -6,9 +6,9 @@ use Rattle.std.specs.List.{list_all}
 use Rattle.sc_text.specs.declared.token.Span.{Span}
 use Rattle.sc_tree.specs.Plain.{System, Class, Feature, FeatureKind, RoutineDeclaration, Routine, DeclaredType, Head, Expr}
 use Rattle.sc_class.specs.Tables.Features.{DeclaredFeature, declared_in}
-use Rattle.sc_proctype.specs.declared.entity_type.EntityType.{EntityType}
-use Rattle.sc_proctype.specs.declared.tag.Reserved.TheVariants.{BlockName}
-use Rattle.sc_proctype.specs.declared.tag.Tag.TheVariants as tag
+use Rattle.sc_rules.specs.declared.entity_types.entity_type.EntityType.{EntityType}
+use Rattle.sc_rules.specs.declared.entity_types.tag.Reserved.TheVariants.{BlockName}
+use Rattle.sc_rules.specs.declared.entity_types.tag.Tag.TheVariants as tag
 use Rattle.sc_rules.specs.declared.rule.Rule.{Rule}
 use Rattle.sc_rules.specs.declared.position.Context.{Context}
 use Rattle.sc_rules.specs.declared.position.Position.TheVariants.{Condition}

@@ -7,8 +7,8 @@ use Rattle.sc_tree.specs.declared.expression.BinaryOperator.TheVariants as binar
 use Rattle.sc_tree.specs.Plain as plain
 use Rattle.sc_tree.specs.Plain.{Feature, Name, Declaration, DeclaredType, HandlerTag, Own, Separate, HandlerOf, Expr, Exprs, no_exprs, expr_then, no_target, target, Instr, no_instrs}
 use Rattle.sc_class.specs.declared.identity.ClassId.TheVariants as class
-use Rattle.sc_proctype.specs.declared.tag.Reserved.TheVariants.{Formal}
-use Rattle.sc_proctype.specs.declared.tag.Tag.TheVariants as tag
+use Rattle.sc_rules.specs.declared.entity_types.tag.Reserved.TheVariants.{Formal}
+use Rattle.sc_rules.specs.declared.entity_types.tag.Tag.TheVariants as tag
 use Rattle.sc_rules.specs.declared.rule.Rule.TheVariants.{UnknownName, WrongArity, ArgumentType, PreconditionArgument, OldPlace}
 use Rattle.sc_rules.specs.declared.position.Context.{Context}
 use Rattle.sc_rules.specs.declared.position.Context.TheVariants as context

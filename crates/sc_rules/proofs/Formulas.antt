@@ -5,7 +5,7 @@ use Rattle.std.specs.Prelude.{is_some}
 use Rattle.sc_tree.specs.Plain.{System, FeatureKind, Attribute, Routine, Expr, Integer, Boolean, Void, Current, Result, Call, Unary, Binary, ObjectTest, no_target, target, no_exprs, expr_then}
 use Rattle.sc_class.specs.declared.identity.ClassId.TheVariants as class
 use Rattle.sc_class.specs.Tables.Features.{DeclaredFeature, feature_named}
-use Rattle.sc_proctype.specs.declared.entity_type.EntityType.{EntityType}
+use Rattle.sc_rules.specs.declared.entity_types.entity_type.EntityType.{EntityType}
 use Rattle.sc_rules.specs.Types.{declared_type}
 use Rattle.sc_rules.specs.Positions.{is_old, is_equality}
 use Rattle.sc_rules.specs.Laws.{is_declared, AllDeclared}

@@ -4,7 +4,7 @@ use Rattle.std.specs.Prelude.{not, ◌++◌, is_some, Contains}
 use Rattle.sc_text.specs.declared.token.Span.{Span}
 use Rattle.sc_tree.specs.declared.expression.BinaryOperator.{BinaryOperator}
 use Rattle.sc_tree.specs.Plain.{Clause, Head, Name, Expr, Binary, ObjectTest, Target, target, Exprs, Conditional, if_instr, SeparateBlock, block_instr, Instrs, Branches, branch_then}
-use Rattle.sc_proctype.specs.declared.entity_type.EntityType.{EntityType}
+use Rattle.sc_rules.specs.declared.entity_types.entity_type.EntityType.{EntityType}
 use Rattle.sc_rules.specs.declared.position.Context.{Context}
 use Rattle.sc_rules.specs.declared.position.Context.TheVariants as context
 use Rattle.sc_rules.specs.declared.position.Position.{Position}

@@ -3,7 +3,7 @@ use Rattle.std.proofs.Common.{◌≡◌, suc, Bool, true, false, List, [], ◌�
 use Rattle.std.specs.Prelude.{not, ◌&&◌, ◌||◌}
 use Rattle.sc_text.specs.declared.token.Span.{Span}
 use Rattle.sc_tree.specs.Plain.{Name, Expr, Target, target, Exprs, no_exprs, expr_then}
-use Rattle.sc_proctype.specs.declared.entity_type.EntityType.{EntityType}
+use Rattle.sc_rules.specs.declared.entity_types.entity_type.EntityType.{EntityType}
 use Rattle.sc_rules.specs.declared.rule.Rule.{Rule}
 use Rattle.sc_rules.specs.declared.rule.Rule.TheVariants.{ArgumentType, TargetDetachable, TargetUncontrolled, PreconditionArgument, ObjectTestPlace, OldPlace, VoidUse}
 use Rattle.sc_rules.specs.declared.position.Context.{Context}

@@ -7,13 +7,13 @@ use Rattle.sc_text.specs.declared.token.Span.{Span}
 use Rattle.sc_tree.specs.Plain.{System, DeclaredType, Declaration, Expr, Target, Exprs, no_exprs, expr_then}
 use Rattle.sc_class.specs.declared.identity.ClassId.{ClassId}
 use Rattle.sc_class.specs.Tables.Conformance.{is_expanded, type_class}
-use Rattle.sc_proctype.specs.declared.tag.Reserved.TheVariants.{Formal, BlockName}
-use Rattle.sc_proctype.specs.declared.tag.Tag.{Tag}
-use Rattle.sc_proctype.specs.declared.tag.Tag.TheVariants as tag
-use Rattle.sc_proctype.specs.declared.entity_type.EntityType.{EntityType}
-use Rattle.sc_proctype.specs.Conformance.{conforms}
-use Rattle.sc_proctype.specs.declared.known.Known.{Known}
-use Rattle.sc_proctype.specs.Combiners.{known_tag, argument_tag, combined_argument}
+use Rattle.sc_rules.specs.declared.entity_types.tag.Reserved.TheVariants.{Formal, BlockName}
+use Rattle.sc_rules.specs.declared.entity_types.tag.Tag.{Tag}
+use Rattle.sc_rules.specs.declared.entity_types.tag.Tag.TheVariants as tag
+use Rattle.sc_rules.specs.declared.entity_types.entity_type.EntityType.{EntityType}
+use Rattle.sc_rules.specs.entity_types.Conformance.{conforms}
+use Rattle.sc_rules.specs.declared.entity_types.known.Known.{Known}
+use Rattle.sc_rules.specs.entity_types.Combiners.{known_tag, argument_tag, combined_argument}
 use Rattle.sc_rules.specs.declared.rule.Rule.{Rule}
 use Rattle.sc_rules.specs.declared.rule.Rule.TheVariants.{UnknownName, WrongArity, ArgumentType, TagName, ImpureContract, PreconditionArgument, NotExported}
 use Rattle.sc_rules.specs.declared.position.Context.{Context}

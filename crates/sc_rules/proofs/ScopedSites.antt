@@ -5,11 +5,11 @@ use Rattle.std.specs.Option.{option_map}
 use Rattle.sc_tree.specs.Plain.{System, RoutineDeclaration, Declaration, DeclaredType, HandlerTag, Own, Separate, HandlerOf, Expr, Head}
 use Rattle.sc_class.specs.declared.identity.ClassId.{ClassId}
 use Rattle.sc_class.specs.Tables.Conformance.{is_expanded, type_class}
-use Rattle.sc_proctype.specs.declared.tag.Reserved.TheVariants.{Formal, BlockName}
-use Rattle.sc_proctype.specs.declared.tag.Tag.{Tag}
-use Rattle.sc_proctype.specs.declared.tag.Tag.TheVariants as tag
-use Rattle.sc_proctype.specs.Tags.{is_any}
-use Rattle.sc_proctype.specs.declared.entity_type.EntityType.{EntityType}
+use Rattle.sc_rules.specs.declared.entity_types.tag.Reserved.TheVariants.{Formal, BlockName}
+use Rattle.sc_rules.specs.declared.entity_types.tag.Tag.{Tag}
+use Rattle.sc_rules.specs.declared.entity_types.tag.Tag.TheVariants as tag
+use Rattle.sc_rules.specs.entity_types.Tags.{is_any}
+use Rattle.sc_rules.specs.declared.entity_types.entity_type.EntityType.{EntityType}
 use Rattle.sc_rules.specs.declared.position.Context.{Context}
 use Rattle.sc_rules.specs.declared.position.Role.TheVariants as role
 use Rattle.sc_rules.specs.Types.{is_separate, is_nameable, number_of_named, declared_tag, is_marked, typed, declared_type}

@@ -8,8 +8,8 @@ use Rattle.sc_tree.specs.Plain.{System, DeclaredType, Name, Expr, Integer, Boole
 use Rattle.sc_class.specs.declared.identity.ClassId.TheVariants as class
 use Rattle.sc_tree.specs.Properties.{is_print}
 use Rattle.sc_class.specs.Tables.Features.{DeclaredFeature, feature_named}
-use Rattle.sc_proctype.specs.declared.entity_type.EntityType.{EntityType}
-use Rattle.sc_proctype.specs.Conformance as conformance
+use Rattle.sc_rules.specs.declared.entity_types.entity_type.EntityType.{EntityType}
+use Rattle.sc_rules.specs.entity_types.Conformance as conformance
 use Rattle.sc_rules.specs.declared.rule.Rule.{Rule}
 use Rattle.sc_rules.specs.declared.rule.Rule.TheVariants.{WrongArity, ImpureContract, NotExported, ObjectTestPlace, OldPlace, VoidUse}
 use Rattle.sc_rules.specs.declared.position.Context.{Context}

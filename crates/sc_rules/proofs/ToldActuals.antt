@@ -7,10 +7,10 @@ use Rattle.sc_tree.specs.declared.expression.UnaryOperator.{UnaryOperator}
 use Rattle.sc_tree.specs.Plain.{System, DeclaredType, Declaration, Name, Expr, Unary, Target, target, Exprs, no_exprs, expr_then}
 use Rattle.sc_class.specs.declared.identity.ClassId.{ClassId}
 use Rattle.sc_class.specs.Tables.Conformance.{is_expanded, type_class}
-use Rattle.sc_proctype.specs.declared.tag.Tag.{Tag}
-use Rattle.sc_proctype.specs.declared.entity_type.EntityType.{EntityType}
-use Rattle.sc_proctype.specs.Conformance.{conforms}
-use Rattle.sc_proctype.specs.Combiners.{known_of, combined_argument}
+use Rattle.sc_rules.specs.declared.entity_types.tag.Tag.{Tag}
+use Rattle.sc_rules.specs.declared.entity_types.entity_type.EntityType.{EntityType}
+use Rattle.sc_rules.specs.entity_types.Conformance.{conforms}
+use Rattle.sc_rules.specs.entity_types.Combiners.{known_of, combined_argument}
 use Rattle.sc_rules.specs.declared.rule.Rule.{Rule}
 use Rattle.sc_rules.specs.declared.rule.Rule.TheVariants.{UnknownName, ArgumentType, TargetDetachable, TargetUncontrolled, OperatorType, TagName, PreconditionArgument, OldPlace}
 use Rattle.sc_rules.specs.declared.position.Context.{Context}

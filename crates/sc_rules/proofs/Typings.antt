@@ -13,8 +13,8 @@ use Rattle.sc_tree.specs.Properties.{is_print}
 use Rattle.sc_class.specs.Names.{is_listed}
 use Rattle.sc_class.specs.Tables.Features.{DeclaredFeature, declared_features, not_redefined, redefined_names, features_along, features, feature_named}
 use Rattle.sc_class.specs.Tables.Ancestors.{ancestors}
-use Rattle.sc_proctype.specs.declared.entity_type.EntityType.{EntityType}
-use Rattle.sc_proctype.specs.Combiners.{combined_result}
+use Rattle.sc_rules.specs.declared.entity_types.entity_type.EntityType.{EntityType}
+use Rattle.sc_rules.specs.entity_types.Combiners.{combined_result}
 use Rattle.sc_rules.specs.declared.position.Context.{Context}
 use Rattle.sc_rules.specs.declared.position.Position.{Position}
 use Rattle.sc_rules.specs.declared.position.Role.TheVariants as role

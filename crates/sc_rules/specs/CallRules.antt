@@ -3,10 +3,10 @@ use Rattle.std.specs.Prelude.{◌≡◌, ℕ, zero, suc, Bool, true, false, List
 use Rattle.sc_text.specs.declared.token.Span.{Span}
 use Rattle.sc_tree.specs.Plain.{Name, Expr, Target, target, Exprs, no_exprs, expr_then}
 use Rattle.sc_class.specs.Tables.Conformance.{is_expanded}
-use Rattle.sc_proctype.specs.declared.entity_type.EntityType.{EntityType}
-use Rattle.sc_proctype.specs.Conformance.{conforms}
-use Rattle.sc_proctype.specs.declared.known.Known.{Known}
-use Rattle.sc_proctype.specs.Combiners.{known_of, combined_argument}
+use Rattle.sc_rules.specs.declared.entity_types.entity_type.EntityType.{EntityType}
+use Rattle.sc_rules.specs.entity_types.Conformance.{conforms}
+use Rattle.sc_rules.specs.declared.entity_types.known.Known.{Known}
+use Rattle.sc_rules.specs.entity_types.Combiners.{known_of, combined_argument}
 use Rattle.sc_rules.specs.declared.rule.Rule.{Rule}
 use Rattle.sc_rules.specs.declared.rule.Rule.TheVariants.{UnknownName, WrongArity, ArgumentType, TargetDetachable, TargetUncontrolled, ResultType, ImpureContract, PreconditionArgument, NotExported}
 use Rattle.sc_rules.specs.declared.position.Context.{Context}

@@ -4,7 +4,7 @@ use Rattle.std.specs.List.{list_all}
 use Rattle.sc_text.specs.declared.token.Span.{Span}
 use Rattle.sc_tree.specs.Plain.{System, Declaration, DeclaredType, FeatureKind, Attribute, Routine, Expr}
 use Rattle.sc_class.specs.Tables.Features.{DeclaredFeature, declared_features}
-use Rattle.sc_proctype.specs.declared.entity_type.EntityType.{EntityType}
+use Rattle.sc_rules.specs.declared.entity_types.entity_type.EntityType.{EntityType}
 use Rattle.sc_rules.specs.declared.rule.Rule.{Rule}
 use Rattle.sc_rules.specs.declared.position.Context.{Context}
 use Rattle.sc_rules.specs.declared.position.Position.{Position}

@@ -1,3 +1,4 @@
+pub mod entity_types
 pub mod Types
 pub mod Positions
 pub mod Names
@@ -21,4 +22,3 @@ pub mod TextLaws
 pub mod ScopeLaws
 pub mod PurityLaws
 pub mod FeatureNumbers
-pub use Rattle.sc_proctype.specs.Combiners

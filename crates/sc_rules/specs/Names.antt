@@ -7,11 +7,11 @@ use Rattle.sc_class.specs.declared.identity.ClassId.TheVariants as class
 use Rattle.sc_tree.specs.Properties.{is_print}
 use Rattle.sc_class.specs.ClassNames.{is_none}
 use Rattle.sc_class.specs.Tables.Features.{DeclaredFeature, feature_named}
-use Rattle.sc_proctype.specs.declared.tag.Reserved.TheVariants.{Formal, BlockName}
-use Rattle.sc_proctype.specs.declared.tag.Tag.TheVariants as tag
-use Rattle.sc_proctype.specs.Tags.{is_any}
-use Rattle.sc_proctype.specs.declared.entity_type.EntityType.{EntityType}
-use Rattle.sc_proctype.specs.Combiners.{combined_result}
+use Rattle.sc_rules.specs.declared.entity_types.tag.Reserved.TheVariants.{Formal, BlockName}
+use Rattle.sc_rules.specs.declared.entity_types.tag.Tag.TheVariants as tag
+use Rattle.sc_rules.specs.entity_types.Tags.{is_any}
+use Rattle.sc_rules.specs.declared.entity_types.entity_type.EntityType.{EntityType}
+use Rattle.sc_rules.specs.entity_types.Combiners.{combined_result}
 use Rattle.sc_rules.specs.declared.position.Role.{Role}
 use Rattle.sc_rules.specs.declared.position.Role.TheVariants as role
 use Rattle.sc_rules.specs.Types.{declared_type}

@@ -8,15 +8,15 @@ use Rattle.sc_tree.specs.declared.expression.BinaryOperator.{BinaryOperator}
 use Rattle.sc_tree.specs.Plain as plain
 use Rattle.sc_tree.specs.Plain.{System, DeclaredType, Name, Expr, Integer, Boolean, Void, Current, Call, Unary, Binary, ObjectTest, Target, no_target, target, Exprs, no_exprs, expr_then}
 use Rattle.sc_class.specs.Tables.Conformance.{is_expanded}
-use Rattle.sc_proctype.specs.declared.tag.Reserved.TheVariants.{Formal, BlockName}
-use Rattle.sc_proctype.specs.declared.tag.Tag.{Tag}
-use Rattle.sc_proctype.specs.declared.tag.Tag.TheVariants as tag
-use Rattle.sc_proctype.specs.declared.entity_type.EntityType.{EntityType}
-use Rattle.sc_proctype.specs.Conformance.{integer, boolean, conforms}
-use Rattle.sc_proctype.specs.Conformance as conformance
-use Rattle.sc_proctype.specs.declared.known.Known.{Known}
-use Rattle.sc_proctype.specs.declared.known.Known.TheVariants as known
-use Rattle.sc_proctype.specs.Combiners.{known_of, combined_argument}
+use Rattle.sc_rules.specs.declared.entity_types.tag.Reserved.TheVariants.{Formal, BlockName}
+use Rattle.sc_rules.specs.declared.entity_types.tag.Tag.{Tag}
+use Rattle.sc_rules.specs.declared.entity_types.tag.Tag.TheVariants as tag
+use Rattle.sc_rules.specs.declared.entity_types.entity_type.EntityType.{EntityType}
+use Rattle.sc_rules.specs.entity_types.Conformance.{integer, boolean, conforms}
+use Rattle.sc_rules.specs.entity_types.Conformance as conformance
+use Rattle.sc_rules.specs.declared.entity_types.known.Known.{Known}
+use Rattle.sc_rules.specs.declared.entity_types.known.Known.TheVariants as known
+use Rattle.sc_rules.specs.entity_types.Combiners.{known_of, combined_argument}
 use Rattle.sc_rules.specs.declared.position.Context.{Context}
 use Rattle.sc_rules.specs.declared.position.Position.{Position}
 use Rattle.sc_rules.specs.declared.position.Position.TheVariants.{Plain, Condition, Source}

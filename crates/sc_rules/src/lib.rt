@@ -6,11 +6,14 @@
 //! of the rules, one constructor each, up to `WellFormed`. `specs/Judging` and its like say which fault is answered
 //! where several rules fail. [`RefusalCode`] has all reasons for which a text is refused, also those that are no rule.
 //!
+//! The types themselves, which of them conform to which, and what a caller sees of them stand in [`entity_types`].
+//!
 //! What follows stands in [`laws`] (types and declarations), [`scope_laws`] (names and tags), [`purity_laws`],
 //! [`system_laws`] (calls and assignments), [`instruction_laws`], [`text_laws`] (contracts, conditions and separate
 //! blocks) and [`heir_laws`].
 #![tactic(auto)]
 
+pub mod entity_types;
 mod fault;
 pub mod heir_laws;
 pub mod instruction_laws;

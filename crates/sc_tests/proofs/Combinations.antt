@@ -2,14 +2,14 @@
 use Rattle.std.proofs.Common.{◌≡◌, List, [], ◌∷◌, refl}
 use Rattle.std.specs.Prelude.{map}
 use Rattle.sc_class.specs.declared.identity.ClassId.TheVariants as class
-use Rattle.sc_proctype.specs.declared.tag.Reserved.TheVariants.{Formal, BlockName}
-use Rattle.sc_proctype.specs.declared.tag.Tag.{Tag}
-use Rattle.sc_proctype.specs.declared.tag.Tag.TheVariants as tag
-use Rattle.sc_proctype.specs.declared.entity_type.EntityType.{EntityType}
-use Rattle.sc_proctype.specs.Conformance.{integer, boolean}
-use Rattle.sc_proctype.specs.declared.known.Known.{Known}
-use Rattle.sc_proctype.specs.declared.known.Known.TheVariants as known
-use Rattle.sc_proctype.specs.Combiners.{combined_result, combined_argument, known_of}
+use Rattle.sc_rules.specs.declared.entity_types.tag.Reserved.TheVariants.{Formal, BlockName}
+use Rattle.sc_rules.specs.declared.entity_types.tag.Tag.{Tag}
+use Rattle.sc_rules.specs.declared.entity_types.tag.Tag.TheVariants as tag
+use Rattle.sc_rules.specs.declared.entity_types.entity_type.EntityType.{EntityType}
+use Rattle.sc_rules.specs.entity_types.Conformance.{integer, boolean}
+use Rattle.sc_rules.specs.declared.entity_types.known.Known.{Known}
+use Rattle.sc_rules.specs.declared.entity_types.known.Known.TheVariants as known
+use Rattle.sc_rules.specs.entity_types.Combiners.{combined_result, combined_argument, known_of}
 use Rattle.sc_tests.proofs.Conformances.{attached, detachable, first, x, y}
 
 abbrev z : Tag

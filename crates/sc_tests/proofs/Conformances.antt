@@ -5,12 +5,12 @@ use Rattle.sc_tree.specs.Plain.{System}
 use Rattle.sc_class.specs.declared.identity.ClassId.{ClassId}
 use Rattle.sc_class.specs.declared.identity.ClassId.TheVariants as class
 use Rattle.sc_class.specs.Tables.Conformance.{is_expanded}
-use Rattle.sc_proctype.specs.declared.tag.Reserved.TheVariants.{Formal, BlockName}
-use Rattle.sc_proctype.specs.declared.tag.Tag.{Tag}
-use Rattle.sc_proctype.specs.declared.tag.Tag.TheVariants as tag
-use Rattle.sc_proctype.specs.declared.entity_type.EntityType.{EntityType}
-use Rattle.sc_proctype.specs.Tags.{tag_conforms}
-use Rattle.sc_proctype.specs.Conformance.{void, integer, boolean, mark_conforms, conforms}
+use Rattle.sc_rules.specs.declared.entity_types.tag.Reserved.TheVariants.{Formal, BlockName}
+use Rattle.sc_rules.specs.declared.entity_types.tag.Tag.{Tag}
+use Rattle.sc_rules.specs.declared.entity_types.tag.Tag.TheVariants as tag
+use Rattle.sc_rules.specs.declared.entity_types.entity_type.EntityType.{EntityType}
+use Rattle.sc_rules.specs.entity_types.Tags.{tag_conforms}
+use Rattle.sc_rules.specs.entity_types.Conformance.{void, integer, boolean, mark_conforms, conforms}
 use Rattle.sc_model.proofs.Texts.{heir_of, procedure, application, system}
 use Rattle.sc_model.proofs.Texts as text
 

@@ -6,7 +6,7 @@ use Rattle.sc_tree.specs.View.{declaration_of}
 use Rattle.sc_class.specs.declared.class_tables.feature_entry.FeatureEntry.{FeatureEntry}
 use Rattle.sc_class.specs.View.{entry_of}
 use Rattle.sc_class.specs.Tables.Features.{DeclaredFeature}
-use Rattle.sc_proctype.specs.declared.entity_type.EntityType.{EntityType}
+use Rattle.sc_rules.specs.declared.entity_types.entity_type.EntityType.{EntityType}
 use Rattle.sc_rules.specs.declared.fault.Fault.{Fault}
 use Rattle.sc_rules.specs.Names as names
 use Rattle.sc_rules.specs.Typing as typing

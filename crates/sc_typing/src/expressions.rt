@@ -18,7 +18,7 @@ use crate::expressions::typing::{
 };
 use crate::fault::{CheckFault, refusal, required};
 use crate::routine_context::RoutineContext;
-use sc_proctype::EntityType;
+use sc_rules::entity_types::EntityType;
 use sc_rules::{Context, Position, Role, Rule, Use};
 use sc_tree::{Call, DeclaredType, Expr};
 

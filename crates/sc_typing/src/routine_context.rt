@@ -14,7 +14,7 @@ use crate::declarations::names::{Entity, attached_if_any, entity_named};
 use crate::declarations::types::{declared_type, given_type, given_type_if_any};
 use crate::purity::Purity;
 use sc_class::{ClassId, FeatureEntry, Tables};
-use sc_proctype::{EntityType, Tag};
+use sc_rules::entity_types::{EntityType, Tag};
 use sc_tree::{Declaration, DeclaredType, Expr, FeatureKind, Name};
 use std::alloc::Global;
 

@@ -2,7 +2,7 @@
 use Rattle.std.specs.Prelude.{ℕ, Bool, true, false, List, ◌++◌, Option, Some, Result, Ok}
 use Rattle.sc_text.specs.declared.token.Span.{Span}
 use Rattle.sc_tree.specs.Plain.{System, Declaration, Clause, Feature, Head, Name, Variable, Expr, Void, Target, no_target, Exprs, Instrs, Branches}
-use Rattle.sc_proctype.specs.declared.entity_type.EntityType.{EntityType}
+use Rattle.sc_rules.specs.declared.entity_types.entity_type.EntityType.{EntityType}
 use Rattle.sc_rules.specs.declared.rule.Rule.TheVariants.{ArgumentType, AssignType, NotCreation}
 use Rattle.sc_rules.specs.declared.position.Context.TheVariants as context
 use Rattle.sc_rules.specs.declared.position.Position.TheVariants.{Plain, Condition, Source}

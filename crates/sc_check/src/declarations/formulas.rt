@@ -10,8 +10,8 @@ ghost use Rattle.sc_class.specs.SystemIn.{system_in};
 ghost use Rattle.sc_check.specs.Internal.Parts as parts;
 
 use sc_class::{ClassId, FeatureEntry, Tables};
-use sc_proctype::EntityType;
 use sc_rules::Rule;
+use sc_rules::entity_types::EntityType;
 use sc_text::Span;
 use sc_tree::{Call, Clause, Expr, FeatureKind};
 use sc_typing::{CheckFault, declared_type, refusal, required};

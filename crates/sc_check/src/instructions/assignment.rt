@@ -8,7 +8,7 @@ ghost use Rattle.sc_typing.specs.Judges.{Judges, Passes};
 ghost use Rattle.sc_check.specs.Internal.Parts as parts;
 
 use crate::instructions::conforms_if_any;
-use sc_proctype::EntityType;
+use sc_rules::entity_types::EntityType;
 use sc_rules::{Context, Position, Rule};
 use sc_text::Span;
 use sc_tree::{Expr, Variable};

@@ -10,7 +10,7 @@ ghost use Rattle.sc_check.specs.Internal.Parts as parts;
 
 use crate::instructions::conforms_if_any;
 use sc_class::ClassId;
-use sc_proctype::{EntityType, Tag};
+use sc_rules::entity_types::{EntityType, Tag};
 use sc_rules::{Context, Position, Role, Rule};
 use sc_tree::Head;
 use sc_typing::{CheckFault, Entity, RoutineContext, block_type, blocks, required};

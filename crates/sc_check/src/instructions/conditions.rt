@@ -9,7 +9,7 @@ ghost use Rattle.sc_rules.specs.declared.position.Position.TheVariants.{Conditio
 ghost use Rattle.sc_typing.specs.Views.{routine_in, entity_of};
 ghost use Rattle.sc_typing.specs.Judges.{Passes};
 
-use sc_proctype::EntityType;
+use sc_rules::entity_types::EntityType;
 use sc_rules::{Context, Position, Rule};
 use sc_tree::{Clause, Expr};
 use sc_typing::{CheckFault, Entity, RoutineContext, is_boolean, required};

@@ -10,7 +10,7 @@ ghost use Rattle.sc_typing.specs.Judges.{Passes};
 ghost use Rattle.sc_check.specs.Internal.Parts as parts;
 
 use sc_class::{ClassId, Tables};
-use sc_proctype::{EntityType, Tag};
+use sc_rules::entity_types::{EntityType, Tag};
 use sc_rules::{Context, Rule, Use};
 use sc_text::Span;
 use sc_tree::{CreationCall, Name};

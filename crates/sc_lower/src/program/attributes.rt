@@ -11,7 +11,7 @@ ghost use Rattle.sc_model.specs.Invariants.{attribute_named};
 ghost use Rattle.sc_lower.specs.AttributeBindings.{binding_of, is_named};
 
 use sc_class::{ClassId, FeatureEntry, Tables};
-use sc_proctype::EntityType;
+use sc_rules::entity_types::EntityType;
 use sc_text::Span;
 use sc_tree::{Feature, FeatureKind};
 use sc_typing::declared_type;

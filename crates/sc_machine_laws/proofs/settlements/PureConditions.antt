@@ -7,9 +7,9 @@ use Rattle.sc_tree.specs.Plain.{System, DeclaredType, Expr, FeatureKind}
 use Rattle.sc_class.specs.declared.identity.ClassId.TheVariants as class
 use Rattle.sc_class.specs.Tables.Conformance.{class_conforms}
 use Rattle.sc_class.specs.Tables.Features.{DeclaredFeature, feature_named}
-use Rattle.sc_proctype.specs.declared.tag.Tag.{Tag}
-use Rattle.sc_proctype.specs.declared.tag.Tag.TheVariants as tag
-use Rattle.sc_proctype.specs.declared.entity_type.EntityType.{EntityType}
+use Rattle.sc_rules.specs.declared.entity_types.tag.Tag.{Tag}
+use Rattle.sc_rules.specs.declared.entity_types.tag.Tag.TheVariants as tag
+use Rattle.sc_rules.specs.declared.entity_types.entity_type.EntityType.{EntityType}
 use Rattle.sc_rules.specs.declared.position.Context.{Context}
 use Rattle.sc_rules.specs.declared.position.Position.TheVariants.{Plain, Condition}
 use Rattle.sc_rules.specs.declared.position.Role.TheVariants as role

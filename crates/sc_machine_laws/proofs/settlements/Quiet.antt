@@ -6,11 +6,11 @@ use Rattle.sc_text.proofs.Classes.{and_true}
 use Rattle.sc_tree.specs.Plain.{System, Declaration, DeclaredType, Routine, HandlerTag, Own, Separate, HandlerOf}
 use Rattle.sc_class.specs.declared.identity.ClassId.{ClassId}
 use Rattle.sc_class.specs.Tables.Conformance.{is_expanded, type_class}
-use Rattle.sc_proctype.specs.declared.entity_type.EntityType.{EntityType}
-use Rattle.sc_proctype.specs.declared.tag.Reserved.TheVariants.{Formal}
-use Rattle.sc_proctype.specs.declared.tag.Tag.{Tag}
-use Rattle.sc_proctype.specs.declared.tag.Tag.TheVariants as tag
-use Rattle.sc_proctype.specs.Tags.{is_any}
+use Rattle.sc_rules.specs.declared.entity_types.entity_type.EntityType.{EntityType}
+use Rattle.sc_rules.specs.declared.entity_types.tag.Reserved.TheVariants.{Formal}
+use Rattle.sc_rules.specs.declared.entity_types.tag.Tag.{Tag}
+use Rattle.sc_rules.specs.declared.entity_types.tag.Tag.TheVariants as tag
+use Rattle.sc_rules.specs.entity_types.Tags.{is_any}
 use Rattle.sc_rules.specs.declared.position.Role.TheVariants as role
 use Rattle.sc_rules.specs.Names.{reserved}
 use Rattle.sc_rules.specs.Purity.{reserves, routine_named, is_pure_candidate, is_pure_candidate_if_any, no_candidate}

@@ -5,9 +5,9 @@ use Rattle.std.proofs.Common.{◌&&◌, ◌+◌, Bool, List, None, Option, Some,
 use Rattle.std.proofs.lemmas.Option.{slice_get-map}
 use Rattle.sc_tree.specs.Plain.{Expr, Exprs, expr_then, no_exprs}
 use Rattle.sc_class.specs.Tables.Conformance.{is_expanded}
-use Rattle.sc_proctype.specs.Conformance.{conforms}
-use Rattle.sc_proctype.specs.declared.entity_type.EntityType.{EntityType}
-use Rattle.sc_proctype.specs.Combiners.{combined_argument}
+use Rattle.sc_rules.specs.entity_types.Conformance.{conforms}
+use Rattle.sc_rules.specs.declared.entity_types.entity_type.EntityType.{EntityType}
+use Rattle.sc_rules.specs.entity_types.Combiners.{combined_argument}
 use Rattle.sc_rules.specs.CallRules.{ActualAt, IsKnown, actual_here, actual_later, count, names_missing, names_none, names_one}
 use Rattle.sc_rules.specs.Names.{Entities, FormalType, RoutineContext, Signature, of_expanded, of_none, of_type}
 use Rattle.sc_rules.specs.Sites.{IsActual, first_actual, later_actual}

@@ -7,14 +7,14 @@ use Rattle.sc_tree.specs.Plain.{Declaration, DeclaredType, HandlerOf, HandlerTag
 use Rattle.sc_class.specs.Tables.Conformance.{class_conforms, is_expanded, type_class}
 use Rattle.sc_class.specs.declared.identity.ClassId.{ClassId}
 use Rattle.sc_class.specs.declared.identity.ClassId.TheVariants as class
-use Rattle.sc_proctype.specs.Conformance.{conforms}
-use Rattle.sc_proctype.specs.declared.entity_type.EntityType.{EntityType}
-use Rattle.sc_proctype.specs.declared.tag.Reserved.{Reserved}
-use Rattle.sc_proctype.specs.declared.tag.Reserved.TheVariants.{BlockName, Formal}
-use Rattle.sc_proctype.specs.declared.tag.Tag.{Tag}
-use Rattle.sc_proctype.specs.declared.tag.Tag.TheVariants as tag
-use Rattle.sc_proctype.specs.Combiners.{combined_argument, known_of, known_tag}
-use Rattle.sc_proctype.specs.declared.known.Known.{Known}
+use Rattle.sc_rules.specs.entity_types.Conformance.{conforms}
+use Rattle.sc_rules.specs.declared.entity_types.entity_type.EntityType.{EntityType}
+use Rattle.sc_rules.specs.declared.entity_types.tag.Reserved.{Reserved}
+use Rattle.sc_rules.specs.declared.entity_types.tag.Reserved.TheVariants.{BlockName, Formal}
+use Rattle.sc_rules.specs.declared.entity_types.tag.Tag.{Tag}
+use Rattle.sc_rules.specs.declared.entity_types.tag.Tag.TheVariants as tag
+use Rattle.sc_rules.specs.entity_types.Combiners.{combined_argument, known_of, known_tag}
+use Rattle.sc_rules.specs.declared.entity_types.known.Known.{Known}
 use Rattle.sc_rules.specs.Names.{formal_type, of_type}
 use Rattle.sc_rules.specs.Types.{declared_tag, declared_type, is_marked, is_nameable, is_own, is_separate, number_of_named, typed}
 use Rattle.sc_rules.specs.Typing.{formals_take, is_untyped, known_handler, known_handlers, named_formal, names_untyped, takes, takes_if_any}

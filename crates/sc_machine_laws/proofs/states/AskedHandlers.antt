@@ -2,7 +2,7 @@
 use Rattle.std.specs.Prelude.{Contains, if◌then◌else◌}
 use Rattle.std.proofs.Common.{⊎_elim, ◌<◌, Bool, List, None, Option, Some, [], ap, drop, false, refl, subst, suc, sym, take, true, zero, ℕ, ◌∙◌, ◌∷◌, ◌≡◌, ◌⊎◌, inl, inr}
 use Rattle.sc_tree.specs.Plain.{System}
-use Rattle.sc_proctype.specs.declared.entity_type.EntityType.{EntityType}
+use Rattle.sc_rules.specs.declared.entity_types.entity_type.EntityType.{EntityType}
 use Rattle.sc_lockpass.specs.Rights.{held}
 use Rattle.sc_rules.specs.Names.{is_block}
 use Rattle.sc_machine_laws.specs.states.Formals.{FormalsAreHeld, NamesAreHeld, before_reserve, goes_on}

@@ -3,10 +3,10 @@ use Rattle.std.specs.Option.{option_and_then, option_map}
 use Rattle.std.specs.Prelude.{bytes_eq, if◌then◌else◌, map, slice_get}
 use Rattle.std.proofs.Common.{◌++◌, Bool, List, None, Option, Some, [], ap, cond, false, inl, refl, subst, suc, sym, true, zero, ℕ, ◌∙◌, ◌∷◌, ◌≡◌}
 use Rattle.sc_tree.specs.Plain.{Declaration, DeclaredType, HandlerOf, HandlerTag, Own, Separate, System}
-use Rattle.sc_proctype.specs.declared.entity_type.EntityType.{EntityType}
-use Rattle.sc_proctype.specs.declared.tag.Reserved.TheVariants.{BlockName, Formal}
-use Rattle.sc_proctype.specs.declared.tag.Tag.{Tag}
-use Rattle.sc_proctype.specs.declared.tag.Tag.TheVariants as tag
+use Rattle.sc_rules.specs.declared.entity_types.entity_type.EntityType.{EntityType}
+use Rattle.sc_rules.specs.declared.entity_types.tag.Reserved.TheVariants.{BlockName, Formal}
+use Rattle.sc_rules.specs.declared.entity_types.tag.Tag.{Tag}
+use Rattle.sc_rules.specs.declared.entity_types.tag.Tag.TheVariants as tag
 use Rattle.sc_rules.specs.Names.{is_block, is_local}
 use Rattle.sc_rules.specs.Types.{declared_tag, declared_type, number_of_named}
 use Rattle.sc_rules.specs.declared.position.Role.{Role}

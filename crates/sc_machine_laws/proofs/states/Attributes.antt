@@ -6,7 +6,7 @@ use Rattle.std.proofs.Common.{Bool, List, None, Option, Some, [], ap, cond, fals
 use Rattle.sc_tree.specs.Plain as tree
 use Rattle.sc_tree.specs.Plain.{DeclaredType, FeatureKind, System}
 use Rattle.sc_class.specs.Tables.Features.{DeclaredFeature, features, named_among}
-use Rattle.sc_proctype.specs.declared.entity_type.EntityType.{EntityType}
+use Rattle.sc_rules.specs.declared.entity_types.entity_type.EntityType.{EntityType}
 use Rattle.sc_rules.specs.Names.{Entity}
 use Rattle.sc_rules.specs.Types.{declared_type}
 use Rattle.sc_rules.specs.declared.position.Role.TheVariants as role

@@ -7,10 +7,10 @@ use Rattle.sc_tree.specs.Plain as tree
 use Rattle.sc_tree.specs.Plain.{Branches, Clause, Expr, Head, Instrs, System, Variable}
 use Rattle.sc_class.specs.Tables.Conformance.{class_conforms}
 use Rattle.sc_class.specs.declared.identity.ClassId.TheVariants as class
-use Rattle.sc_proctype.specs.Conformance.{mark_conforms}
-use Rattle.sc_proctype.specs.Tags.{tag_conforms}
-use Rattle.sc_proctype.specs.declared.entity_type.EntityType.{EntityType}
-use Rattle.sc_proctype.specs.declared.tag.Tag.TheVariants as tag
+use Rattle.sc_rules.specs.entity_types.Conformance.{mark_conforms}
+use Rattle.sc_rules.specs.entity_types.Tags.{tag_conforms}
+use Rattle.sc_rules.specs.declared.entity_types.entity_type.EntityType.{EntityType}
+use Rattle.sc_rules.specs.declared.entity_types.tag.Tag.TheVariants as tag
 use Rattle.sc_rules.specs.InstructionLaws as rules
 use Rattle.sc_rules.specs.InstructionLaws.{IsOfType, of_if, of_loop}
 use Rattle.sc_rules.specs.Laws.{are_typed}

@@ -7,7 +7,7 @@ use Rattle.sc_tree.specs.Plain.{Expr, Exprs, FeatureKind, Name, System, Target, 
 use Rattle.sc_tree.specs.Properties.{is_print}
 use Rattle.sc_class.specs.Tables.Features.{DeclaredFeature, feature_named}
 use Rattle.sc_class.specs.declared.identity.ClassId.TheVariants as class
-use Rattle.sc_proctype.specs.declared.entity_type.EntityType.{EntityType}
+use Rattle.sc_rules.specs.declared.entity_types.entity_type.EntityType.{EntityType}
 use Rattle.sc_rules.specs.CallRules.{actual_here, count}
 use Rattle.sc_rules.specs.Names.{Entity, RoutineName, Signature, current, entity_named, entity_or, meaning_of, meaning_of_feature, named, print_signature, signature_of_kind}
 use Rattle.sc_rules.specs.Purity as purity

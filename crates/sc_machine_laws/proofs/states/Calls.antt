@@ -8,9 +8,9 @@ use Rattle.sc_class.specs.Tables.Conformance.{class_conforms, is_expanded}
 use Rattle.sc_class.specs.Tables.Features.{DeclaredFeature, feature_named}
 use Rattle.sc_class.specs.declared.identity.ClassId.{ClassId}
 use Rattle.sc_class.specs.declared.identity.ClassId.TheVariants as class
-use Rattle.sc_proctype.specs.declared.entity_type.EntityType.{EntityType}
-use Rattle.sc_proctype.specs.declared.tag.Tag.{Tag}
-use Rattle.sc_proctype.specs.declared.tag.Tag.TheVariants as tag
+use Rattle.sc_rules.specs.declared.entity_types.entity_type.EntityType.{EntityType}
+use Rattle.sc_rules.specs.declared.entity_types.tag.Tag.{Tag}
+use Rattle.sc_rules.specs.declared.entity_types.tag.Tag.TheVariants as tag
 use Rattle.sc_rules.specs.Names.{RoutineName, current, signature_of}
 use Rattle.sc_rules.specs.Types.{is_controlled, is_controlled_tag}
 use Rattle.sc_rules.specs.Typing.{takes}

@@ -3,7 +3,7 @@ use Rattle.std.specs.Prelude.{Contains, length, take}
 use Rattle.std.proofs.Common.{Bool, List, Some, [], ap, arith, false, refl, subst, suc, sym, true, zero, ℕ, ◌∙◌, ◌∷◌, ◌≡◌}
 use Rattle.sc_tree.specs.Plain.{Branches, Clause, Expr, Instrs, System, branch_then, no_branches}
 use Rattle.sc_class.specs.Tables.Conformance.{is_expanded}
-use Rattle.sc_proctype.specs.declared.entity_type.EntityType.{EntityType}
+use Rattle.sc_rules.specs.declared.entity_types.entity_type.EntityType.{EntityType}
 use Rattle.sc_rules.specs.InstructionLaws.{IsCondition, of_branch}
 use Rattle.sc_rules.specs.Names.{Entities, RoutineContext, RoutineName}
 use Rattle.sc_rules.specs.Sites as site

@@ -5,8 +5,8 @@ use Rattle.std.proofs.Common.{◌&&◌, ◌+◌, ◌++◌, Bool, List, None, Opt
 use Rattle.sc_tree.specs.Plain.{DeclaredType, Expr, System}
 use Rattle.sc_tree.specs.declared.expression.BinaryOperator.{BinaryOperator}
 use Rattle.sc_tree.specs.declared.expression.BinaryOperator.TheVariants as binary
-use Rattle.sc_proctype.specs.Conformance.{boolean}
-use Rattle.sc_proctype.specs.declared.entity_type.EntityType.{EntityType}
+use Rattle.sc_rules.specs.entity_types.Conformance.{boolean}
+use Rattle.sc_rules.specs.declared.entity_types.entity_type.EntityType.{EntityType}
 use Rattle.sc_rules.specs.Laws.{are_typed}
 use Rattle.sc_rules.specs.Names.{Entities, RoutineContext, RoutineName, attached, entity, test_type}
 use Rattle.sc_rules.specs.Positions.{is_and_then, is_ensure, may_give, shares_names, takes_void}

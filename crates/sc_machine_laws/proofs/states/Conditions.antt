@@ -4,8 +4,8 @@ use Rattle.std.proofs.Common.{Bool, List, [], ap, false, refl, subst, sym, true,
 use Rattle.sc_tree.specs.Plain.{Expr, System}
 use Rattle.sc_tree.specs.declared.expression.BinaryOperator.{BinaryOperator}
 use Rattle.sc_tree.specs.declared.expression.BinaryOperator.TheVariants as binary
-use Rattle.sc_proctype.specs.Conformance.{boolean}
-use Rattle.sc_proctype.specs.declared.entity_type.EntityType.{EntityType}
+use Rattle.sc_rules.specs.entity_types.Conformance.{boolean}
+use Rattle.sc_rules.specs.declared.entity_types.entity_type.EntityType.{EntityType}
 use Rattle.sc_rules.specs.Names.{Entities, RoutineName}
 use Rattle.sc_rules.specs.Positions.{is_and_then, is_ensure}
 use Rattle.sc_rules.specs.Types.{is_boolean}

@@ -6,11 +6,11 @@ use Rattle.sc_tree.specs.Plain.{FeatureKind, System, Variable}
 use Rattle.sc_class.specs.Tables.Conformance.{class_conforms}
 use Rattle.sc_class.specs.Tables.Features.{feature_named}
 use Rattle.sc_class.specs.declared.identity.ClassId.TheVariants as class
-use Rattle.sc_proctype.specs.Tags.{tag_conforms}
-use Rattle.sc_proctype.specs.declared.entity_type.EntityType.{EntityType}
-use Rattle.sc_proctype.specs.declared.tag.Reserved.{Reserved}
-use Rattle.sc_proctype.specs.declared.tag.Tag.TheVariants as tag
-use Rattle.sc_proctype.proofs.ConformanceLemmas.{reflexive}
+use Rattle.sc_rules.specs.entity_types.Tags.{tag_conforms}
+use Rattle.sc_rules.specs.declared.entity_types.entity_type.EntityType.{EntityType}
+use Rattle.sc_rules.specs.declared.entity_types.tag.Reserved.{Reserved}
+use Rattle.sc_rules.specs.declared.entity_types.tag.Tag.TheVariants as tag
+use Rattle.sc_rules.proofs.entity_types.ConformanceLemmas.{reflexive}
 use Rattle.sc_rules.specs.Names.{RoutineName, Signature, assignee, assignee_type, attached, signature_of_kind}
 use Rattle.sc_rules.specs.Typing.{takes}
 use Rattle.sc_rules.specs.Versions.{Version}

@@ -10,7 +10,7 @@ use Rattle.sc_class.specs.Tables.Features.{DeclaredFeature}
 use Rattle.sc_class.specs.Tables.Heirs.{HasOrigin, StandsInText}
 use Rattle.sc_class.specs.declared.identity.ClassId.TheVariants as class
 use Rattle.sc_class.proofs.Declarers.{found_stands}
-use Rattle.sc_proctype.specs.declared.entity_type.EntityType.{EntityType}
+use Rattle.sc_rules.specs.declared.entity_types.entity_type.EntityType.{EntityType}
 use Rattle.sc_rules.specs.Laws.{AllDeclared, are_declared, is_declared, is_result_declared}
 use Rattle.sc_rules.specs.Names.{Entities, RoutineName, context_of, formals_known}
 use Rattle.sc_rules.specs.Purity.{IsPurity}

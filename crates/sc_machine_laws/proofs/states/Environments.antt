@@ -6,11 +6,11 @@ use Rattle.std.specs.Prelude.{if◌then◌else◌, length, map, slice_get, take}
 use Rattle.std.proofs.Common.{◌&&◌, ◌+◌, ◌++◌, Bool, List, None, Option, Some, [], ap, append-nil, append_assoc, arith, false, inl, inr, not, refl, subst, suc, sym, true, zero, ℕ, ◌∙◌, ◌∷◌, ◌≡◌, ◌⊎◌}
 use Rattle.std.proofs.lemmas.Option.{slice_get-map}
 use Rattle.sc_tree.specs.Plain.{Declaration, System}
-use Rattle.sc_proctype.specs.Tags.{is_any}
-use Rattle.sc_proctype.specs.declared.entity_type.EntityType.{EntityType}
-use Rattle.sc_proctype.specs.declared.tag.Reserved.{Reserved}
-use Rattle.sc_proctype.specs.declared.tag.Reserved.TheVariants.{BlockName, Formal}
-use Rattle.sc_proctype.specs.declared.tag.Tag.TheVariants as tag
+use Rattle.sc_rules.specs.entity_types.Tags.{is_any}
+use Rattle.sc_rules.specs.declared.entity_types.entity_type.EntityType.{EntityType}
+use Rattle.sc_rules.specs.declared.entity_types.tag.Reserved.{Reserved}
+use Rattle.sc_rules.specs.declared.entity_types.tag.Reserved.TheVariants.{BlockName, Formal}
+use Rattle.sc_rules.specs.declared.entity_types.tag.Tag.TheVariants as tag
 use Rattle.sc_rules.specs.Names.{Entities, Entity, entity, formal_entities, formals_known, is_block, is_local, reserved}
 use Rattle.sc_rules.specs.Types.{declared_type}
 use Rattle.sc_rules.specs.declared.position.Role.{Role}

@@ -11,8 +11,8 @@ use Rattle.sc_tree.specs.Properties.{is_print}
 use Rattle.sc_class.specs.Tables.Conformance.{is_expanded}
 use Rattle.sc_class.specs.Tables.Features.{DeclaredFeature, feature_named}
 use Rattle.sc_class.specs.declared.identity.ClassId.TheVariants as class
-use Rattle.sc_proctype.specs.Conformance.{boolean, conforms, integer, void}
-use Rattle.sc_proctype.specs.declared.entity_type.EntityType.{EntityType}
+use Rattle.sc_rules.specs.entity_types.Conformance.{boolean, conforms, integer, void}
+use Rattle.sc_rules.specs.declared.entity_types.entity_type.EntityType.{EntityType}
 use Rattle.sc_rules.specs.CallRules.{count}
 use Rattle.sc_rules.specs.Laws.{are_typed, is_declared}
 use Rattle.sc_rules.specs.Names.{Entities, RoutineName, Signature, current, entity_or, given_type, meaning_of, meaning_of_feature, named, print_signature, signature_of, signature_of_kind, unqualified_meaning}

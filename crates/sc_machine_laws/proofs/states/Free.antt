@@ -6,7 +6,7 @@ use Rattle.sc_tree.specs.Plain.{DeclaredType, Expr, Exprs, FeatureKind, Name, Ob
 use Rattle.sc_tree.specs.Properties.{is_print}
 use Rattle.sc_class.specs.Tables.Features.{DeclaredFeature, feature_named}
 use Rattle.sc_class.specs.declared.identity.ClassId.TheVariants as class
-use Rattle.sc_proctype.specs.declared.entity_type.EntityType.{EntityType}
+use Rattle.sc_rules.specs.declared.entity_types.entity_type.EntityType.{EntityType}
 use Rattle.sc_rules.specs.Names.{Entities, Entity, RoutineContext, RoutineName, assignee, assignee_of_feature, assignee_of_kind, assignee_or, entity, entity_named, entity_or, meaning_of, test_type, unassignable}
 use Rattle.sc_rules.specs.Positions.{is_and_then, wants_pure}
 use Rattle.sc_rules.specs.Typing as typing

@@ -10,7 +10,7 @@ use Rattle.sc_class.specs.Tables.Conformance.{class_conforms, is_expanded}
 use Rattle.sc_class.specs.Tables.Features.{DeclaredFeature, features}
 use Rattle.sc_class.specs.declared.identity.ClassId.{ClassId}
 use Rattle.sc_class.specs.declared.identity.ClassId.TheVariants as class
-use Rattle.sc_proctype.specs.declared.entity_type.EntityType.{EntityType}
+use Rattle.sc_rules.specs.declared.entity_types.entity_type.EntityType.{EntityType}
 use Rattle.sc_rules.specs.Types.{declared_type}
 use Rattle.sc_rules.specs.declared.position.Role.TheVariants as role
 use Rattle.sc_model.specs.Environments.{Binding, bind}

@@ -10,11 +10,11 @@ use Rattle.sc_class.specs.Tables.Conformance.{is_expanded}
 use Rattle.sc_class.specs.Tables.Features.{DeclaredFeature, feature_named}
 use Rattle.sc_class.specs.declared.identity.ClassId.{ClassId}
 use Rattle.sc_class.specs.declared.identity.ClassId.TheVariants as class
-use Rattle.sc_proctype.specs.Laws.{IsClassOf}
-use Rattle.sc_proctype.specs.declared.entity_type.EntityType.{EntityType}
-use Rattle.sc_proctype.specs.declared.tag.Tag.{Tag}
-use Rattle.sc_proctype.specs.declared.tag.Tag.TheVariants as tag
-use Rattle.sc_proctype.specs.Combiners.{combined_result}
+use Rattle.sc_rules.specs.entity_types.Laws.{IsClassOf}
+use Rattle.sc_rules.specs.declared.entity_types.entity_type.EntityType.{EntityType}
+use Rattle.sc_rules.specs.declared.entity_types.tag.Tag.{Tag}
+use Rattle.sc_rules.specs.declared.entity_types.tag.Tag.TheVariants as tag
+use Rattle.sc_rules.specs.entity_types.Combiners.{combined_result}
 use Rattle.sc_rules.specs.CallRules.{count}
 use Rattle.sc_rules.specs.InstructionLaws as rules
 use Rattle.sc_rules.specs.InstructionLaws.{IsOfType, MayBeCreated, of_check}

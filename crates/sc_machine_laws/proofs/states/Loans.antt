@@ -1,6 +1,6 @@
 -- A callback stands on a frame that lent all that its handler had reserved.
 use Rattle.std.proofs.Common.{◌≡◌, Bool, true, false, List, [], ◌∷◌, Option, Some, None, ℕ, refl, sym, ◌∙◌, subst}
-use Rattle.sc_proctype.specs.declared.entity_type.EntityType.{EntityType}
+use Rattle.sc_rules.specs.declared.entity_types.entity_type.EntityType.{EntityType}
 use Rattle.sc_model.specs.Handlers as machine
 use Rattle.sc_model.specs.Handlers.{Runs, Reserves, ReservesBlock, InCall, Awaits}
 use Rattle.sc_machine_laws.specs.states.World.{Asked, Wait, Request, Frame}

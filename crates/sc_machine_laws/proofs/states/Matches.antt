@@ -2,7 +2,7 @@
 use Rattle.std.specs.Option.{option_and_then}
 use Rattle.std.proofs.Common.{List, None, Option, Some, subst, sym, ℕ, ◌≡◌}
 use Rattle.sc_tree.specs.Plain.{FeatureKind, System}
-use Rattle.sc_proctype.specs.declared.entity_type.EntityType.{EntityType}
+use Rattle.sc_rules.specs.declared.entity_types.entity_type.EntityType.{EntityType}
 use Rattle.sc_model.specs.Environments.{Binding, handler_named}
 use Rattle.sc_model.specs.Handlers.{point_of}
 use Rattle.sc_model.specs.Moves.{moves}

@@ -8,8 +8,8 @@ use Rattle.sc_tree.specs.Plain.{Branches, Clause, Declaration, DeclaredType, Exp
 use Rattle.sc_tree.specs.declared.expression.UnaryOperator.TheVariants as unary
 use Rattle.sc_class.specs.Tables.Features.{DeclaredFeature, feature_named}
 use Rattle.sc_class.specs.declared.identity.ClassId.TheVariants as class
-use Rattle.sc_proctype.specs.Conformance.{boolean, integer, void}
-use Rattle.sc_proctype.specs.declared.entity_type.EntityType.{EntityType}
+use Rattle.sc_rules.specs.entity_types.Conformance.{boolean, integer, void}
+use Rattle.sc_rules.specs.declared.entity_types.entity_type.EntityType.{EntityType}
 use Rattle.sc_rules.specs.CallRules.{count}
 use Rattle.sc_rules.specs.Names.{Assignee, block_type, blocks, current, given_type, to_attribute, to_local, unassignable, unknown_assignee}
 use Rattle.sc_rules.specs.Types.{declared_type}

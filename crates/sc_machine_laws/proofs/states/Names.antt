@@ -6,7 +6,7 @@ use Rattle.sc_tree.specs.Plain.{Expr, Exprs, System, expr_then}
 use Rattle.sc_tree.specs.declared.expression.BinaryOperator.{BinaryOperator}
 use Rattle.sc_tree.specs.declared.expression.UnaryOperator.{UnaryOperator}
 use Rattle.sc_class.specs.Tables.Features.{DeclaredFeature}
-use Rattle.sc_proctype.specs.declared.entity_type.EntityType.{EntityType}
+use Rattle.sc_rules.specs.declared.entity_types.entity_type.EntityType.{EntityType}
 use Rattle.sc_rules.specs.CallRules.{count}
 use Rattle.sc_rules.specs.Laws.{are_typed}
 use Rattle.sc_rules.specs.Names.{Entities, RoutineName, Signature, entity_named, meaning_of_feature, named, signature_of}

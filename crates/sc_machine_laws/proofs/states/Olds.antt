@@ -3,7 +3,7 @@ use Rattle.std.specs.Prelude.{length, slice_get}
 use Rattle.std.proofs.Common.{◌+◌, ◌++◌, List, Some, [], add_assoc, ap, ap₂, false, not, refl, subst, sym, ℕ, ◌∙◌, ◌≡◌}
 use Rattle.sc_tree.specs.Plain.{Expr, Exprs, System}
 use Rattle.sc_tree.specs.declared.expression.UnaryOperator.TheVariants as unary
-use Rattle.sc_proctype.specs.declared.entity_type.EntityType.{EntityType}
+use Rattle.sc_rules.specs.declared.entity_types.entity_type.EntityType.{EntityType}
 use Rattle.sc_rules.specs.Names.{Entities, RoutineContext}
 use Rattle.sc_rules.specs.Positions.{is_ensure}
 use Rattle.sc_rules.specs.Typing as typing

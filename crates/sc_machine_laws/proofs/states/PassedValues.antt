@@ -7,16 +7,16 @@ use Rattle.sc_tree.specs.Plain.{System}
 use Rattle.sc_class.specs.Tables.Conformance.{class_conforms, is_expanded}
 use Rattle.sc_class.specs.declared.identity.ClassId.{ClassId}
 use Rattle.sc_class.specs.declared.identity.ClassId.TheVariants as class
-use Rattle.sc_proctype.specs.Conformance.{conforms, mark_conforms}
-use Rattle.sc_proctype.specs.Tags.{is_same_reserved, tag_conforms}
-use Rattle.sc_proctype.specs.declared.entity_type.EntityType.{EntityType}
-use Rattle.sc_proctype.specs.declared.tag.Reserved.{Reserved}
-use Rattle.sc_proctype.specs.declared.tag.Reserved.TheVariants.{BlockName, Formal}
-use Rattle.sc_proctype.specs.declared.tag.Tag.{Tag}
-use Rattle.sc_proctype.specs.declared.tag.Tag.TheVariants as tag
-use Rattle.sc_proctype.proofs.ConformanceLemmas.{transitive}
-use Rattle.sc_proctype.specs.Combiners.{argument_tag, combined_argument, combined_result, known_of, known_tag, result_tag}
-use Rattle.sc_proctype.specs.declared.known.Known.{Known}
+use Rattle.sc_rules.specs.entity_types.Conformance.{conforms, mark_conforms}
+use Rattle.sc_rules.specs.entity_types.Tags.{is_same_reserved, tag_conforms}
+use Rattle.sc_rules.specs.declared.entity_types.entity_type.EntityType.{EntityType}
+use Rattle.sc_rules.specs.declared.entity_types.tag.Reserved.{Reserved}
+use Rattle.sc_rules.specs.declared.entity_types.tag.Reserved.TheVariants.{BlockName, Formal}
+use Rattle.sc_rules.specs.declared.entity_types.tag.Tag.{Tag}
+use Rattle.sc_rules.specs.declared.entity_types.tag.Tag.TheVariants as tag
+use Rattle.sc_rules.proofs.entity_types.ConformanceLemmas.{transitive}
+use Rattle.sc_rules.specs.entity_types.Combiners.{argument_tag, combined_argument, combined_result, known_of, known_tag, result_tag}
+use Rattle.sc_rules.specs.declared.entity_types.known.Known.{Known}
 use Rattle.sc_model.specs.Fits.{Fits, Lies}
 use Rattle.sc_model.specs.Values.{Attached, Boolean, Integer, Operand, Value, Void}
 use Rattle.sc_machine_laws.specs.states.Places.{no_names}

@@ -5,10 +5,10 @@ use Rattle.sc_tree.specs.Plain.{System}
 use Rattle.sc_class.specs.Tables.Conformance.{class_conforms, is_expanded}
 use Rattle.sc_class.specs.Tables.Features.{DeclaredFeature, feature_named}
 use Rattle.sc_class.specs.declared.identity.ClassId.TheVariants as class
-use Rattle.sc_proctype.specs.Conformance.{conforms}
-use Rattle.sc_proctype.specs.Laws.{IsClassOf}
-use Rattle.sc_proctype.specs.declared.entity_type.EntityType.{EntityType}
-use Rattle.sc_proctype.specs.declared.tag.Tag.TheVariants as tag
+use Rattle.sc_rules.specs.entity_types.Conformance.{conforms}
+use Rattle.sc_rules.specs.entity_types.Laws.{IsClassOf}
+use Rattle.sc_rules.specs.declared.entity_types.entity_type.EntityType.{EntityType}
+use Rattle.sc_rules.specs.declared.entity_types.tag.Tag.TheVariants as tag
 use Rattle.sc_rules.specs.Laws.{AllDeclared, HasResult}
 use Rattle.sc_rules.specs.Names.{Entities, RoutineName}
 use Rattle.sc_rules.specs.Purity.{IsPurity}

@@ -10,9 +10,9 @@ use Rattle.sc_class.specs.Tables.Conformance.{is_ancestor}
 use Rattle.sc_class.specs.Tables.Features.{DeclaredFeature}
 use Rattle.sc_class.specs.Tables.Heirs.{HasOrigin}
 use Rattle.sc_class.proofs.Declarers.{found_stands}
-use Rattle.sc_proctype.specs.Conformance.{conforms}
-use Rattle.sc_proctype.specs.declared.entity_type.EntityType.{EntityType}
-use Rattle.sc_proctype.proofs.ConformanceLemmas.{reflexive}
+use Rattle.sc_rules.specs.entity_types.Conformance.{conforms}
+use Rattle.sc_rules.specs.declared.entity_types.entity_type.EntityType.{EntityType}
+use Rattle.sc_rules.proofs.entity_types.ConformanceLemmas.{reflexive}
 use Rattle.sc_rules.specs.Laws.{AllDeclared}
 use Rattle.sc_rules.specs.Names.{RoutineName}
 use Rattle.sc_rules.specs.Purity.{IsPurity}

@@ -7,11 +7,11 @@ use Rattle.sc_tree.specs.Plain.{Declaration, DeclaredType, Expr, HandlerOf, Hand
 use Rattle.sc_class.specs.Faults.Redefinition.{is_same_formal, is_same_formals}
 use Rattle.sc_class.specs.Tables.Conformance.{is_expanded, is_same_mark, is_same_tag, is_same_type, type_class}
 use Rattle.sc_class.specs.declared.identity.ClassId.{ClassId}
-use Rattle.sc_proctype.specs.Tags.{is_any}
-use Rattle.sc_proctype.specs.declared.entity_type.EntityType.{EntityType}
-use Rattle.sc_proctype.specs.declared.tag.Reserved.TheVariants.{BlockName, Formal}
-use Rattle.sc_proctype.specs.declared.tag.Tag.{Tag}
-use Rattle.sc_proctype.specs.declared.tag.Tag.TheVariants as tag
+use Rattle.sc_rules.specs.entity_types.Tags.{is_any}
+use Rattle.sc_rules.specs.declared.entity_types.entity_type.EntityType.{EntityType}
+use Rattle.sc_rules.specs.declared.entity_types.tag.Reserved.TheVariants.{BlockName, Formal}
+use Rattle.sc_rules.specs.declared.entity_types.tag.Tag.{Tag}
+use Rattle.sc_rules.specs.declared.entity_types.tag.Tag.TheVariants as tag
 use Rattle.sc_rules.specs.Names.{Entities, Entity, RoutineContext, attached, block_type, blocks, entity, formal_entities, formals_known, locals_known, reserved, test_type}
 use Rattle.sc_rules.specs.ScopeLaws.{is_nameable_if_any, names_known}
 use Rattle.sc_rules.specs.Types.{declared_tag, declared_type, is_foreign, is_marked, is_nameable, is_separate, number_of_named, typed}

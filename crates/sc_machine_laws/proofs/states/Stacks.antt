@@ -1,7 +1,7 @@
 -- The last values are taken from those under them.
 use Rattle.std.specs.Prelude.{length}
 use Rattle.std.proofs.Common.{◌++◌, List, Option, Some, [], ap, append-nil, refl, subst, suc, zero, ℕ, ◌∙◌, ◌∷◌, ◌≡◌, ◌≡◌}
-use Rattle.sc_proctype.specs.declared.entity_type.EntityType.{EntityType}
+use Rattle.sc_rules.specs.declared.entity_types.entity_type.EntityType.{EntityType}
 use Rattle.sc_model.specs.Steps.{popped}
 use Rattle.sc_model.specs.Values.{Operand}
 use Rattle.sc_machine_laws.specs.states.Points.{Each, types_of}

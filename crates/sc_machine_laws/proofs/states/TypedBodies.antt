@@ -6,7 +6,7 @@ use Rattle.sc_tree.specs.Plain as tree
 use Rattle.sc_tree.specs.Plain.{Clause, Declaration, Expr, Exprs, System}
 use Rattle.sc_tree.specs.declared.expression.BinaryOperator.{BinaryOperator}
 use Rattle.sc_tree.specs.declared.expression.UnaryOperator.TheVariants as unary
-use Rattle.sc_proctype.specs.declared.entity_type.EntityType.{EntityType}
+use Rattle.sc_rules.specs.declared.entity_types.entity_type.EntityType.{EntityType}
 use Rattle.sc_rules.specs.Laws.{AllDeclared, HasResult, are_declared, are_typed}
 use Rattle.sc_rules.specs.Names.{Entities, Entity, RoutineName, formal_entities, formals_known, locals_known}
 use Rattle.sc_rules.specs.Positions.{is_condition, shares_names}

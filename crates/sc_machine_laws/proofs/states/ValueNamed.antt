@@ -7,9 +7,9 @@ use Rattle.sc_tree.specs.Plain.{Declaration, System}
 use Rattle.sc_class.specs.Tables.Conformance.{class_conforms, is_expanded}
 use Rattle.sc_class.specs.declared.identity.ClassId.{ClassId}
 use Rattle.sc_class.specs.declared.identity.ClassId.TheVariants as class
-use Rattle.sc_proctype.specs.declared.tag.Reserved.{Reserved}
-use Rattle.sc_proctype.specs.declared.tag.Reserved.TheVariants.{BlockName, Formal}
-use Rattle.sc_proctype.specs.declared.tag.Tag.TheVariants as tag
+use Rattle.sc_rules.specs.declared.entity_types.tag.Reserved.{Reserved}
+use Rattle.sc_rules.specs.declared.entity_types.tag.Reserved.TheVariants.{BlockName, Formal}
+use Rattle.sc_rules.specs.declared.entity_types.tag.Tag.TheVariants as tag
 use Rattle.sc_rules.specs.Names.{Entity}
 use Rattle.sc_rules.specs.Types.{is_foreign}
 use Rattle.sc_machine_laws.proofs.states.MachineFrames.{contains_first, contains_later}

@@ -7,11 +7,11 @@ use Rattle.sc_tree.specs.Plain as tree
 use Rattle.sc_tree.specs.Plain.{Declaration, DeclaredType, FeatureKind, System}
 use Rattle.sc_class.specs.Tables.Conformance.{class_conforms, is_expanded}
 use Rattle.sc_class.specs.Tables.Features.{DeclaredFeature}
-use Rattle.sc_proctype.specs.Conformance.{conforms, mark_conforms}
-use Rattle.sc_proctype.specs.Tags.{tag_conforms}
-use Rattle.sc_proctype.specs.declared.entity_type.EntityType.{EntityType}
-use Rattle.sc_proctype.specs.declared.tag.Reserved.{Reserved}
-use Rattle.sc_proctype.specs.Combiners.{combined_result}
+use Rattle.sc_rules.specs.entity_types.Conformance.{conforms, mark_conforms}
+use Rattle.sc_rules.specs.entity_types.Tags.{tag_conforms}
+use Rattle.sc_rules.specs.declared.entity_types.entity_type.EntityType.{EntityType}
+use Rattle.sc_rules.specs.declared.entity_types.tag.Reserved.{Reserved}
+use Rattle.sc_rules.specs.entity_types.Combiners.{combined_result}
 use Rattle.sc_rules.specs.Laws.{are_declared, is_declared}
 use Rattle.sc_rules.specs.Names.{formal_type, given_type, signature_of_kind}
 use Rattle.sc_rules.specs.Types.{declared_type}

@@ -2,7 +2,7 @@
 use Rattle.std.specs.Prelude.{ℕ, ◌≡◌, ◌<◌, ◌⊎◌, Bool, true, false, List, [], ◌∷◌, ◌++◌, Option, Some, None, is_some, Contains}
 use Rattle.sc_tree.specs.Plain.{System}
 use Rattle.sc_class.specs.ClassNames.{Root}
-use Rattle.sc_proctype.specs.declared.entity_type.EntityType.{EntityType}
+use Rattle.sc_rules.specs.declared.entity_types.entity_type.EntityType.{EntityType}
 use Rattle.sc_lockpass.specs.Rights.{held}
 use Rattle.sc_waitcond.specs.Reservations.{may_be_reserved}
 use Rattle.sc_model.specs.Handlers.{Request, Answer, Reply, Failed, Refused, Requested, Stage, Runs, Reserves, ReservesBlock, InCall, Awaits, Frame, Handler, World}

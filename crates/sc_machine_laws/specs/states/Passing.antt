@@ -1,10 +1,10 @@
 -- Laws of values that are passed on: to what conforms, back to a caller, and as actuals of a call.
 use Rattle.std.specs.Prelude.{List, None, Option, Some, [], false, map, true, ℕ, ◌≡◌}
 use Rattle.sc_tree.specs.Plain.{Declaration, DeclaredType, System}
-use Rattle.sc_proctype.specs.Conformance.{conforms}
-use Rattle.sc_proctype.specs.declared.entity_type.EntityType.{EntityType}
-use Rattle.sc_proctype.specs.declared.tag.Reserved.{Reserved}
-use Rattle.sc_proctype.specs.Combiners.{combined_result}
+use Rattle.sc_rules.specs.entity_types.Conformance.{conforms}
+use Rattle.sc_rules.specs.declared.entity_types.entity_type.EntityType.{EntityType}
+use Rattle.sc_rules.specs.declared.entity_types.tag.Reserved.{Reserved}
+use Rattle.sc_rules.specs.entity_types.Combiners.{combined_result}
 use Rattle.sc_rules.specs.Laws.{are_declared}
 use Rattle.sc_rules.specs.Names.{formal_type}
 use Rattle.sc_rules.specs.Types.{declared_type}

@@ -3,9 +3,9 @@ use Rattle.std.specs.Option.{option_and_then, option_map}
 use Rattle.std.specs.Prelude.{◌<◌, Bool, Contains, List, None, Option, Some, [], false, slice_get, true, ℕ, ◌∷◌, ◌≡◌}
 use Rattle.sc_tree.specs.Plain.{Attribute, Declaration, FeatureKind, System, Routine}
 use Rattle.sc_class.specs.Tables.Features.{DeclaredFeature}
-use Rattle.sc_proctype.specs.declared.entity_type.EntityType.{EntityType}
-use Rattle.sc_proctype.specs.declared.tag.Reserved.{Reserved}
-use Rattle.sc_proctype.specs.declared.tag.Reserved.TheVariants.{BlockName, Formal}
+use Rattle.sc_rules.specs.declared.entity_types.entity_type.EntityType.{EntityType}
+use Rattle.sc_rules.specs.declared.entity_types.tag.Reserved.{Reserved}
+use Rattle.sc_rules.specs.declared.entity_types.tag.Reserved.TheVariants.{BlockName, Formal}
 use Rattle.sc_rules.specs.Names.{is_local}
 use Rattle.sc_rules.specs.Types.{declared_type}
 use Rattle.sc_model.specs.Environments.{Binding, handler_named}

@@ -1,7 +1,7 @@
 -- A world of rights stands for a state of the machine: it has the same rights, requests, waits and failures.
 use Rattle.std.specs.Prelude.{◌⊎◌, ℕ, zero, suc, ◌≡◌, ◌≤◌, Bool, true, false, List, [], ◌∷◌, map, take, drop, Option, Some, None, is_some}
 use Rattle.std.specs.Option.{option_map}
-use Rattle.sc_proctype.specs.declared.entity_type.EntityType.{EntityType}
+use Rattle.sc_rules.specs.declared.entity_types.entity_type.EntityType.{EntityType}
 use Rattle.sc_machine_laws.specs.states.World.{Asked, Wait, Request, Reservation, Frame, Answer, Handler, World, rights_of}
 use Rattle.sc_machine_laws.specs.states.Steps.{waits_for}
 use Rattle.sc_lockpass.specs.Rights.{is_among}

@@ -7,11 +7,11 @@ use Rattle.sc_tree.specs.declared.expression.UnaryOperator.{UnaryOperator}
 use Rattle.sc_class.specs.Tables.Conformance.{is_expanded}
 use Rattle.sc_class.specs.Tables.Features.{DeclaredFeature, feature_named}
 use Rattle.sc_class.specs.declared.identity.ClassId.TheVariants as class
-use Rattle.sc_proctype.specs.Conformance.{boolean, conforms}
-use Rattle.sc_proctype.specs.declared.entity_type.EntityType.{EntityType}
-use Rattle.sc_proctype.specs.declared.tag.Reserved.TheVariants.{BlockName, Formal}
-use Rattle.sc_proctype.specs.declared.tag.Tag.{Tag}
-use Rattle.sc_proctype.specs.declared.tag.Tag.TheVariants as tag
+use Rattle.sc_rules.specs.entity_types.Conformance.{boolean, conforms}
+use Rattle.sc_rules.specs.declared.entity_types.entity_type.EntityType.{EntityType}
+use Rattle.sc_rules.specs.declared.entity_types.tag.Reserved.TheVariants.{BlockName, Formal}
+use Rattle.sc_rules.specs.declared.entity_types.tag.Tag.{Tag}
+use Rattle.sc_rules.specs.declared.entity_types.tag.Tag.TheVariants as tag
 use Rattle.sc_rules.specs.Laws.{are_declared}
 use Rattle.sc_rules.specs.Names.{Entities, Entity, RoutineContext, RoutineName, Signature, assignee, assignee_type, block_type, blocks, current, entity, formals_known, locals_known, named, qualified_meaning, signature_of, test_type}
 use Rattle.sc_rules.specs.Positions.{is_and_then, is_condition, is_ensure, is_old, operand_position}

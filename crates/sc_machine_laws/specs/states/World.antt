@@ -1,7 +1,7 @@
 -- Rights, waits and requests, without values: who has each right and who gets it back, and what a step makes of it.
 use Rattle.std.specs.Prelude.{ℕ, suc, ◌==◌, ◌&&◌, List, [], ◌∷◌, ◌++◌, Option, Some, None, is_some, Bool, true, false, if◌then◌else◌}
 use Rattle.std.specs.List.{list_any}
-use Rattle.sc_proctype.specs.declared.entity_type.EntityType.{EntityType}
+use Rattle.sc_rules.specs.declared.entity_types.entity_type.EntityType.{EntityType}
 use Rattle.sc_lockpass.specs.Rights.{Rights, is_handler}
 use Rattle.sc_lockpass.specs.Passing.{Passed, passed_by}
 use Rattle.sc_model.specs.Values.{Reference}

@@ -9,7 +9,7 @@ use Rattle.sc_tree.specs.Plain as tree
 use Rattle.sc_tree.specs.Plain.{System, Declaration, DeclaredType, FeatureKind, RoutineDeclaration}
 use Rattle.sc_class.specs.Tables.Features.{DeclaredFeature, declared_features, named_among}
 use Rattle.sc_class.proofs.Declarers.{found_stands}
-use Rattle.sc_proctype.specs.declared.entity_type.EntityType.{EntityType}
+use Rattle.sc_rules.specs.declared.entity_types.entity_type.EntityType.{EntityType}
 use Rattle.sc_rules.specs.declared.position.Role.TheVariants as role
 use Rattle.sc_rules.specs.Laws.{are_declared, is_declared}
 use Rattle.sc_rules.specs.Names as names

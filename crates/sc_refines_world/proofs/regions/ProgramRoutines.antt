@@ -6,7 +6,7 @@ use Rattle.std.specs.Option.{option_map, option_and_then}
 use Rattle.sc_tree.specs.Plain.{System}
 use Rattle.sc_class.specs.ClassNames.{Root}
 use Rattle.sc_class.specs.Tables.Features.{DeclaredFeature}
-use Rattle.sc_proctype.specs.declared.entity_type.EntityType.{EntityType}
+use Rattle.sc_rules.specs.declared.entity_types.entity_type.EntityType.{EntityType}
 use Rattle.sc_typing.specs.FeatureNumbers.{all_features}
 use Rattle.sc_model.specs.Values.{Value, operand}
 use Rattle.sc_model.specs.Objects.{Object}

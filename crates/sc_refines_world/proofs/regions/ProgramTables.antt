@@ -18,7 +18,7 @@ use Rattle.sc_class.specs.Tables.Features.{DeclaredFeature, declared_in, declare
 use Rattle.sc_class.specs.Tables.Heirs.{FeaturesDeclared, FeaturesDiffer, FoundStands}
 use Rattle.sc_class.proofs.Ancestry.{ancestor_itself, neither, number_in_names, parent_within}
 use Rattle.sc_class.proofs.NameLemmas.{number_below}
-use Rattle.sc_proctype.specs.declared.entity_type.EntityType.{EntityType}
+use Rattle.sc_rules.specs.declared.entity_types.entity_type.EntityType.{EntityType}
 use Rattle.sc_rules.specs.declared.position.Role.TheVariants as role
 use Rattle.sc_rules.specs.Laws.{AllDeclared, is_declared}
 use Rattle.sc_rules.specs.Names.{routine_of}

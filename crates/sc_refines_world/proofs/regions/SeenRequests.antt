@@ -1,6 +1,6 @@
 -- Requests, creations of handlers and beginnings of blocks as flat code sees them: which act of the machine each is.
 use Rattle.std.proofs.Common.{◌≡◌, ℕ, Bool, List, Option, is_some, refl, ap, ◌∙◌}
-use Rattle.sc_proctype.specs.declared.entity_type.EntityType.{EntityType}
+use Rattle.sc_rules.specs.declared.entity_types.entity_type.EntityType.{EntityType}
 use Rattle.sc_model.specs.Environments.{Binding}
 use Rattle.sc_model.specs.Steps as model
 use Rattle.sc_model.specs.Values as values

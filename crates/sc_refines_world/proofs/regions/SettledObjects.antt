@@ -16,7 +16,7 @@ use Rattle.sc_model.specs.Settled.{IsNoCurrent, IsSettled}
 use Rattle.sc_model.specs.Handlers.{Stage, Runs, Reserves, ReservesBlock, InCall, Awaits, Frame, Handler}
 use Rattle.sc_model.specs.Exits.{handed, handed_as, handed_at}
 use Rattle.sc_model.specs.Values.{Value}
-use Rattle.sc_proctype.specs.declared.entity_type.EntityType.{EntityType}
+use Rattle.sc_rules.specs.declared.entity_types.entity_type.EntityType.{EntityType}
 use Rattle.sc_handler.specs.Handlers as core
 use Rattle.sc_refines_world.specs.regions.RegionTurns.{Half, failed, is_current, object_breaks, settles, with_stack}
 use Rattle.sc_refines_world.specs.regions.RegionHalves.{AreHalvesOf, IsRegionHalf}

@@ -5,7 +5,7 @@ use Rattle.std.specs.Prelude.{◌||◌, slice_get, slice_set}
 use Rattle.std.specs.Option.{option_map, option_and_then}
 use Rattle.sc_tree.specs.Plain.{System}
 use Rattle.sc_typing.specs.FeatureNumbers.{all_features}
-use Rattle.sc_proctype.specs.declared.entity_type.EntityType.{EntityType}
+use Rattle.sc_rules.specs.declared.entity_types.entity_type.EntityType.{EntityType}
 use Rattle.sc_model.specs.declared.cause.Cause.TheVariants as cause
 use Rattle.sc_model.specs.Asking.{awaits_if}
 use Rattle.sc_model.specs.Handlers.{Stage, ReservesBlock, Awaits, Frame, frame_at}

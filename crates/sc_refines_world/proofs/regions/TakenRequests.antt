@@ -7,7 +7,7 @@ use Rattle.sc_tree.specs.Plain as tree
 use Rattle.sc_tree.specs.Plain.{System, DeclaredType, FeatureKind}
 use Rattle.sc_class.specs.Tables.Features.{DeclaredFeature, features}
 use Rattle.sc_class.proofs.Declarers.{found_stands}
-use Rattle.sc_proctype.specs.declared.entity_type.EntityType.{EntityType}
+use Rattle.sc_rules.specs.declared.entity_types.entity_type.EntityType.{EntityType}
 use Rattle.sc_rules.specs.Laws.{is_declared}
 use Rattle.sc_rules.specs.Names as names
 use Rattle.sc_rules.specs.Types.{declared_type}

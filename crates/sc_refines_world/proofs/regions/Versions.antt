@@ -5,7 +5,7 @@ use Rattle.std.specs.Option.{is_none, option_and_then, option_map}
 use Rattle.sc_tree.specs.Plain as tree
 use Rattle.sc_tree.specs.Plain.{System, FeatureKind}
 use Rattle.sc_class.specs.Tables.Features.{DeclaredFeature}
-use Rattle.sc_proctype.specs.declared.entity_type.EntityType.{EntityType}
+use Rattle.sc_rules.specs.declared.entity_types.entity_type.EntityType.{EntityType}
 use Rattle.sc_rules.specs.Types.{declared_type}
 use Rattle.sc_waitcond.specs.declared.condition.EntryVerdict.{EntryVerdict}
 use Rattle.sc_waitcond.specs.declared.condition.EntryVerdict.TheVariants as verdict

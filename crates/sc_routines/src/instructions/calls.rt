@@ -17,7 +17,7 @@ use crate::sums::sum;
 use crate::text_sites::call_site;
 use crate::unlinked::UnlinkedOperation;
 use sc_code::{SiteKind, TextSite};
-use sc_proctype::EntityType;
+use sc_rules::entity_types::EntityType;
 use sc_tree::{Call, Expr, Name};
 use sc_typing::Entity;
 use std::alloc::AllocError;

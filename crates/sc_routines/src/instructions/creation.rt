@@ -23,7 +23,7 @@ use crate::setting::Setting;
 use crate::unlinked::{UnlinkedCreation, UnlinkedOperation};
 use sc_class::{ClassId, Tables};
 use sc_code::{SiteKind, TextSite};
-use sc_proctype::{EntityType, Tag};
+use sc_rules::entity_types::{EntityType, Tag};
 use sc_text::Span;
 use sc_tree::{CreationCall, Expr, Variable};
 use sc_typing::{Assignee, Entity, Meaning};

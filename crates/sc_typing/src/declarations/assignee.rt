@@ -9,7 +9,7 @@ use crate::declarations::names::{Entity, entity_named, is_local};
 use crate::declarations::types::given_type;
 use crate::routine_context::{RoutineContext, is_print};
 use sc_class::{ClassId, FeatureEntry};
-use sc_proctype::EntityType;
+use sc_rules::entity_types::EntityType;
 use sc_text::Span;
 use sc_tree::{FeatureKind, Variable};
 

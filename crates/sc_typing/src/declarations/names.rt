@@ -3,15 +3,15 @@
 ghost use Rattle.std.specs.Prelude.{◌≡◌, ◌++◌, OnOk, map};
 ghost use Rattle.std.specs.Option.{option_map};
 ghost use Rattle.sc_tree.specs.View.{declaration_of};
-ghost use Rattle.sc_proctype.specs.Tags as tags;
+ghost use Rattle.sc_rules.specs.entity_types.Tags as tags;
 ghost use Rattle.sc_rules.specs.Names as spec;
 ghost use Rattle.sc_typing.specs.Views.{entity_of};
 ghost use Rattle.sc_class.specs.SystemIn.{system_in};
 
 use crate::declarations::types::declared_type;
 use sc_class::Tables;
-use sc_proctype::{EntityType, Reserved, Tag};
 use sc_rules::Role;
+use sc_rules::entity_types::{EntityType, Reserved, Tag};
 use sc_tree::Declaration;
 use std::alloc::AllocError;
 

@@ -11,8 +11,8 @@ ghost use Rattle.sc_class.specs.SystemIn.{system_in};
 
 use crate::fault::{CheckFault, required};
 use sc_class::{ClassId, Tables};
-use sc_proctype::{EntityType, Reserved, Tag, combine_result};
 use sc_rules::Rule;
+use sc_rules::entity_types::{EntityType, Reserved, Tag, combine_result};
 use sc_tree::{Declaration, DeclaredType, HandlerTag};
 
 /// Whether it is written `separate`.

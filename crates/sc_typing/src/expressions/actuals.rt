@@ -18,7 +18,7 @@ use crate::expressions::typing::{
 use crate::fault::{CheckFault, required};
 use crate::routine_context::{Formals, RoutineContext};
 use sc_class::Tables;
-use sc_proctype::{EntityType, Known, Reserved, Tag, combine_argument, conforms};
+use sc_rules::entity_types::{EntityType, Known, Reserved, Tag, combine_argument, conforms};
 use sc_rules::{Context, Rule};
 use sc_tree::{Declaration, DeclaredType};
 use std::alloc::{AllocError, Global};

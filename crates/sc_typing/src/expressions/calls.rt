@@ -20,7 +20,7 @@ use crate::expressions::typing::{JudgedActual, Typing, is_either_separate, is_fo
 use crate::fault::{CheckFault, refusal, required};
 use crate::routine_context::{Formals, Meaning, RoutineContext, Signature};
 use sc_class::FeatureEntry;
-use sc_proctype::EntityType;
+use sc_rules::entity_types::EntityType;
 use sc_rules::{Context, Rule, Use};
 use sc_text::Span;
 use sc_tree::Expr;

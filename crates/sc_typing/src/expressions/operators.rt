@@ -4,7 +4,7 @@ ghost use Rattle.std.specs.Prelude.{◌≡◌};
 ghost use Rattle.sc_rules.specs.Types as types;
 
 use sc_class::ClassId;
-use sc_proctype::EntityType;
+use sc_rules::entity_types::EntityType;
 use sc_tree::{BinaryOperator, UnaryOperator};
 
 /// Whether it is the class of numbers.

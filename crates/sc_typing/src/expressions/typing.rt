@@ -11,7 +11,7 @@ use crate::declarations::types::is_foreign;
 use crate::expressions::operators::{binary_result, unary_result};
 use crate::expressions::positions::{is_ensure, is_require};
 use crate::fault::{CheckFault, refusal, required};
-use sc_proctype::EntityType;
+use sc_rules::entity_types::EntityType;
 use sc_rules::{Context, Fault, Rule};
 use sc_text::Span;
 use sc_tree::{BinaryOperator, UnaryOperator};

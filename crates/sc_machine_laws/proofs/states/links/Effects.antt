@@ -6,7 +6,7 @@ use Rattle.sc_tree.specs.Plain as tree
 use Rattle.sc_tree.specs.Plain.{System, Expr, Clause, FeatureKind}
 use Rattle.sc_class.specs.Tables.Features.{DeclaredFeature}
 use Rattle.sc_rules.specs.Types.{declared_type}
-use Rattle.sc_proctype.specs.declared.entity_type.EntityType.{EntityType}
+use Rattle.sc_rules.specs.declared.entity_types.entity_type.EntityType.{EntityType}
 use Rattle.sc_lockpass.specs.Passing.{Passed}
 use Rattle.sc_waitcond.specs.declared.session.Release.TheVariants as release_at
 use Rattle.sc_class.specs.declared.identity.ClassId.{ClassId}

@@ -9,7 +9,7 @@ use Rattle.sc_waitcond.specs.declared.session.Release.TheVariants as release_at
 use Rattle.sc_waitcond.specs.Reservations.{ends_session, mark_of}
 use Rattle.sc_waitcond.specs.declared.condition.EntryVerdict.{EntryVerdict}
 use Rattle.sc_waitcond.specs.declared.condition.EntryVerdict.TheVariants as verdict
-use Rattle.sc_proctype.specs.declared.entity_type.EntityType.{EntityType}
+use Rattle.sc_rules.specs.declared.entity_types.entity_type.EntityType.{EntityType}
 use Rattle.sc_machine_laws.specs.states.World.{Answer, Request, Frame, World, rights_of, enter}
 use Rattle.sc_machine_laws.specs.states.Steps.{waits_for, AnswersNobody, Enters}
 use Rattle.sc_machine_laws.specs.states.Stands.{names_in, NeedsOf, NamesOf, AreCovered, IsRequest, IsOrigin, handlers_of, IsRoutine, AreBlocks, Place, place_of, IsStaged, IsStack}

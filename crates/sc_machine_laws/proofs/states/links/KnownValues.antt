@@ -7,7 +7,7 @@ use Rattle.sc_tree.specs.Plain.{System, Declaration, Name, FeatureKind, Attribut
 use Rattle.sc_class.specs.declared.identity.ClassId.{ClassId}
 use Rattle.sc_class.specs.declared.identity.ClassId.TheVariants as class
 use Rattle.sc_class.specs.Tables.Features.{DeclaredFeature, features}
-use Rattle.sc_proctype.specs.declared.entity_type.EntityType.{EntityType}
+use Rattle.sc_rules.specs.declared.entity_types.entity_type.EntityType.{EntityType}
 use Rattle.sc_rules.specs.declared.position.Role.TheVariants as role
 use Rattle.sc_rules.specs.Names.{block_type, blocks}
 use Rattle.sc_rules.specs.Types.{declared_type}

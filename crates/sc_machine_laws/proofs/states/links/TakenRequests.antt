@@ -5,7 +5,7 @@ use Rattle.std.specs.List.{list_any}
 use Rattle.sc_tree.specs.Plain as tree
 use Rattle.sc_tree.specs.Plain.{System, FeatureKind}
 use Rattle.sc_class.specs.Tables.Features.{DeclaredFeature}
-use Rattle.sc_proctype.specs.declared.entity_type.EntityType.{EntityType}
+use Rattle.sc_rules.specs.declared.entity_types.entity_type.EntityType.{EntityType}
 use Rattle.sc_rules.specs.Types.{declared_type}
 use Rattle.sc_lockpass.specs.Rights.{Rights}
 use Rattle.sc_machine_laws.specs.states.World.{Answer, Request, Frame, Handler, World, holder, rights_of, is_waited_by, and_this, and_begun, requests_of, begun, rest_of, take_request, take_callback, pop}

@@ -5,7 +5,7 @@ use Rattle.sc_tree.specs.declared.instruction.Clause.{Clause}
 use Rattle.sc_tree.specs.declared.instruction.Instr.{Instr}
 use Rattle.sc_tree.specs.View.{clause_of, declaration_of, instrs_of}
 use Rattle.sc_class.specs.SystemIn.{system_in}
-use Rattle.sc_proctype.specs.declared.entity_type.EntityType.{EntityType}
+use Rattle.sc_rules.specs.declared.entity_types.entity_type.EntityType.{EntityType}
 use Rattle.sc_rules.specs.Names.{formals_known}
 use Rattle.sc_typing.specs.declared.declarations.names.Entity.{Entity}
 use Rattle.sc_typing.specs.Views.{entity_of}

@@ -3,7 +3,7 @@ use Rattle.std.proofs.lemmas.List.{at_drop_more, length-map}
 use Rattle.sc_tree.specs.declared.instruction.Head as tree
 use Rattle.sc_tree.specs.Plain.{Head}
 use Rattle.sc_tree.specs.View.{head_of}
-use Rattle.sc_proctype.specs.declared.entity_type.EntityType.{EntityType}
+use Rattle.sc_rules.specs.declared.entity_types.entity_type.EntityType.{EntityType}
 use Rattle.sc_rules.specs.Names.{Entities}
 use Rattle.sc_typing.specs.Views.{entity_of}
 use Rattle.sc_code.specs.Places.{head_types}

@@ -3,7 +3,7 @@ use Rattle.std.proofs.lemmas.List.{at_drop_more}
 use Rattle.sc_routines.specs.declared.olds.OldValue.{OldValue}
 use Rattle.sc_tree.specs.Plain as tree
 use Rattle.sc_tree.specs.View.{expr_of}
-use Rattle.sc_proctype.specs.declared.entity_type.EntityType.{EntityType}
+use Rattle.sc_rules.specs.declared.entity_types.entity_type.EntityType.{EntityType}
 use Rattle.sc_rules.specs.Names.{Entities}
 use Rattle.sc_typing.specs.Views.{entity_of}
 use Rattle.sc_code.specs.Places.{Setting, expr_type, old_types, with_old}

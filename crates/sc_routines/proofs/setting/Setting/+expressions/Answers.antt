@@ -7,7 +7,7 @@ use Rattle.sc_tree.specs.View.{expr_of, exprs_of, name_of, type_if_any, target_o
 use Rattle.sc_tree.proofs.ViewLemmas.{expr_of-boolean, expr_of-void, expr_of-current, expr_of-call, expr_of-result, expr_of-unary, expr_of-binary, expr_of-object_test}
 use Rattle.sc_model.specs.Olds.{olds_in, olds_of_each}
 use Rattle.sc_typing.specs.Views.{entity_of}
-use Rattle.sc_proctype.specs.Conformance.{boolean, void}
+use Rattle.sc_rules.specs.entity_types.Conformance.{boolean, void}
 use Rattle.sc_rules.specs.Names.{current}
 use Rattle.sc_routines.specs.Settings.{setting_in}
 use Rattle.sc_code.specs.Places.{expr_type, here, names_given, exprs_types, slot_named}
