@@ -1,3 +1,4 @@
+pub mod purity
 pub mod CheckFaults
 pub mod CheckedSystems
 pub mod CheckedTables

@@ -2,12 +2,13 @@
 //!
 //! [`check`] answers a [`Checked`], which lends the tables of a system in which no rule fails, or a [`CheckFault`]: a
 //! rule that fails, and where. The rules are those of `sc_rules`; `sc_typing` judges expressions by them, and
-//! `sc_purity` tells the pure functions.
+//! `purity` tells the pure functions.
 #![tactic(auto)]
 
 mod checked;
 mod declarations;
 mod instructions;
+mod purity;
 
 pub use checked::{Checked, check};
 pub use sc_typing::CheckFault;

@@ -13,8 +13,8 @@ ghost use Rattle.sc_typing.specs.declared.fault.CheckFault.TheVariants.{OutOfMem
 
 use crate::checked::Checked;
 use crate::declarations::ClassText;
+use crate::purity::pure_functions;
 use sc_class::Tables;
-use sc_purity::pure_functions;
 use sc_typing::{CheckFault, Purity};
 use std::alloc::Global;
 

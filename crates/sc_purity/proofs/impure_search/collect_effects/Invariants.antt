@@ -1,9 +1,0 @@
-use Rattle.std.proofs.Common.{take, map}
-use Rattle.sc_class.specs.SystemIn.{system_in}
-use Rattle.sc_purity.specs.Internal.Effects.{effect_of}
-use Rattle.sc_purity.specs.Internal.ImpureSearch.{IsCollecting}
-use Rattle.sc_purity.proofs.impure_search.collect_effects.Given as goal
-
--- the effects so far are held
-abbrev pub invariant-loop-effect : goal.invariant-loop-effect
-invariant-loop-effect l = IsCollecting (system_in l.numbering.tables.now) l.search.impure.items l.search.todo.items l.callers.lists.items l.number (map effect_of (take l.effect-index l.effect-items))
