@@ -2,7 +2,7 @@
 use Rattle.std.specs.Prelude.{◌≡◌, ℕ, Bool, true, false, List, [], ◌∷◌, Option, Some, None, map}
 use Rattle.std.specs.Option.{option_map}
 use Rattle.sc_lockpass.specs.Tables.{Listing, passed_of}
-use Rattle.sc_waitcond.specs.declared.mark.Marked.{Marked}
+use Rattle.sc_lockpass.specs.declared.wait_conditions.mark.Marked.{Marked}
 use Rattle.sc_region.specs.declared.job.Request.{Request}
 use Rattle.sc_handler.specs.declared.handler.Answer as coded_answer
 use Rattle.sc_handler.specs.declared.handler.Answer.TheVariants as answer

@@ -1,9 +1,9 @@
 -- Whether a handler has something to do, and what: the core's half of what a turn begins with.
 use Rattle.std.specs.Prelude.{ℕ, Bool, true, false, List, [], ◌∷◌, Option, Some, None, is_some, map, nat_lt, if◌then◌else◌}
 use Rattle.sc_lockpass.specs.Rights.{Rights}
-use Rattle.sc_waitcond.specs.Entries.{needed}
-use Rattle.sc_waitcond.specs.Reservations.{reserve_fails, may_reserve}
-use Rattle.sc_waitcond.specs.declared.mark.Marked.{Marked}
+use Rattle.sc_lockpass.specs.wait_conditions.Entries.{needed}
+use Rattle.sc_lockpass.specs.wait_conditions.Reservations.{reserve_fails, may_reserve}
+use Rattle.sc_lockpass.specs.declared.wait_conditions.mark.Marked.{Marked}
 use Rattle.sc_model.specs.declared.cause.Cause.{Cause}
 use Rattle.sc_model.specs.declared.status.Status.{Status}
 use Rattle.sc_model.specs.declared.status.Status.TheVariants as status

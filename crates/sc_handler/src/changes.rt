@@ -6,10 +6,10 @@ ghost use Rattle.sc_handler.specs.InMemory.{answer_of, cleared, handler_with, po
 
 use crate::handler::{Answer, Handler, HandlerStage, Posting};
 use crate::postings::{append, stand_over, take_all, take_first, write_first};
+use sc_lockpass::wait_conditions::Mark;
 use sc_lockpass::{Passed, post};
 use sc_model::Cause;
 use sc_region::Request;
-use sc_waitcond::Mark;
 use std::collections::LinkedList;
 
 /// The requests of a handler that fails.

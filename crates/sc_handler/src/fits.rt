@@ -1,6 +1,6 @@
 //! Whether what a handler's turns came to fits the job that they were made under.
 ghost use Rattle.std.specs.Prelude.{◌≡◌, ℕ, List};
-ghost use Rattle.sc_waitcond.specs.declared.mark.Marked.{Marked};
+ghost use Rattle.sc_lockpass.specs.declared.wait_conditions.mark.Marked.{Marked};
 ghost use Rattle.sc_handler.specs.Fits.{fits_turns, fits_first, may_take, may_take_answer, goes_on, fails_by_supplier, fails_by_precondition, is_call, is_request_of};
 ghost use Rattle.sc_handler.specs.InMemory.{stage_of};
 ghost use Rattle.sc_handler.specs.Kinds.{of_kind};

@@ -1,6 +1,6 @@
 //! What the core keeps of a handler.
 ghost use Rattle.std.specs.Prelude.{◌≡◌, ◌&&◌, ◌||◌, ◌↔◌, not, false, IfOk, IsTrue, Some, map, is_some};
-ghost use Rattle.sc_waitcond.specs.Reservations.{is_idle};
+ghost use Rattle.sc_lockpass.specs.wait_conditions.Reservations.{is_idle};
 ghost use Rattle.sc_handler.specs.Handlers.{has_requests, new_handler, standing_of};
 ghost use Rattle.sc_handler.specs.Picking.{job_answered, job_awaiting, job_idle};
 ghost use Rattle.sc_handler.specs.InMemory.{IsOutWithOwn, answer_of, fresh, asked, handler_of, posting_of, first_posted, answers_of};
@@ -8,10 +8,10 @@ ghost use Rattle.sc_handler.specs.InMemory.{IsOutWithOwn, answer_of, fresh, aske
 use crate::copy::copy_request;
 use crate::job_slot::JobSlot;
 use arrayvec::ArrayVec;
+use sc_lockpass::wait_conditions::Mark;
 use sc_lockpass::{HandlerNumber, Passed};
 use sc_model::Cause;
 use sc_region::{Errand, Job, Reference, Request, Value};
-use sc_waitcond::Mark;
 use std::alloc::{AllocError, Global};
 use std::collections::LinkedList;
 

@@ -4,3 +4,4 @@ pub mod Passing
 pub mod Posting
 pub mod Tables
 pub mod Laws
+pub mod wait_conditions

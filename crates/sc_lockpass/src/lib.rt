@@ -2,6 +2,8 @@
 //!
 //! `specs/Rights` and `specs/Passing` are the definitions, on maps from handlers to a handler or nobody. `specs/Posting` says
 //! where what is asked of a handler stands.
+//!
+//! What an entry needs reserved, and when one that waits is tried again, stands in [`wait_conditions`].
 #![tactic(auto)]
 
 mod handler_number;
@@ -13,6 +15,7 @@ mod posting;
 mod rights;
 mod same;
 mod version;
+pub mod wait_conditions;
 
 pub use handler_number::HandlerNumber;
 pub use passed::Passed;

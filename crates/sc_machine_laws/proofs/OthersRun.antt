@@ -5,9 +5,9 @@ use Rattle.std.specs.Prelude.{Contains, if◌then◌else◌, length, nat_lt}
 use Rattle.std.specs.Option.{option_map}
 use Rattle.sc_tree.specs.Plain.{System}
 use Rattle.sc_rules.specs.Names.{RoutineName}
-use Rattle.sc_waitcond.specs.declared.condition.EntryVerdict.{EntryVerdict}
-use Rattle.sc_waitcond.specs.declared.condition.EntryVerdict.TheVariants as verdict
-use Rattle.sc_waitcond.specs.declared.session.Release.TheVariants as release_at
+use Rattle.sc_lockpass.specs.declared.wait_conditions.condition.EntryVerdict.{EntryVerdict}
+use Rattle.sc_lockpass.specs.declared.wait_conditions.condition.EntryVerdict.TheVariants as verdict
+use Rattle.sc_lockpass.specs.declared.wait_conditions.session.Release.TheVariants as release_at
 use Rattle.sc_model.specs.declared.cause.Cause.{Cause}
 use Rattle.sc_model.specs.declared.cause.Cause.TheVariants as cause
 use Rattle.sc_model.specs.Answers.{answered, finish, heard}

@@ -8,7 +8,7 @@ use Rattle.sc_rules.specs.declared.entity_types.entity_type.EntityType.{EntityTy
 use Rattle.sc_rules.specs.Names.{RoutineName}
 use Rattle.sc_rules.specs.Purity.{IsPurity}
 use Rattle.sc_rules.specs.SystemRules.{WellFormed}
-use Rattle.sc_waitcond.specs.Reservations.{reserve_fails}
+use Rattle.sc_lockpass.specs.wait_conditions.Reservations.{reserve_fails}
 use Rattle.sc_model.specs.declared.cause.Cause.TheVariants as cause
 use Rattle.sc_model.specs.Values.{Reference, Value, Operand, operand}
 use Rattle.sc_model.specs.Objects.{Object}

@@ -11,11 +11,11 @@ use Rattle.sc_rules.specs.declared.entity_types.entity_type.EntityType.{EntityTy
 use Rattle.sc_rules.specs.Types.{declared_type}
 use Rattle.sc_lockpass.specs.Rights.{Rights, held, is_among}
 use Rattle.sc_lockpass.specs.Passing.{Passed, give_back}
-use Rattle.sc_waitcond.specs.Reservations as reservations
-use Rattle.sc_waitcond.specs.Reservations.{may_be_reserved, mark_allows, reserve_fails}
-use Rattle.sc_waitcond.specs.declared.mark.Marked.{Marked}
-use Rattle.sc_waitcond.specs.declared.condition.EntryVerdict.{EntryVerdict}
-use Rattle.sc_waitcond.specs.declared.condition.EntryVerdict.TheVariants as verdict
+use Rattle.sc_lockpass.specs.wait_conditions.Reservations as reservations
+use Rattle.sc_lockpass.specs.wait_conditions.Reservations.{may_be_reserved, mark_allows, reserve_fails}
+use Rattle.sc_lockpass.specs.declared.wait_conditions.mark.Marked.{Marked}
+use Rattle.sc_lockpass.specs.declared.wait_conditions.condition.EntryVerdict.{EntryVerdict}
+use Rattle.sc_lockpass.specs.declared.wait_conditions.condition.EntryVerdict.TheVariants as verdict
 use Rattle.sc_model.specs.Values.{Reference, Value, Operand, values_of}
 use Rattle.sc_model.specs.Environments.{Binding, binding_named, formals_bound}
 use Rattle.sc_model.specs.Objects.{Object, object_numbered, fresh_object}

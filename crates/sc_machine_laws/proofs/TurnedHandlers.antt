@@ -4,7 +4,7 @@ use Rattle.std.specs.Prelude.{if◌then◌else◌, nat_lt, is_some}
 use Rattle.std.proofs.lemmas.Bool.{eqb-true, ne_eqb}
 use Rattle.sc_rules.specs.declared.entity_types.entity_type.EntityType.{EntityType}
 use Rattle.sc_lockpass.specs.Rights.{is_handler, held}
-use Rattle.sc_waitcond.specs.declared.session.Release.TheVariants as release_at
+use Rattle.sc_lockpass.specs.declared.wait_conditions.session.Release.TheVariants as release_at
 use Rattle.sc_model.specs.declared.cause.Cause.TheVariants as cause
 use Rattle.sc_model.specs.Values.{Reference, Operand}
 use Rattle.sc_model.specs.Limits.{max_queue}

@@ -2,9 +2,9 @@
 use Rattle.std.specs.Prelude.{ℕ, Bool, true, false, List, [], ◌∷◌, Option, Some, None, length, map, drop, nat_lt, if◌then◌else◌}
 use Rattle.sc_tree.specs.Plain.{System}
 use Rattle.sc_rules.specs.declared.entity_types.entity_type.EntityType.{EntityType}
-use Rattle.sc_waitcond.specs.Entries.{needed}
-use Rattle.sc_waitcond.specs.Reservations.{reserve_fails, reserve_is_enabled}
-use Rattle.sc_waitcond.specs.declared.mark.Marked.{Marked}
+use Rattle.sc_lockpass.specs.wait_conditions.Entries.{needed}
+use Rattle.sc_lockpass.specs.wait_conditions.Reservations.{reserve_fails, reserve_is_enabled}
+use Rattle.sc_lockpass.specs.declared.wait_conditions.mark.Marked.{Marked}
 use Rattle.sc_model.specs.declared.cause.Cause.TheVariants as cause
 use Rattle.sc_model.specs.Values.{Reference, Value, Operand, operand, default_of, handler_of}
 use Rattle.sc_model.specs.Environments.{Binding, formals_bound, separate_formals}

@@ -2,8 +2,8 @@
 use Rattle.std.specs.Prelude.{ℕ, Bool, true, false, ◌&&◌, List, [], ◌∷◌, ◌++◌, Option, Some, None, ◌==◌, if◌then◌else◌}
 use Rattle.std.specs.List.{list_any, flat_map}
 use Rattle.sc_lockpass.specs.Rights.{is_handler, release_all}
-use Rattle.sc_waitcond.specs.Reservations.{ends_session}
-use Rattle.sc_waitcond.specs.declared.session.Release.TheVariants as release
+use Rattle.sc_lockpass.specs.wait_conditions.Reservations.{ends_session}
+use Rattle.sc_lockpass.specs.declared.wait_conditions.session.Release.TheVariants as release
 use Rattle.sc_model.specs.declared.cause.Cause.{Cause}
 use Rattle.sc_model.specs.Handlers.{Request, Failed, Origin, Called, Requested, Frame, Handler, World}
 use Rattle.sc_model.specs.Sessions.{session_ended}

@@ -3,11 +3,11 @@ use Rattle.std.specs.Prelude.{ℕ, ◌+◌, Bool, true, false, not, ◌&&◌, Li
 use Rattle.std.specs.List.{filter_map}
 use Rattle.std.specs.Option.{option_and_then}
 use Rattle.sc_tree.specs.Plain.{System, Clause, Expr, Unary, Binary, ObjectTest, Call, no_target, target, Exprs, no_exprs, expr_then}
-use Rattle.sc_waitcond.specs.Conditions.{clause_kind, verdict_of_false}
-use Rattle.sc_waitcond.specs.Reservations.{mark_of}
-use Rattle.sc_waitcond.specs.declared.condition.EntryVerdict.{EntryVerdict}
-use Rattle.sc_waitcond.specs.declared.condition.EntryVerdict.TheVariants as verdict
-use Rattle.sc_waitcond.specs.declared.session.Release.TheVariants as release_at
+use Rattle.sc_lockpass.specs.wait_conditions.Conditions.{clause_kind, verdict_of_false}
+use Rattle.sc_lockpass.specs.wait_conditions.Reservations.{mark_of}
+use Rattle.sc_lockpass.specs.declared.wait_conditions.condition.EntryVerdict.{EntryVerdict}
+use Rattle.sc_lockpass.specs.declared.wait_conditions.condition.EntryVerdict.TheVariants as verdict
+use Rattle.sc_lockpass.specs.declared.wait_conditions.session.Release.TheVariants as release_at
 use Rattle.sc_model.specs.declared.cause.Cause.TheVariants as cause
 use Rattle.sc_model.specs.Values.{handler_of}
 use Rattle.sc_model.specs.Environments.{Binding, binding_named, is_formal}

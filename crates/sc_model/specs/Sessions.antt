@@ -2,8 +2,8 @@
 use Rattle.std.specs.Prelude.{ℕ, ◌+◌, Bool, true, false, ◌&&◌, List, [], ◌∷◌, is_some}
 use Rattle.sc_lockpass.specs.Rights as rights
 use Rattle.sc_lockpass.specs.Rights.{is_among}
-use Rattle.sc_waitcond.specs.Reservations.{Standing, ends_session}
-use Rattle.sc_waitcond.specs.declared.session.Release.{Release}
+use Rattle.sc_lockpass.specs.wait_conditions.Reservations.{Standing, ends_session}
+use Rattle.sc_lockpass.specs.declared.wait_conditions.session.Release.{Release}
 use Rattle.sc_model.specs.Handlers.{Request, Frame, Handler, World}
 
 abbrev pub has_frames : List Frame → Bool

@@ -7,8 +7,8 @@ use Rattle.std.specs.Prelude.{nat_lt, not, if◌then◌else◌}
 use Rattle.sc_tree.specs.Plain.{System}
 use Rattle.sc_lockpass.specs.Rights as rights
 use Rattle.sc_lockpass.specs.Rights.{Rights, is_among}
-use Rattle.sc_waitcond.specs.Reservations.{Standing, is_idle, mark_allows, may_be_reserved, may_reserve, reserve_fails}
-use Rattle.sc_waitcond.specs.declared.mark.Marked.{Marked}
+use Rattle.sc_lockpass.specs.wait_conditions.Reservations.{Standing, is_idle, mark_allows, may_be_reserved, may_reserve, reserve_fails}
+use Rattle.sc_lockpass.specs.declared.wait_conditions.mark.Marked.{Marked}
 use Rattle.sc_model.specs.declared.cause.Cause.{Cause}
 use Rattle.sc_model.specs.Handlers.{World}
 use Rattle.sc_code.specs.declared.program.Image.{Image}

@@ -4,7 +4,7 @@ use Rattle.std.specs.Prelude.{◌≡◌, ◌≢◌, ◌⊎◌, ◌<◌, ◌≤�
 use Rattle.sc_tree.specs.Plain.{Attribute, Clause, DeclaredType, System}
 use Rattle.sc_class.specs.Tables.Features.{DeclaredFeature}
 use Rattle.sc_rules.specs.declared.entity_types.entity_type.EntityType.{EntityType}
-use Rattle.sc_waitcond.specs.declared.condition.EntryVerdict.TheVariants as verdict
+use Rattle.sc_lockpass.specs.declared.wait_conditions.condition.EntryVerdict.TheVariants as verdict
 use Rattle.sc_model.specs.Environments.{formals_bound}
 use Rattle.sc_model.specs.Exits.{handed}
 use Rattle.sc_model.specs.Failures.{requests_at}

@@ -13,7 +13,7 @@ use Rattle.sc_handler.specs.InMemory.{reserves_at, handler_with, stage_of}
 use Rattle.sc_handler.specs.Handlers.{Handler, put, Reserves}
 use Rattle.sc_request.specs.Tables.{handler_in, handler_at, state_of, out_at}
 use Rattle.arrayvec.specs.ArrayVec.{ArrayVec}
-use Rattle.sc_waitcond.specs.declared.mark.Marked.{Marked}
+use Rattle.sc_lockpass.specs.declared.wait_conditions.mark.Marked.{Marked}
 use Rattle.sc_request.proofs.Outs.{get_same, get_other, kept_at}
 
 -- the handler of the number, where it is this one

@@ -8,7 +8,7 @@ use Rattle.std.specs.Prelude.{slice_get, slice_index, if◌then◌else◌}
 use Rattle.sc_lockpass.specs.Rights.{Rights}
 use Rattle.sc_lockpass.specs.Passing.{Passed}
 use Rattle.sc_lockpass.specs.Tables.{Table, rights_of}
-use Rattle.sc_waitcond.specs.declared.session.Release.TheVariants as release_at
+use Rattle.sc_lockpass.specs.declared.wait_conditions.session.Release.TheVariants as release_at
 use Rattle.sc_region.specs.declared.job.Request.{Request}
 use Rattle.sc_handler.specs.declared.handler.Handler as coded
 use Rattle.sc_handler.specs.Handlers.{Posted, posted, HandlerStage, Idle, Runs, HasMade, Reserves, Awaits, State, new_handler, put, with_stage}

@@ -6,8 +6,8 @@ use Rattle.std.specs.Option.{option_map}
 use Rattle.sc_lockpass.specs.Rights as maps
 use Rattle.sc_lockpass.specs.Rights.{Rights, is_among, is_handler, release_all}
 use Rattle.sc_lockpass.specs.Passing.{Passed, give_back}
-use Rattle.sc_waitcond.specs.Reservations.{ends_session}
-use Rattle.sc_waitcond.specs.declared.session.Release.{Release}
+use Rattle.sc_lockpass.specs.wait_conditions.Reservations.{ends_session}
+use Rattle.sc_lockpass.specs.declared.wait_conditions.session.Release.{Release}
 use Rattle.sc_model.specs.declared.cause.Cause.{Cause}
 use Rattle.sc_model.specs.Handlers as machine
 use Rattle.sc_model.specs.Sessions as machine_sessions

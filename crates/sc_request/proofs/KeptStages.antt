@@ -3,7 +3,7 @@ use Rattle.std.proofs.Common.{◌≡◌, ◌+◌, ◌==◌, ◌&&◌, ℕ, Bool,
 use Rattle.std.proofs.lemmas.Bool.{cases_Bool, ltb-true, lt-ltb, ne_eqb}
 use Rattle.std.specs.Prelude.{nat_lt}
 use Rattle.arrayvec.specs.ArrayVec.{ArrayVec}
-use Rattle.sc_waitcond.specs.declared.session.Release.TheVariants as release_at
+use Rattle.sc_lockpass.specs.declared.wait_conditions.session.Release.TheVariants as release_at
 use Rattle.sc_model.specs.declared.cause.Cause.{Cause}
 use Rattle.sc_model.specs.declared.cause.Cause.TheVariants as cause
 use Rattle.sc_region.specs.declared.value.Value.{Value}

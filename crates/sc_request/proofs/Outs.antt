@@ -8,10 +8,10 @@ use Rattle.std.specs.List.{All, list_all, list_any}
 use Rattle.std.specs.Option.{option_and_then}
 use Rattle.sc_lockpass.specs.Rights.{is_among}
 use Rattle.sc_lockpass.specs.Tables.{Table, rights_of}
-use Rattle.sc_waitcond.specs.Laws.{is_on}
-use Rattle.sc_waitcond.specs.Reservations.{may_reserve}
-use Rattle.sc_waitcond.specs.declared.mark.Marked.{Marked}
-use Rattle.sc_waitcond.proofs.EntryLaws.{needs_unheld}
+use Rattle.sc_lockpass.specs.wait_conditions.Laws.{is_on}
+use Rattle.sc_lockpass.specs.wait_conditions.Reservations.{may_reserve}
+use Rattle.sc_lockpass.specs.declared.wait_conditions.mark.Marked.{Marked}
+use Rattle.sc_lockpass.proofs.wait_conditions.EntryLaws.{needs_unheld}
 use Rattle.sc_model.specs.declared.cause.Cause.{Cause}
 use Rattle.arrayvec.specs.ArrayVec.{ArrayVec}
 use Rattle.sc_region.specs.declared.job.Job.{Job}

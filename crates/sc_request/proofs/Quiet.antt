@@ -5,8 +5,8 @@ use Rattle.std.specs.Prelude.{is_some, nat_lt}
 use Rattle.std.specs.List.{list_all, list_any}
 use Rattle.std.specs.Option.{is_none}
 use Rattle.sc_lockpass.specs.Rights.{Rights}
-use Rattle.sc_waitcond.specs.Reservations.{is_idle, is_lost, has_risen, mark_allows, may_be_reserved, may_reserve, reserve_fails}
-use Rattle.sc_waitcond.specs.declared.mark.Marked.{Marked}
+use Rattle.sc_lockpass.specs.wait_conditions.Reservations.{is_idle, is_lost, has_risen, mark_allows, may_be_reserved, may_reserve, reserve_fails}
+use Rattle.sc_lockpass.specs.declared.wait_conditions.mark.Marked.{Marked}
 use Rattle.sc_model.specs.declared.cause.Cause.{Cause}
 use Rattle.sc_model.specs.declared.cause.Cause.TheVariants as cause
 use Rattle.sc_region.specs.declared.job.Request.{Request}

@@ -9,15 +9,15 @@ use Rattle.sc_lockpass.specs.Rights as maps
 use Rattle.sc_lockpass.specs.Rights.{Rights, is_among, unreserved}
 use Rattle.sc_lockpass.specs.Passing.{Passed, give_back, passed_by, returned}
 use Rattle.sc_lockpass.specs.Tables.{Table, rights_of}
-use Rattle.sc_waitcond.specs.declared.session.Release.TheVariants as release_at
+use Rattle.sc_lockpass.specs.declared.wait_conditions.session.Release.TheVariants as release_at
 use Rattle.sc_handler.specs.declared.handler.Handler as coded
 use Rattle.sc_handler.specs.Handlers.{State, Reserves, with_stage}
 use Rattle.sc_handler.specs.Changes.{session_ended}
 use Rattle.sc_request.specs.Settling.{waits_again}
 use Rattle.sc_request.specs.Sessions.{given_to, release}
 use Rattle.sc_request.specs.Tables.{handler_in, state_of}
-use Rattle.sc_waitcond.specs.Reservations.{mark_of}
-use Rattle.sc_waitcond.specs.declared.mark.Marked.{Marked}
+use Rattle.sc_lockpass.specs.wait_conditions.Reservations.{mark_of}
+use Rattle.sc_lockpass.specs.declared.wait_conditions.mark.Marked.{Marked}
 
 pub all_listed : (P : ℕ → Type 0) (ks : List ℕ) → ((k : ℕ) → is_among k ks ≡ true → P k) → All P ks
 all_listed P [] f = All-nil P

@@ -7,7 +7,7 @@ use Rattle.std.proofs.lemmas.List.Elements.{All-nil, All-cons, All-head, All-tai
 use Rattle.sc_lockpass.specs.Rights as maps
 use Rattle.sc_lockpass.specs.Rights.{Rights, is_among, lost_by, release_all}
 use Rattle.sc_lockpass.specs.Passing.{Passed, moved, pass, listed, passed_by, returned, give_back}
-use Rattle.sc_waitcond.specs.declared.mark.Marked.{Marked}
+use Rattle.sc_lockpass.specs.declared.wait_conditions.mark.Marked.{Marked}
 use Rattle.sc_model.specs.declared.cause.Cause.{Cause}
 use Rattle.sc_handler.specs.Handlers.{Posted, Answer, SupplierFailed, HandlerStage, Idle, Runs, HasMade, Reserves, Awaits, service, Handler, new_handler}
 use Rattle.sc_handler.specs.Changes.{session_ended, placed, answered, to_list, told, fallen, takes_next, takes_callback, takes, takes_answer, counted_refusal}

@@ -5,9 +5,9 @@ use Rattle.std.specs.Prelude.{is_some, map, nat_lt, if◌then◌else◌}
 use Rattle.std.specs.List.{filter_map}
 use Rattle.std.specs.Option.{option_map}
 use Rattle.sc_lockpass.specs.Rights.{Rights}
-use Rattle.sc_waitcond.specs.Entries.{needed, unheld, each_once}
-use Rattle.sc_waitcond.specs.Reservations.{Standing, reserve_is_enabled}
-use Rattle.sc_waitcond.specs.declared.mark.Marked.{Marked}
+use Rattle.sc_lockpass.specs.wait_conditions.Entries.{needed, unheld, each_once}
+use Rattle.sc_lockpass.specs.wait_conditions.Reservations.{Standing, reserve_is_enabled}
+use Rattle.sc_lockpass.specs.declared.wait_conditions.mark.Marked.{Marked}
 use Rattle.sc_model.specs.declared.cause.Cause.{Cause}
 use Rattle.sc_region.specs.declared.job.Job.{Job}
 use Rattle.sc_model.specs.Values as value

@@ -7,10 +7,10 @@ use Rattle.std.specs.List.{list_all, list_any}
 use Rattle.std.specs.Option.{is_none}
 use Rattle.sc_lockpass.specs.Rights.{held, is_among}
 use Rattle.sc_lockpass.specs.Tables.{is_member}
-use Rattle.sc_waitcond.specs.Laws.{is_on}
-use Rattle.sc_waitcond.specs.Reservations.{is_idle, is_lost, mark_allows, may_be_reserved, may_reserve, reserve_fails}
-use Rattle.sc_waitcond.specs.declared.mark.Marked.{Marked}
-use Rattle.sc_waitcond.proofs.EntryLaws.{needs_unheld}
+use Rattle.sc_lockpass.specs.wait_conditions.Laws.{is_on}
+use Rattle.sc_lockpass.specs.wait_conditions.Reservations.{is_idle, is_lost, mark_allows, may_be_reserved, may_reserve, reserve_fails}
+use Rattle.sc_lockpass.specs.declared.wait_conditions.mark.Marked.{Marked}
+use Rattle.sc_lockpass.proofs.wait_conditions.EntryLaws.{needs_unheld}
 use Rattle.sc_model.specs.declared.cause.Cause.{Cause}
 use Rattle.sc_region.specs.declared.job.Job.{Job}
 use Rattle.sc_region.specs.declared.job.Want.{Want}

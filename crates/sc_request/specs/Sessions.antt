@@ -4,9 +4,9 @@ use Rattle.std.specs.List.{list_any}
 use Rattle.sc_lockpass.specs.Rights as rights
 use Rattle.sc_lockpass.specs.Rights.{Rights, is_among, is_handler, release_all}
 use Rattle.sc_lockpass.specs.Passing.{Passed, pass, passed_by, give_back}
-use Rattle.sc_waitcond.specs.Reservations.{ends_session}
-use Rattle.sc_waitcond.specs.declared.session.Release.{Release}
-use Rattle.sc_waitcond.specs.declared.session.Release.TheVariants as release_at
+use Rattle.sc_lockpass.specs.wait_conditions.Reservations.{ends_session}
+use Rattle.sc_lockpass.specs.declared.wait_conditions.session.Release.{Release}
+use Rattle.sc_lockpass.specs.declared.wait_conditions.session.Release.TheVariants as release_at
 use Rattle.sc_model.specs.declared.cause.Cause.{Cause}
 use Rattle.sc_model.specs.Limits.{max_queue}
 use Rattle.sc_handler.specs.Handlers.{Posted, Answer, State, new_handler, put}

@@ -1,7 +1,7 @@
 -- What keeps a handler from its next step.
 use Rattle.std.specs.Prelude.{ℕ, Bool, false, not, List, [], Option, option_map, slice_get}
 use Rattle.sc_lockpass.specs.Rights.{Rights}
-use Rattle.sc_waitcond.specs.Reservations.{mark_allows}
+use Rattle.sc_lockpass.specs.wait_conditions.Reservations.{mark_allows}
 use Rattle.sc_region.specs.declared.job.Request.{Request}
 use Rattle.sc_handler.specs.Handlers.{Posted, HandlerStage, Idle, Runs, HasMade, Reserves, Awaits}
 use Rattle.sc_handler.specs.Picking.{needs}

@@ -3,7 +3,7 @@ ghost use Rattle.std.specs.Prelude.{◌≡◌, ◌≤◌, ◌<◌, ◌-◌, Some
 ghost use Rattle.std.specs.List.{list_all};
 ghost use Rattle.std.specs.Option.{option_map};
 ghost use Rattle.sc_lockpass.specs.Tables.{rights_of};
-ghost use Rattle.sc_waitcond.specs.Reservations.{is_lost, may_be_reserved, reserve_fails};
+ghost use Rattle.sc_lockpass.specs.wait_conditions.Reservations.{is_lost, may_be_reserved, reserve_fails};
 ghost use Rattle.sc_handler.specs.Handlers.{is_reserving, standing_in};
 ghost use Rattle.sc_handler.specs.Picking.{job_for_entry, needs};
 ghost use Rattle.sc_request.specs.Candidates.{AreCandidates};
@@ -16,8 +16,8 @@ use crate::state::State;
 use arrayvec::ArrayVec;
 use sc_handler::{Handler, HandlerStage};
 use sc_lockpass::HandlerNumber;
+use sc_lockpass::wait_conditions::Entry;
 use sc_region::Job;
-use sc_waitcond::Entry;
 
 impl State {
     /// Whether a handler has something to do and isn't out.

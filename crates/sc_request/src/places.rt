@@ -10,10 +10,10 @@ ghost use Rattle.sc_request.specs.Settling.{reserves};
 use crate::state::State;
 use arrayvec::ArrayVec;
 use sc_handler::{Answer, Dropped, HandlerStage, Posting, copy_handlers};
+use sc_lockpass::wait_conditions::Mark;
 use sc_lockpass::{HandlerNumber, Passed};
 use sc_model::Cause;
 use sc_region::Request;
-use sc_waitcond::Mark;
 use std::collections::LinkedList;
 
 impl State {

@@ -5,15 +5,15 @@ ghost use Rattle.sc_lockpass.specs.Rights as maps;
 ghost use Rattle.sc_lockpass.specs.Rights.{is_among};
 ghost use Rattle.sc_lockpass.specs.Tables.{rights_of};
 ghost use Rattle.sc_lockpass.specs.Versions.{most_handlers};
-ghost use Rattle.sc_waitcond.specs.declared.session.Release.TheVariants as release_at;
+ghost use Rattle.sc_lockpass.specs.declared.wait_conditions.session.Release.TheVariants as release_at;
 ghost use Rattle.sc_request.specs.Places.{outs_of, plain};
 ghost use Rattle.sc_request.specs.Sessions.{given_to, release};
 ghost use Rattle.sc_request.specs.Settling.{waits_again};
 ghost use Rattle.sc_request.specs.Tables.{CountsUp};
 
 use crate::state::State;
+use sc_lockpass::wait_conditions::Mark;
 use sc_lockpass::{HandlerNumber, Rights};
-use sc_waitcond::Mark;
 
 /// Releases these, whoever holds them.
 pub(crate) fn release_each(rights: &mut Rights, handlers: &[HandlerNumber])

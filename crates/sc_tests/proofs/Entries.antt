@@ -3,16 +3,16 @@
 use Rattle.std.proofs.Common.{ℕ, ◌≡◌, Bool, true, false, List, [], ◌∷◌, Option, Some, None, refl}
 use Rattle.std.specs.Prelude.{◌==◌, ◌||◌, length, replicate, if◌then◌else◌}
 use Rattle.sc_lockpass.specs.Rights.{Rights, unreserved, held, reserve, release}
-use Rattle.sc_waitcond.specs.declared.condition.ClauseKind.{ClauseKind}
-use Rattle.sc_waitcond.specs.declared.condition.ClauseKind.TheVariants.{WaitCondition, CorrectnessCondition}
-use Rattle.sc_waitcond.specs.declared.condition.ClauseResult.{ClauseResult}
-use Rattle.sc_waitcond.specs.declared.condition.EntryVerdict.{EntryVerdict}
-use Rattle.sc_waitcond.specs.declared.condition.EntryVerdict.TheVariants.{Start, Wait, Refuse}
-use Rattle.sc_waitcond.specs.declared.mark.Marked.{Marked}
-use Rattle.sc_waitcond.specs.declared.session.Release.TheVariants.{Exit, FalseWaitCondition}
-use Rattle.sc_waitcond.specs.Entries.{needed}
-use Rattle.sc_waitcond.specs.Conditions.{clause_kind, verdict}
-use Rattle.sc_waitcond.specs.Reservations.{mark_of, mark_allows, ends_session}
+use Rattle.sc_lockpass.specs.declared.wait_conditions.condition.ClauseKind.{ClauseKind}
+use Rattle.sc_lockpass.specs.declared.wait_conditions.condition.ClauseKind.TheVariants.{WaitCondition, CorrectnessCondition}
+use Rattle.sc_lockpass.specs.declared.wait_conditions.condition.ClauseResult.{ClauseResult}
+use Rattle.sc_lockpass.specs.declared.wait_conditions.condition.EntryVerdict.{EntryVerdict}
+use Rattle.sc_lockpass.specs.declared.wait_conditions.condition.EntryVerdict.TheVariants.{Start, Wait, Refuse}
+use Rattle.sc_lockpass.specs.declared.wait_conditions.mark.Marked.{Marked}
+use Rattle.sc_lockpass.specs.declared.wait_conditions.session.Release.TheVariants.{Exit, FalseWaitCondition}
+use Rattle.sc_lockpass.specs.wait_conditions.Entries.{needed}
+use Rattle.sc_lockpass.specs.wait_conditions.Conditions.{clause_kind, verdict}
+use Rattle.sc_lockpass.specs.wait_conditions.Reservations.{mark_of, mark_allows, ends_session}
 
 abbrev clause : ClauseKind → Bool → ClauseResult
 clause k b = record { kind = k; holds = b }

@@ -6,9 +6,9 @@ use Rattle.std.specs.List.{list_any}
 use Rattle.arrayvec.specs.ArrayVec.{ArrayVec}
 use Rattle.sc_lockpass.specs.Rights.{is_among, is_handler}
 use Rattle.sc_lockpass.specs.Passing.{Passed}
-use Rattle.sc_waitcond.specs.Reservations.{ends_session}
-use Rattle.sc_waitcond.specs.declared.session.Release.{Release}
-use Rattle.sc_waitcond.specs.declared.session.Release.TheVariants as release_at
+use Rattle.sc_lockpass.specs.wait_conditions.Reservations.{ends_session}
+use Rattle.sc_lockpass.specs.declared.wait_conditions.session.Release.{Release}
+use Rattle.sc_lockpass.specs.declared.wait_conditions.session.Release.TheVariants as release_at
 use Rattle.sc_model.specs.declared.cause.Cause.{Cause}
 use Rattle.sc_model.specs.declared.cause.Cause.TheVariants as cause
 use Rattle.sc_model.specs.Limits.{max_queue}

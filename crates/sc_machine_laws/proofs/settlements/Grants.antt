@@ -5,9 +5,9 @@ use Rattle.std.specs.Prelude.{map, length, nat_lt, if◌then◌else◌}
 use Rattle.std.specs.Option.{option_map}
 use Rattle.sc_tree.specs.Plain.{System, Clause}
 use Rattle.sc_rules.specs.declared.entity_types.entity_type.EntityType.{EntityType}
-use Rattle.sc_waitcond.specs.Reservations.{reserve_fails, may_reserve}
-use Rattle.sc_waitcond.specs.declared.mark.Marked.{Marked}
-use Rattle.sc_waitcond.specs.declared.condition.EntryVerdict.TheVariants as verdict
+use Rattle.sc_lockpass.specs.wait_conditions.Reservations.{reserve_fails, may_reserve}
+use Rattle.sc_lockpass.specs.declared.wait_conditions.mark.Marked.{Marked}
+use Rattle.sc_lockpass.specs.declared.wait_conditions.condition.EntryVerdict.TheVariants as verdict
 use Rattle.sc_model.specs.declared.cause.Cause.{Cause}
 use Rattle.sc_model.specs.Environments.{separate_formals}
 use Rattle.sc_model.specs.Preconditions.{verdict_on}

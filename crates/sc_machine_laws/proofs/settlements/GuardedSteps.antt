@@ -14,12 +14,12 @@ use Rattle.sc_rules.specs.Names as rules
 use Rattle.sc_rules.specs.Purity.{IsPurity}
 use Rattle.sc_rules.specs.Purity as purity
 use Rattle.sc_lockpass.specs.Rights.{held}
-use Rattle.sc_waitcond.specs.Conditions.{clause_kind, kind_where, lies_on_any, verdict_of_false}
-use Rattle.sc_waitcond.specs.Reservations.{mark_of}
-use Rattle.sc_waitcond.specs.declared.condition.EntryVerdict.{EntryVerdict}
-use Rattle.sc_waitcond.specs.declared.condition.EntryVerdict.TheVariants as verdict
-use Rattle.sc_waitcond.specs.declared.session.Release.{Release}
-use Rattle.sc_waitcond.specs.declared.session.Release.TheVariants as release_at
+use Rattle.sc_lockpass.specs.wait_conditions.Conditions.{clause_kind, kind_where, lies_on_any, verdict_of_false}
+use Rattle.sc_lockpass.specs.wait_conditions.Reservations.{mark_of}
+use Rattle.sc_lockpass.specs.declared.wait_conditions.condition.EntryVerdict.{EntryVerdict}
+use Rattle.sc_lockpass.specs.declared.wait_conditions.condition.EntryVerdict.TheVariants as verdict
+use Rattle.sc_lockpass.specs.declared.wait_conditions.session.Release.{Release}
+use Rattle.sc_lockpass.specs.declared.wait_conditions.session.Release.TheVariants as release_at
 use Rattle.sc_model.specs.declared.cause.Cause.{Cause}
 use Rattle.sc_model.specs.declared.cause.Cause.TheVariants as cause
 use Rattle.sc_model.specs.Limits.{max_frames, max_queue}

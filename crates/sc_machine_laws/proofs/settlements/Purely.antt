@@ -13,8 +13,8 @@ use Rattle.sc_rules.specs.Names.{RoutineName, formals_known, reserved}
 use Rattle.sc_rules.specs.Purity.{IsPurity}
 use Rattle.sc_rules.specs.SystemRules.{WellFormed}
 use Rattle.sc_rules.specs.Types.{declared_type}
-use Rattle.sc_waitcond.specs.Reservations.{reserve_fails}
-use Rattle.sc_waitcond.specs.declared.session.Release.TheVariants as release_at
+use Rattle.sc_lockpass.specs.wait_conditions.Reservations.{reserve_fails}
+use Rattle.sc_lockpass.specs.declared.wait_conditions.session.Release.TheVariants as release_at
 use Rattle.sc_model.specs.declared.cause.Cause.{Cause}
 use Rattle.sc_model.specs.declared.cause.Cause.TheVariants as cause
 use Rattle.sc_model.specs.Values.{Value, Operand}

@@ -7,9 +7,9 @@ use Rattle.sc_tree.specs.Plain.{System}
 use Rattle.sc_class.specs.ClassNames.{Root, number_of}
 use Rattle.sc_class.specs.Faults.ClassRules.{IsFaultless}
 use Rattle.sc_rules.specs.SystemRules.{WellFormed}
-use Rattle.sc_waitcond.specs.Conditions.{clause_kind, verdict_of_false}
-use Rattle.sc_waitcond.specs.declared.condition.EntryVerdict.TheVariants as verdict
-use Rattle.sc_waitcond.specs.declared.mark.Marked.{Marked}
+use Rattle.sc_lockpass.specs.wait_conditions.Conditions.{clause_kind, verdict_of_false}
+use Rattle.sc_lockpass.specs.declared.wait_conditions.condition.EntryVerdict.TheVariants as verdict
+use Rattle.sc_lockpass.specs.declared.wait_conditions.mark.Marked.{Marked}
 use Rattle.sc_model.specs.Environments.{separate_formals}
 use Rattle.sc_model.specs.Preconditions.{names_in, formals_among}
 use Rattle.sc_model.specs.Tasks.{Task, Do, Leave, Require, Required}

@@ -5,10 +5,10 @@ use Rattle.std.specs.Prelude.{if◌then◌else◌}
 use Rattle.std.specs.List.{list_any}
 use Rattle.sc_lockpass.specs.Rights.{is_among, is_handler}
 use Rattle.sc_lockpass.specs.Passing.{Passed}
-use Rattle.sc_waitcond.specs.Reservations.{ends_session}
-use Rattle.sc_waitcond.specs.declared.mark.Marked.{Marked}
-use Rattle.sc_waitcond.specs.declared.session.Release.{Release}
-use Rattle.sc_waitcond.specs.declared.session.Release.TheVariants as release_at
+use Rattle.sc_lockpass.specs.wait_conditions.Reservations.{ends_session}
+use Rattle.sc_lockpass.specs.declared.wait_conditions.mark.Marked.{Marked}
+use Rattle.sc_lockpass.specs.declared.wait_conditions.session.Release.{Release}
+use Rattle.sc_lockpass.specs.declared.wait_conditions.session.Release.TheVariants as release_at
 use Rattle.sc_model.specs.declared.cause.Cause.{Cause}
 use Rattle.sc_handler.specs.Handlers.{Posted, Answer, HandlerStage, Idle, Reserves, Service, service, Handler, State, put, with_stage}
 use Rattle.sc_handler.specs.Changes.{session_ended, placed, answered, is_waited_by, requests_at, told, fallen, serves, counted_refusal}

@@ -7,7 +7,7 @@ use Rattle.sc_tree.specs.Plain.{System}
 use Rattle.sc_class.specs.Tables.Features.{DeclaredFeature}
 use Rattle.sc_rules.specs.declared.entity_types.entity_type.EntityType.{EntityType}
 use Rattle.sc_rules.specs.Names.{RoutineName}
-use Rattle.sc_waitcond.specs.declared.session.Release.TheVariants as release_at
+use Rattle.sc_lockpass.specs.declared.wait_conditions.session.Release.TheVariants as release_at
 use Rattle.sc_model.specs.Asking.{awaits_if, created, creates_handler, passes_or_releases, placed, posts_creation, request_by, send, with_handler}
 use Rattle.sc_model.specs.Environments.{handler_named}
 use Rattle.sc_model.specs.Failures.{fail, request_of, requests_at}

@@ -12,10 +12,10 @@ use Rattle.sc_rules.specs.Names.{RoutineName}
 use Rattle.sc_rules.specs.Purity.{IsPurity}
 use Rattle.sc_rules.specs.SystemRules.{WellFormed}
 use Rattle.sc_rules.proofs.PurityStands.{purity_stands}
-use Rattle.sc_waitcond.specs.Conditions.{clause_kind, verdict_of_false}
-use Rattle.sc_waitcond.specs.declared.condition.ClauseKind.{ClauseKind}
-use Rattle.sc_waitcond.specs.declared.condition.ClauseKind.TheVariants.{CorrectnessCondition, WaitCondition}
-use Rattle.sc_waitcond.specs.declared.session.Release.TheVariants as release_at
+use Rattle.sc_lockpass.specs.wait_conditions.Conditions.{clause_kind, verdict_of_false}
+use Rattle.sc_lockpass.specs.declared.wait_conditions.condition.ClauseKind.{ClauseKind}
+use Rattle.sc_lockpass.specs.declared.wait_conditions.condition.ClauseKind.TheVariants.{CorrectnessCondition, WaitCondition}
+use Rattle.sc_lockpass.specs.declared.wait_conditions.session.Release.TheVariants as release_at
 use Rattle.sc_machine_laws.specs.states.Formals.{FormalsAreHeld, NamesAreHeld}
 use Rattle.sc_machine_laws.proofs.states.links.Held.{reached_formals_are_held, reached_names_are_held}
 use Rattle.sc_machine_laws.proofs.states.links.FittingActs.{stack_fits}

@@ -7,8 +7,8 @@ use Rattle.sc_tree.specs.Plain.{System}
 use Rattle.sc_rules.specs.declared.entity_types.entity_type.EntityType.{EntityType}
 use Rattle.sc_rules.specs.Names.{RoutineName}
 use Rattle.sc_lockpass.specs.Rights.{is_among}
-use Rattle.sc_waitcond.specs.Reservations.{ends_session}
-use Rattle.sc_waitcond.specs.declared.session.Release.TheVariants as release_at
+use Rattle.sc_lockpass.specs.wait_conditions.Reservations.{ends_session}
+use Rattle.sc_lockpass.specs.declared.wait_conditions.session.Release.TheVariants as release_at
 use Rattle.sc_model.specs.Exits.{exits, handed, handed_as, handed_at, is_unset, is_untested, leaves_to}
 use Rattle.sc_model.specs.Failures.{fail, request_of}
 use Rattle.sc_model.specs.Handlers.{Awaits, Called, Frame, Handler, Origin, Request, Requested, Runs, World, frame_at, put, with_stack}

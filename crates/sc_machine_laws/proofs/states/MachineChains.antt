@@ -4,7 +4,7 @@ use Rattle.std.specs.Prelude.{Contains, is_some}
 use Rattle.std.specs.Option.{is_none}
 use Rattle.std.specs.List.{flat_map}
 use Rattle.sc_lockpass.specs.Rights.{Rights}
-use Rattle.sc_waitcond.specs.Reservations.{Standing, may_be_reserved}
+use Rattle.sc_lockpass.specs.wait_conditions.Reservations.{Standing, may_be_reserved}
 use Rattle.sc_model.specs.Handlers as machine
 use Rattle.sc_model.specs.Sessions.{has_frames, has_requests, standing_in}
 use Rattle.sc_model.specs.Failures.{request_of, to_list}

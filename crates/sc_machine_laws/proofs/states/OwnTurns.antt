@@ -4,7 +4,7 @@ use Rattle.std.proofs.Common.{◌++◌, Bool, List, [], ap, false, refl, subst, 
 use Rattle.std.proofs.lemmas.Bool.{eqb-true}
 use Rattle.sc_tree.specs.Plain.{System}
 use Rattle.sc_rules.specs.Names.{RoutineName}
-use Rattle.sc_waitcond.specs.declared.session.Release.TheVariants as release_at
+use Rattle.sc_lockpass.specs.declared.wait_conditions.session.Release.TheVariants as release_at
 use Rattle.sc_model.specs.Exits.{leaves_block}
 use Rattle.sc_model.specs.Handlers.{Frame, ReservesBlock, Runs, World, frame_at, point_of, put, with_stack}
 use Rattle.sc_model.specs.Moves.{moves}

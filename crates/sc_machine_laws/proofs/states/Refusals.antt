@@ -8,11 +8,11 @@ use Rattle.sc_class.specs.Faults.ClassRules.{IsFaultless}
 use Rattle.sc_rules.specs.Names.{RoutineName, formals_known}
 use Rattle.sc_rules.specs.Purity.{IsPurity}
 use Rattle.sc_rules.specs.SystemRules.{WellFormed}
-use Rattle.sc_waitcond.specs.Reservations.{mark_of}
-use Rattle.sc_waitcond.specs.declared.condition.EntryVerdict.{EntryVerdict}
-use Rattle.sc_waitcond.specs.declared.condition.EntryVerdict.TheVariants as verdict
-use Rattle.sc_waitcond.specs.declared.mark.Marked.{Marked}
-use Rattle.sc_waitcond.specs.declared.session.Release.TheVariants as release_at
+use Rattle.sc_lockpass.specs.wait_conditions.Reservations.{mark_of}
+use Rattle.sc_lockpass.specs.declared.wait_conditions.condition.EntryVerdict.{EntryVerdict}
+use Rattle.sc_lockpass.specs.declared.wait_conditions.condition.EntryVerdict.TheVariants as verdict
+use Rattle.sc_lockpass.specs.declared.wait_conditions.mark.Marked.{Marked}
+use Rattle.sc_lockpass.specs.declared.wait_conditions.session.Release.TheVariants as release_at
 use Rattle.sc_model.specs.Answers.{finish}
 use Rattle.sc_model.specs.Environments.{scope_of}
 use Rattle.sc_model.specs.Failures.{fail, request_of, requests_at, to_list}

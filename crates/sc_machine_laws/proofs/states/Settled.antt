@@ -6,7 +6,7 @@ use Rattle.std.proofs.lemmas.Bool.{eqb-true}
 use Rattle.sc_tree.specs.Plain.{System}
 use Rattle.sc_rules.specs.declared.entity_types.entity_type.EntityType.{EntityType}
 use Rattle.sc_rules.specs.Names.{RoutineName}
-use Rattle.sc_waitcond.specs.declared.mark.Marked.{Marked}
+use Rattle.sc_lockpass.specs.declared.wait_conditions.mark.Marked.{Marked}
 use Rattle.sc_model.specs.Environments.{Binding}
 use Rattle.sc_model.specs.Failures.{fails_with, request_of, requests_at, to_list}
 use Rattle.sc_model.specs.Handlers.{Awaits, Frame, Handler, Reply, Request, Stage, World, point_of, put, with_stack}

@@ -5,9 +5,9 @@ use Rattle.std.proofs.Common.{◌&&◌, ◌++◌, Bool, List, None, Option, Some
 use Rattle.sc_rules.specs.declared.entity_types.entity_type.EntityType.{EntityType}
 use Rattle.sc_lockpass.specs.Passing.{Passed}
 use Rattle.sc_lockpass.specs.Rights.{held, is_among, is_handler}
-use Rattle.sc_waitcond.specs.Reservations.{ends_session, reserve_fails}
-use Rattle.sc_waitcond.specs.declared.session.Release.{Release}
-use Rattle.sc_waitcond.specs.declared.session.Release.TheVariants as release_at
+use Rattle.sc_lockpass.specs.wait_conditions.Reservations.{ends_session, reserve_fails}
+use Rattle.sc_lockpass.specs.declared.wait_conditions.session.Release.{Release}
+use Rattle.sc_lockpass.specs.declared.wait_conditions.session.Release.TheVariants as release_at
 use Rattle.sc_model.specs.Answers.{answer_to, answered, finish, return_rights}
 use Rattle.sc_model.specs.Asking.{asks, awaits_if, created, creates_handler, is_callback, passes, passes_or_releases, placed, posts_creation, request, request_by, send, with_handler}
 use Rattle.sc_model.specs.Entries.{reserves_if, stage_with}

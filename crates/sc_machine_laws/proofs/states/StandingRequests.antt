@@ -4,7 +4,7 @@ use Rattle.std.proofs.lemmas.Bool.{eqb-true}
 use Rattle.std.specs.Prelude.{if◌then◌else◌, Contains}
 use Rattle.std.specs.List.{flat_map}
 use Rattle.sc_lockpass.specs.Passing.{Passed}
-use Rattle.sc_waitcond.specs.declared.session.Release.{Release}
+use Rattle.sc_lockpass.specs.declared.wait_conditions.session.Release.{Release}
 use Rattle.sc_model.specs.declared.cause.Cause.{Cause}
 use Rattle.sc_model.specs.Handlers.{Request, Answer, Frame, Handler, World, put, with_stack}
 use Rattle.sc_model.specs.Answers.{finish}

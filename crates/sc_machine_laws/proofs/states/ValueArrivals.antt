@@ -12,7 +12,7 @@ use Rattle.sc_model.specs.Handlers.{Answer, Awaits, Failed, Frame, Refused, Repl
 use Rattle.sc_model.specs.Routines.{Routine}
 use Rattle.sc_model.specs.Steps.{Point}
 use Rattle.sc_model.specs.Takes.{released_if, takes_answer}
-use Rattle.sc_waitcond.specs.declared.session.Release.TheVariants as release_at
+use Rattle.sc_lockpass.specs.declared.wait_conditions.session.Release.TheVariants as release_at
 use Rattle.sc_model.specs.Values.{Attached, Boolean, Integer, Operand, Value, Void, operand}
 use Rattle.sc_model.specs.declared.cause.Cause.TheVariants as cause
 use Rattle.sc_machine_laws.specs.states.Fitting.{FrameFits, Gives, HandlerFits, Linked, ReplyFits, RequestFits, ValueIsThere, WorldFits, coming_to}

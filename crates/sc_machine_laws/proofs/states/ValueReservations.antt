@@ -5,7 +5,7 @@ use Rattle.sc_tree.specs.Plain.{System}
 use Rattle.sc_rules.specs.declared.entity_types.entity_type.EntityType.{EntityType}
 use Rattle.sc_rules.specs.Names.{RoutineName}
 use Rattle.sc_lockpass.specs.Rights as rights
-use Rattle.sc_waitcond.specs.Reservations.{reserve_fails}
+use Rattle.sc_lockpass.specs.wait_conditions.Reservations.{reserve_fails}
 use Rattle.sc_model.specs.Entries.{may_reserve, reserves_block, reserves_entry, reserves_if}
 use Rattle.sc_model.specs.Failures.{fail}
 use Rattle.sc_model.specs.Handlers.{Awaits, Frame, Reserves, ReservesBlock, Runs, Stage, World, with_stack}

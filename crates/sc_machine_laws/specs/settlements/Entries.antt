@@ -1,7 +1,7 @@
 -- What becomes of the entry that a handler reserved for last, and when a clause of a precondition may be found false.
 use Rattle.std.specs.Prelude.{◌≡◌, ◌⊎◌, ℕ, Bool, true, false, List, [], ◌∷◌, Contains}
 use Rattle.sc_tree.specs.Plain.{System}
-use Rattle.sc_waitcond.specs.declared.mark.Marked.{Marked}
+use Rattle.sc_lockpass.specs.declared.wait_conditions.mark.Marked.{Marked}
 use Rattle.sc_model.specs.Moves.{moves}
 use Rattle.sc_model.specs.Steps.{Refuses, Step, Goes, Does, Point}
 use Rattle.sc_model.specs.Tasks.{Task, Require, Required}

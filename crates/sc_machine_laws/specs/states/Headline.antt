@@ -4,7 +4,7 @@ use Rattle.sc_tree.specs.Plain.{System}
 use Rattle.sc_class.specs.ClassNames.{Root}
 use Rattle.sc_rules.specs.declared.entity_types.entity_type.EntityType.{EntityType}
 use Rattle.sc_lockpass.specs.Rights.{held}
-use Rattle.sc_waitcond.specs.Reservations.{may_be_reserved}
+use Rattle.sc_lockpass.specs.wait_conditions.Reservations.{may_be_reserved}
 use Rattle.sc_model.specs.Handlers.{Request, Answer, Reply, Failed, Refused, Requested, Stage, Runs, Reserves, ReservesBlock, InCall, Awaits, Frame, Handler, World}
 use Rattle.sc_model.specs.Sessions.{standing_in}
 use Rattle.sc_model.specs.Failures.{requests_at}

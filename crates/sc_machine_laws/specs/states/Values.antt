@@ -12,7 +12,7 @@ use Rattle.sc_rules.specs.Purity.{IsPurity}
 use Rattle.sc_rules.specs.PurityLaws.{SomePurity}
 use Rattle.sc_rules.specs.SystemRules.{WellFormed}
 use Rattle.sc_lockpass.specs.Rights.{Rights}
-use Rattle.sc_waitcond.specs.declared.session.Release.{Release}
+use Rattle.sc_lockpass.specs.declared.wait_conditions.session.Release.{Release}
 use Rattle.sc_model.specs.Entries.{entry, reserves_block, reserves_entry}
 use Rattle.sc_model.specs.Environments.{Binding, formals_bound}
 use Rattle.sc_model.specs.Failures.{fails_with}

@@ -3,7 +3,7 @@ use Rattle.std.proofs.Common.{◌≡◌, ◌==◌, ℕ, Bool, true, false, List,
 use Rattle.std.proofs.lemmas.Bool.{eqb-true, eq-eqb, ne_eqb}
 use Rattle.std.specs.Prelude.{if◌then◌else◌}
 use Rattle.sc_lockpass.specs.Passing.{Passed}
-use Rattle.sc_waitcond.specs.declared.session.Release.{Release}
+use Rattle.sc_lockpass.specs.declared.wait_conditions.session.Release.{Release}
 use Rattle.sc_model.specs.declared.cause.Cause.{Cause}
 use Rattle.sc_model.specs.Handlers.{Request, Answer, Failed, Handler, World, put}
 use Rattle.sc_model.specs.Sessions.{session_ended, release}

@@ -5,9 +5,9 @@ use Rattle.std.proofs.lemmas.List.Elements.{All-head, All-tail}
 use Rattle.std.specs.Prelude.{All, is_some}
 use Rattle.std.specs.List.{filter_map}
 use Rattle.sc_lockpass.specs.Rights.{Rights}
-use Rattle.sc_waitcond.specs.Entries.{unheld, each_once}
-use Rattle.sc_waitcond.specs.Reservations.{Standing, reserve_fails, may_reserve}
-use Rattle.sc_waitcond.specs.declared.mark.Marked.{Marked}
+use Rattle.sc_lockpass.specs.wait_conditions.Entries.{unheld, each_once}
+use Rattle.sc_lockpass.specs.wait_conditions.Reservations.{Standing, reserve_fails, may_reserve}
+use Rattle.sc_lockpass.specs.declared.wait_conditions.mark.Marked.{Marked}
 use Rattle.sc_model.specs.Values as value
 use Rattle.sc_model.specs.Values.{Value, handler_of}
 use Rattle.sc_model.specs.Entries.{needed_for}

@@ -6,8 +6,8 @@ use Rattle.std.specs.Prelude.{All, nat_lt, if◌then◌else◌}
 use Rattle.std.specs.Option.{option_map}
 use Rattle.sc_tree.specs.Plain.{System}
 use Rattle.sc_rules.specs.declared.entity_types.entity_type.EntityType.{EntityType}
-use Rattle.sc_waitcond.specs.Reservations.{reserve_fails}
-use Rattle.sc_waitcond.specs.declared.mark.Marked.{Marked}
+use Rattle.sc_lockpass.specs.wait_conditions.Reservations.{reserve_fails}
+use Rattle.sc_lockpass.specs.declared.wait_conditions.mark.Marked.{Marked}
 use Rattle.sc_model.specs.declared.cause.Cause.{Cause}
 use Rattle.sc_model.specs.declared.cause.Cause.TheVariants as cause
 use Rattle.sc_model.specs.Values.{Value, Operand, values_of}

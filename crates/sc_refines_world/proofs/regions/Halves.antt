@@ -1,7 +1,7 @@
 -- What makes a half of a handler a region's, and what keeps it so.
 use Rattle.std.proofs.Common.{◌≡◌, inl, if◌then◌else◌, ℕ, suc, Bool, true, false, List, [], ◌∷◌, Some, None, length, refl, sym, ap, subst, ◌∙◌}
-use Rattle.sc_waitcond.specs.declared.mark.Marked.{Marked}
-use Rattle.sc_waitcond.specs.declared.session.Release.{Release}
+use Rattle.sc_lockpass.specs.declared.wait_conditions.mark.Marked.{Marked}
+use Rattle.sc_lockpass.specs.declared.wait_conditions.session.Release.{Release}
 use Rattle.sc_model.specs.declared.cause.Cause.{Cause}
 use Rattle.sc_model.specs.Values.{Operand}
 use Rattle.sc_model.specs.Handlers as machine

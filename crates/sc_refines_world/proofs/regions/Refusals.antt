@@ -4,7 +4,7 @@ use Rattle.std.specs.Prelude.{◌&&◌, ◌||◌, bytes_eq, find, filter_map, sl
 use Rattle.std.specs.List.{cons_option, list_any}
 use Rattle.std.specs.Option.{option_map, option_and_then}
 use Rattle.sc_tree.specs.Plain.{System, Clause}
-use Rattle.sc_waitcond.specs.Conditions as conditions
+use Rattle.sc_lockpass.specs.wait_conditions.Conditions as conditions
 use Rattle.sc_model.specs.declared.cause.Cause.TheVariants as cause
 use Rattle.sc_model.specs.Environments.{Binding, binding_named, is_formal, scope_of}
 use Rattle.sc_model.specs.Handlers.{Origin, Called, Requested, frame_at}

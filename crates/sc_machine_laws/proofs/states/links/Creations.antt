@@ -4,7 +4,7 @@ use Rattle.std.specs.Prelude.{nat_lt, if◌then◌else◌}
 use Rattle.std.proofs.lemmas.Bool.{eq-eqb, eqb-true, eqb-false, ne_eqb}
 use Rattle.sc_rules.specs.declared.entity_types.entity_type.EntityType.{EntityType}
 use Rattle.sc_lockpass.specs.Rights.{Rights, is_among}
-use Rattle.sc_waitcond.specs.declared.session.Release.TheVariants as release_at
+use Rattle.sc_lockpass.specs.declared.wait_conditions.session.Release.TheVariants as release_at
 use Rattle.sc_machine_laws.specs.states.World as world
 use Rattle.sc_machine_laws.specs.states.World.{Grant, Wait, Request, Reservation, Frame, Handler, World, holder, rights_of, has, land, post, ask_passing, enter}
 use Rattle.sc_machine_laws.specs.states.Steps.{waits_for, IsActive, Holds, IsIdle, AnswersNobody, Posts, AsksPassing, Enters, Steps, Then}

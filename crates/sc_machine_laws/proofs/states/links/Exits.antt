@@ -5,10 +5,10 @@ use Rattle.std.specs.Option.{option_map}
 use Rattle.sc_tree.specs.Plain.{System}
 use Rattle.sc_lockpass.specs.Rights as rights
 use Rattle.sc_lockpass.specs.Rights.{is_among}
-use Rattle.sc_waitcond.specs.declared.session.Release.TheVariants as release_at
-use Rattle.sc_waitcond.specs.Reservations.{ends_session, mark_of}
-use Rattle.sc_waitcond.specs.declared.condition.EntryVerdict.{EntryVerdict}
-use Rattle.sc_waitcond.specs.declared.condition.EntryVerdict.TheVariants as verdict
+use Rattle.sc_lockpass.specs.declared.wait_conditions.session.Release.TheVariants as release_at
+use Rattle.sc_lockpass.specs.wait_conditions.Reservations.{ends_session, mark_of}
+use Rattle.sc_lockpass.specs.declared.wait_conditions.condition.EntryVerdict.{EntryVerdict}
+use Rattle.sc_lockpass.specs.declared.wait_conditions.condition.EntryVerdict.TheVariants as verdict
 use Rattle.sc_rules.specs.declared.entity_types.entity_type.EntityType.{EntityType}
 use Rattle.sc_machine_laws.specs.states.World.{Answer, Request, Frame, World, rights_of, enter}
 use Rattle.sc_machine_laws.specs.states.Steps.{waits_for, AnswersNobody, Enters}

@@ -5,8 +5,8 @@ use Rattle.std.specs.Option.{option_map}
 use Rattle.std.specs.List.{list_any}
 use Rattle.std.proofs.lemmas.Bool.{eqb-false, ne_eqb}
 use Rattle.sc_lockpass.specs.Rights.{release_all, is_handler}
-use Rattle.sc_waitcond.specs.Reservations.{ends_session}
-use Rattle.sc_waitcond.specs.declared.session.Release.TheVariants as release_at
+use Rattle.sc_lockpass.specs.wait_conditions.Reservations.{ends_session}
+use Rattle.sc_lockpass.specs.declared.wait_conditions.session.Release.TheVariants as release_at
 use Rattle.sc_machine_laws.specs.states.World.{SupplierFailed, Handler, World, rights_of, is_waited_by, requests_of, told, ruined, fallen, fail}
 use Rattle.sc_machine_laws.specs.states.Steps.{MayFail, Fails, Steps}
 use Rattle.sc_machine_laws.specs.states.Consistent.{IsConsistent}

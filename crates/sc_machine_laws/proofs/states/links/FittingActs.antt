@@ -4,8 +4,8 @@ use Rattle.std.specs.List.{list_any}
 use Rattle.std.proofs.lemmas.Bool.{eqb-true}
 use Rattle.sc_tree.specs.Plain.{System}
 use Rattle.sc_lockpass.specs.Rights.{held}
-use Rattle.sc_waitcond.specs.Laws.{is_on}
-use Rattle.sc_waitcond.proofs.EntryLaws.{needs_unheld}
+use Rattle.sc_lockpass.specs.wait_conditions.Laws.{is_on}
+use Rattle.sc_lockpass.proofs.wait_conditions.EntryLaws.{needs_unheld}
 use Rattle.sc_model.specs.Values.{Value, Integer, Boolean, Void, Attached, handler_of}
 use Rattle.sc_model.specs.Environments.{Binding, is_separate_formal, separate_formals, block_values}
 use Rattle.sc_model.specs.Tasks.{Task, Do, Leave}

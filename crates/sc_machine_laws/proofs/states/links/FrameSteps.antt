@@ -5,8 +5,8 @@ use Rattle.sc_lockpass.specs.Rights.{is_among}
 use Rattle.sc_lockpass.specs.Rights as rights
 use Rattle.sc_lockpass.specs.Passing as passing
 use Rattle.sc_lockpass.specs.Passing.{Passed}
-use Rattle.sc_waitcond.specs.Reservations.{ends_session}
-use Rattle.sc_waitcond.specs.declared.session.Release.{Release}
+use Rattle.sc_lockpass.specs.wait_conditions.Reservations.{ends_session}
+use Rattle.sc_lockpass.specs.declared.wait_conditions.session.Release.{Release}
 use Rattle.sc_machine_laws.specs.states.World.{Answer, Request, Frame, World, rights_of, give_back, pop, finish}
 use Rattle.sc_machine_laws.specs.states.Steps.{waits_for, IsActive, HasReleased, Ends, AnswersNobody, MayFail, Pops, Finishes, Steps, Still, answered}
 use Rattle.sc_machine_laws.specs.states.Consistent.{IsConsistent}

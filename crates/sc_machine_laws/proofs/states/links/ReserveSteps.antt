@@ -5,18 +5,18 @@ use Rattle.std.proofs.Common.{◌≡◌, ◌≢◌, inl, ℕ, ◌<◌, ◌≤◌
 use Rattle.std.specs.Prelude.{is_some, if◌then◌else◌}
 use Rattle.sc_lockpass.specs.Rights.{Rights, is_among}
 use Rattle.sc_lockpass.specs.Rights as rights
-use Rattle.sc_waitcond.specs.declared.mark.Marked.{Marked}
-use Rattle.sc_waitcond.specs.Reservations as reservations
-use Rattle.sc_waitcond.specs.Reservations.{Standing, reserve_fails, reserve_is_enabled, is_idle}
-use Rattle.sc_waitcond.specs.Laws.{is_on}
-use Rattle.sc_waitcond.proofs.EntryLaws.{needs_unheld}
+use Rattle.sc_lockpass.specs.declared.wait_conditions.mark.Marked.{Marked}
+use Rattle.sc_lockpass.specs.wait_conditions.Reservations as reservations
+use Rattle.sc_lockpass.specs.wait_conditions.Reservations.{Standing, reserve_fails, reserve_is_enabled, is_idle}
+use Rattle.sc_lockpass.specs.wait_conditions.Laws.{is_on}
+use Rattle.sc_lockpass.proofs.wait_conditions.EntryLaws.{needs_unheld}
 use Rattle.sc_model.specs.Values.{Value, Integer, Boolean, Void, Attached, handler_of}
 use Rattle.sc_model.specs.Environments.{Binding, separate_formals, block_values}
 use Rattle.sc_model.specs.Tasks.{Task}
 use Rattle.sc_rules.specs.Names.{is_block}
 use Rattle.sc_machine_laws.proofs.states.links.Points.{IsOpened}
 use Rattle.sc_lockpass.specs.Rights.{held}
-use Rattle.sc_waitcond.proofs.WaitLaws.{reserves_unreserved, reserves_idle}
+use Rattle.sc_lockpass.proofs.wait_conditions.WaitLaws.{reserves_unreserved, reserves_idle}
 use Rattle.sc_machine_laws.specs.states.World as world
 use Rattle.sc_machine_laws.specs.states.World.{Answer, Wait, Request, Reservation, Frame, Handler, World, holder, rights_of, is_waited_by, and_this, and_begun, requests_of, enter, resumed, take_answer}
 use Rattle.sc_machine_laws.specs.states.Steps.{IsActive, Holds, EachHeld, Settles, waits_for, IsIdle, Enters, Then}

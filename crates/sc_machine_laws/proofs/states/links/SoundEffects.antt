@@ -2,10 +2,10 @@
 use Rattle.std.proofs.Common.{◌≡◌, ℕ, suc, ◌<◌, ◌&&◌, not, Bool, true, false, List, [], ◌∷◌, ◌++◌, length, refl, sym, ◌∙◌, subst, arith}
 use Rattle.std.specs.Prelude.{nat_lt}
 use Rattle.sc_tree.specs.Plain.{System}
-use Rattle.sc_waitcond.specs.Reservations.{mark_of}
-use Rattle.sc_waitcond.specs.declared.session.Release.TheVariants as release_at
-use Rattle.sc_waitcond.specs.declared.condition.EntryVerdict.{EntryVerdict}
-use Rattle.sc_waitcond.specs.declared.condition.EntryVerdict.TheVariants as verdict
+use Rattle.sc_lockpass.specs.wait_conditions.Reservations.{mark_of}
+use Rattle.sc_lockpass.specs.declared.wait_conditions.session.Release.TheVariants as release_at
+use Rattle.sc_lockpass.specs.declared.wait_conditions.condition.EntryVerdict.{EntryVerdict}
+use Rattle.sc_lockpass.specs.declared.wait_conditions.condition.EntryVerdict.TheVariants as verdict
 use Rattle.sc_model.specs.declared.cause.Cause.TheVariants as cause
 use Rattle.sc_model.specs.Values.{values_of}
 use Rattle.sc_model.specs.Objects.{object_numbered}

@@ -5,7 +5,7 @@ use Rattle.std.specs.Option.{option_map}
 use Rattle.std.specs.List.{list_any}
 use Rattle.sc_rules.specs.declared.entity_types.entity_type.EntityType.{EntityType}
 use Rattle.sc_lockpass.specs.Rights.{Rights}
-use Rattle.sc_waitcond.specs.declared.session.Release.TheVariants as release_at
+use Rattle.sc_lockpass.specs.declared.wait_conditions.session.Release.TheVariants as release_at
 use Rattle.sc_machine_laws.specs.states.World.{Request, Frame, Handler, World, holder, rights_of, is_waited_by, and_this, and_begun, requests_of, resumed, take_answer}
 use Rattle.sc_machine_laws.specs.states.Steps.{waits_for, IsActive, AnswersNobody, Step, Answers, answered}
 use Rattle.sc_machine_laws.specs.states.Stands.{NeedsOf, NamesOf, answer_of, handlers_of, IsRoutine, AreBlocks, place_of, Awaited, IsCreation, IsStaged, IsStack, IsHandler, IsNew, Stands}

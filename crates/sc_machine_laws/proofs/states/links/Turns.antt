@@ -4,7 +4,7 @@ use Rattle.std.specs.Prelude.{nat_lt}
 use Rattle.std.proofs.lemmas.Bool.{ltb-true}
 use Rattle.sc_tree.specs.Plain.{System}
 use Rattle.sc_lockpass.specs.Rights.{is_among}
-use Rattle.sc_waitcond.proofs.EntryLaws.{needs_once}
+use Rattle.sc_lockpass.proofs.wait_conditions.EntryLaws.{needs_once}
 use Rattle.sc_machine_laws.specs.states.World.{Asked, World}
 use Rattle.sc_machine_laws.specs.states.Stands.{names_in, NeedsOf, NamesOf, IsRoutine, AreBlocks, Place, left_in, place_of, IsStaged, IsStack, Stands}
 use Rattle.sc_machine_laws.proofs.states.links.Lists.{distinct_apart}

@@ -1,5 +1,5 @@
 use Rattle.std.proofs.Common.{[], ◌∷◌, ◌∙◌, ap, sym}
-use Rattle.sc_waitcond.specs.declared.session.Release.TheVariants as release_at
+use Rattle.sc_lockpass.specs.declared.wait_conditions.session.Release.TheVariants as release_at
 use Rattle.sc_handler.specs.Handlers.{State}
 use Rattle.sc_request.specs.Places.{plain}
 use Rattle.sc_request.specs.Sessions.{release}

@@ -1,6 +1,6 @@
 use Rattle.std.proofs.Common.{◌≡◌, ℕ, List, rules, ◌∙◌, ap}
 use Rattle.std.specs.Prelude.{slice_index}
-use Rattle.sc_waitcond.specs.Reservations.{mark_of}
+use Rattle.sc_lockpass.specs.wait_conditions.Reservations.{mark_of}
 use Rattle.sc_lockpass.specs.Tables.{rights_of}
 use Rattle.sc_request.specs.Places.{plain}
 use Rattle.sc_request.proofs.Releases.{released, waits}

@@ -1,6 +1,0 @@
-use Rattle.std.proofs.Common.{◌≡◌, drop}
-use Rattle.sc_waitcond.specs.Conditions as conditions
-use Rattle.sc_waitcond.proofs.entry.Entry.verdict.Given as goal
-
-abbrev pub invariant-loop-clause : goal.invariant-loop-clause
-invariant-loop-clause l = conditions.verdict (drop l.clause-index l.results) ≡ conditions.verdict l.results

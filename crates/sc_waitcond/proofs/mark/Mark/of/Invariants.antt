@@ -1,6 +1,0 @@
-use Rattle.std.proofs.Common.{◌≡◌, take, slice_index}
-use Rattle.sc_waitcond.specs.Reservations.{mark_of}
-use Rattle.sc_waitcond.proofs.mark.Mark.of.Given as goal
-
-abbrev pub invariant-loop-handler : goal.invariant-loop-handler
-invariant-loop-handler l = l.counts.items ≡ mark_of (slice_index l.sessions) (take l.handler-index l.reserved)
