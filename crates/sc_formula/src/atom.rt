@@ -1,6 +1,6 @@
 //! Atoms: what an invariant sees of an object.
 ghost use Rattle.std.specs.Prelude.{◌≡◌};
-ghost use Rattle.sc_formula.specs.Atom.{kind_of};
+ghost use Rattle.sc_formula.specs.Atom.{boolean_at, integer_at, kind_of, void_at};
 
 /// What an invariant sees of one attribute of an object.
 #[derive(Clone, Copy, PartialEq, Eq)]
@@ -34,5 +34,35 @@ impl Atom {
             Atom::Boolean(_) => AtomKind::Boolean,
             Atom::Reference { .. } => AtomKind::Reference,
         }
+    }
+}
+
+/// The integer of the attribute of this number, where it is there and has one.
+pub(crate) fn integer_at(atoms: &[Atom], number: u8) -> Option<i64>
+    ensures { result ≡ integer_at atoms.now number }
+{
+    match *atoms.get(usize::from(number))? {
+        Atom::Integer(value) => Some(value),
+        _ => None,
+    }
+}
+
+/// The truth value of the attribute of this number, where it is there and has one.
+pub(crate) fn boolean_at(atoms: &[Atom], number: u8) -> Option<bool>
+    ensures { result ≡ boolean_at atoms.now number }
+{
+    match *atoms.get(usize::from(number))? {
+        Atom::Boolean(value) => Some(value),
+        _ => None,
+    }
+}
+
+/// Whether the attribute of this number is Void, where it is there and may be.
+pub(crate) fn void_at(atoms: &[Atom], number: u8) -> Option<bool>
+    ensures { result ≡ void_at atoms.now number }
+{
+    match *atoms.get(usize::from(number))? {
+        Atom::Reference { is_void } => Some(is_void),
+        _ => None,
     }
 }

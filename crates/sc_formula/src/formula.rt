@@ -6,7 +6,7 @@ ghost use Rattle.sc_formula.specs.Formula.{Connected, Not, truth_of};
 ghost use Rattle.sc_formula.specs.Invariant.{Meets};
 ghost use Rattle.sc_formula.specs.Plain.{plain_formula};
 
-use crate::atom::Atom;
+use crate::atom::{Atom, boolean_at, void_at};
 use crate::comparison::Comparison;
 use crate::connective::Connective;
 use crate::term::Term;
@@ -86,18 +86,9 @@ pub fn eval(formula: &Formula, atoms: &[Atom]) -> Option<bool>
 {
     match formula {
         Formula::Constant(value) => Some(*value),
-        Formula::Attribute(number) => match *atoms.get(usize::from(*number))? {
-            Atom::Boolean(value) => Some(value),
-            _ => None,
-        },
-        Formula::IsVoid(number) => match *atoms.get(usize::from(*number))? {
-            Atom::Reference { is_void } => Some(is_void),
-            _ => None,
-        },
-        Formula::NotVoid(number) => match *atoms.get(usize::from(*number))? {
-            Atom::Reference { is_void } => Some(!is_void),
-            _ => None,
-        },
+        Formula::Attribute(number) => boolean_at(atoms, *number),
+        Formula::IsVoid(number) => void_at(atoms, *number),
+        Formula::NotVoid(number) => Some(!void_at(atoms, *number)?),
         Formula::Not(operand) => Some(!eval(operand, atoms)?),
         Formula::Compared(left, comparison, right) => {
             Some(comparison.holds(left.value(atoms)?, right.value(atoms)?))

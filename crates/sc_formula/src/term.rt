@@ -6,7 +6,7 @@ ghost use Rattle.sc_formula.specs.Plain.{plain_term};
 ghost use Rattle.sc_formula.specs.Term.{Arithmetic, Identity, Opposite, value_of};
 
 use crate::arithmetic::{self, ArithmeticOperator};
-use crate::atom::Atom;
+use crate::atom::{Atom, integer_at};
 use std::alloc::{AllocError, Global};
 
 /// An integer made from the attributes of one object.
@@ -60,10 +60,7 @@ impl Term {
     {
         match self {
             Term::Integer(value) => Some(*value),
-            Term::Attribute(number) => match *atoms.get(usize::from(*number))? {
-                Atom::Integer(value) => Some(value),
-                _ => None,
-            },
+            Term::Attribute(number) => integer_at(atoms, *number),
             Term::Identity(operand) => operand.value(atoms),
             Term::Opposite(operand) => arithmetic::opposite(operand.value(atoms)?).ok(),
             Term::Arithmetic(left, operator, right) => {
