@@ -4,7 +4,7 @@ ghost use Rattle.std.specs.Prelude.{◌≡◌};
 ghost use Rattle.sc_class.specs.declared.fault.ClassFault.TheVariants.{OutOfMemory};
 
 use sc_text::Span;
-use std::alloc::{AllocError, AllocFailed};
+use std::alloc::AllocError;
 use thiserror::Error;
 
 /// What a system has that this language leaves out of Eiffel.
@@ -62,14 +62,6 @@ impl From<AllocError> for ClassFault {
     ghost from_gives = { λ _ e. e ≡ OutOfMemory };
 
     fn from(_error: AllocError) -> ClassFault {
-        ClassFault::OutOfMemory
-    }
-}
-
-impl<T: Drop> From<AllocFailed<T>> for ClassFault {
-    ghost from_gives = { λ _ e. e ≡ OutOfMemory };
-
-    fn from(_error: AllocFailed<T>) -> ClassFault {
         ClassFault::OutOfMemory
     }
 }

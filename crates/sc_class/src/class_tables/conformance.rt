@@ -80,13 +80,6 @@ pub fn type_class(hierarchy: &Hierarchy, name: &str) -> Option<ClassId>
     }
 }
 
-/// Whether both types are detachable, or neither.
-fn is_same_mark(one: bool, other: bool) -> bool
-    ensures { result ≡ conformance.is_same_mark one other }
-{
-    if one { other } else { !other }
-}
-
 /// Whether two tags are the same.
 fn is_same_tag(one: &HandlerTag, other: &HandlerTag) -> bool
     ensures { result ≡ conformance.is_same_tag (handler_tag_of one.now) (handler_tag_of other.now) }
@@ -116,7 +109,7 @@ pub fn is_same_type(one: &DeclaredType, other: &DeclaredType) -> bool
     ensures { result ≡ conformance.is_same_type (type_of one.now) (type_of other.now) }
 {
     is_same_text(&one.class.text, &other.class.text)
-        && is_same_mark(one.is_detachable, other.is_detachable)
+        && one.is_detachable == other.is_detachable
         && is_same_tag(&one.tag, &other.tag)
 }
 

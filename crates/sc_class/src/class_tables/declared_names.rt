@@ -1,6 +1,6 @@
 //! The names of what a class declares itself.
 
-ghost use Rattle.std.specs.Prelude.{◌≡◌, ◌++◌, [], IfOk, OnOk, map};
+ghost use Rattle.std.specs.Prelude.{◌≡◌, ◌++◌, IfOk, OnOk, map};
 ghost use Rattle.sc_tree.specs.View.{name_of, feature_of, class_of};
 ghost use Rattle.sc_class.specs.Tables.Features.{redefined_by};
 ghost use Rattle.sc_class.specs.Tables.Declared.{created_by, declared_feature_names};
@@ -51,17 +51,6 @@ pub fn redefined_in(class: &Class) -> &[Name]
 }
 
 impl<'s> DeclaredNames<'s> {
-    /// No names.
-    fn none(alloc: Global) -> Self
-        ensures { result ≡ record { features = []; redefined = []; creators = [] } }
-    {
-        DeclaredNames {
-            features: NameIndex::new(alloc),
-            redefined: NameIndex::new(alloc),
-            creators: NameIndex::new(alloc),
-        }
-    }
-
     /// Adds the names of a class.
     #[tactic(auto, unfolding(sc_tree::specs::View::class_of))]
     fn add(&mut self, class: &'s Class) -> Result<(), AllocError>
@@ -83,6 +72,10 @@ pub fn declared_names_of<'s>(
 ) -> Result<DeclaredNames<'s>, AllocError>
     ensures { IfOk result (λ names. names ≡ names_of_class (class_of class.now)) }
 {
-    let mut names = DeclaredNames::none(alloc);
+    let mut names = DeclaredNames {
+        features: NameIndex::new(alloc),
+        redefined: NameIndex::new(alloc),
+        creators: NameIndex::new(alloc),
+    };
     names.add(class).and(Ok(names))
 }

@@ -33,19 +33,12 @@ fn taken_name(hierarchy: &Hierarchy, number: usize, name: &Name) -> Option<Span>
         result ≡ (if is_built_in n.text || not (option_eq nat_eq number_of_name (Some number))
         then Some n.span else None) }
 {
-    if is_taken(hierarchy, number, &name.text) {
+    let text = &name.text;
+    if is_built_in(text) || hierarchy.names.number(text) != Some(number) {
         Some(name.span)
     } else {
         None
     }
-}
-
-/// Whether the class at the number can't have the name.
-fn is_taken(hierarchy: &Hierarchy, number: usize, name: &str) -> bool
-    ensures { result
-        ≡ (is_built_in name.now || not (option_eq nat_eq (number_among name.now hierarchy.now.names) (Some number))) }
-{
-    is_built_in(name) || hierarchy.names.number(name) != Some(number)
 }
 
 /// The first parent in the text that is no class.

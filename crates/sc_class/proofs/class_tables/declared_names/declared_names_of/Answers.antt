@@ -19,12 +19,11 @@ are_of_class names c f g h =
 pub returns : goal.returns
 returns c =
     let k = class_of c.args.class.now in
-    let none = c.none-names.ensures in
     let names = c.add.new.self in
     rw c.and.ensures
-    (elim c.add.result as (λ r. OnOk r (names.features ≡ c.none-names.result.features ++ declared_feature_names k) → OnOk r (names.redefined ≡ c.none-names.result.redefined ++ redefined_by k)
-    → OnOk r (names.creators ≡ c.none-names.result.creators ++ created_by k) → IfOk (result_and r (Ok names)) (λ names. names ≡ names_of_class k)) [
-      | Ok u ↦ λ f g h. are_of_class names k (f ∙ ap (λ (n : DeclaredNames). n.features ++ declared_feature_names k) none)
-          (g ∙ ap (λ (n : DeclaredNames). n.redefined ++ redefined_by k) none) (h ∙ ap (λ (n : DeclaredNames). n.creators ++ created_by k) none)
+    (elim c.add.result as (λ r. OnOk r (names.features ≡ c.new.result ++ declared_feature_names k) → OnOk r (names.redefined ≡ c.new-2.result ++ redefined_by k)
+    → OnOk r (names.creators ≡ c.new-3.result ++ created_by k) → IfOk (result_and r (Ok names)) (λ names. names ≡ names_of_class k)) [
+      | Ok u ↦ λ f g h. are_of_class names k (f ∙ ap (λ (ns : List plain.Name). ns ++ declared_feature_names k) c.new.ensures)
+          (g ∙ ap (λ (ns : List plain.Name). ns ++ redefined_by k) c.new-2.ensures) (h ∙ ap (λ (ns : List plain.Name). ns ++ created_by k) c.new-3.ensures)
       | Err x ↦ λ f g h. tt
     ] c.add.ensures.features c.add.ensures.redefined c.add.ensures.creators)
