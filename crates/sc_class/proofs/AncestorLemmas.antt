@@ -81,23 +81,6 @@ named-along s k ks x =
     by None true = refl
     by None false = refl
 
--- one step of a search up from a class
-pub named-ancestors_from : (s : System) (x : List ℕ) (a b k : ℕ) (o : Option ℕ) (total : Option DeclaredFeature) → a ≡ suc b → o ≡ Some k → total ≡ named_among x (features_along s (ancestors_from a s o)) →
-    total ≡ then_named (named_among x (declared_features s k)) (is_listed x (redefined_names s k)) (named_among x (features_along s (ancestors_from b s (parent_number s k))))
-named-ancestors_from s x a b k o total e g h =
-    h ∙ ap (λ p. named_among x (features_along s (ancestors_from a s p))) g ∙ ap (λ (n : ℕ). named_among x (features_along s (ancestors_from n s (Some k)))) e ∙ named-along s k (ancestors_from b s (parent_number s k)) x
-
--- a search that has come to its end
-pub named_at_top : (s : System) (x : List ℕ) (a : ℕ) (o : Option ℕ) (total : Option DeclaredFeature) → o ≡ None → total ≡ named_among x (features_along s (ancestors_from a s o)) → None ≡ total
-named_at_top s x a o total e h = sym (h ∙ ap (λ p. named_among x (features_along s (ancestors_from a s p))) e)
-
-pub named_done : (s : System) (x : List ℕ) (a : ℕ) (o : Option ℕ) (total : Option DeclaredFeature) → a ≡ 0 → total ≡ named_among x (features_along s (ancestors_from a s o)) → None ≡ total
-named_done s x a o total e h = sym (h ∙ ap (λ (n : ℕ). named_among x (features_along s (ancestors_from n s o))) e ∙ by o)
-  where
-    by : (o : Option ℕ) → named_among x (features_along s (ancestors_from 0 s o)) ≡ None
-    by None = refl
-    by (Some k) = refl
-
 -- the ancestors above a class
 pub above-ancestors_from : (s : System) (n m k : ℕ) → m ≡ n - 1 → drop 1 (ancestors_within n s k) ≡ ancestors_from m s (parent_number s k)
 above-ancestors_from s zero m k e = by (parent_number s k) m e

@@ -1,6 +1,6 @@
 -- Features that are found by number, and those that are added along the ancestors of a class.
 use Rattle.std.proofs.Common.{◌≡◌, ◌+◌, ◌<◌, ◌≤◌, ℕ, Bool, true, false, cond, List, [], ◌∷◌, ◌++◌, Option, Some, None, length, get_or, map, drop, refl, ap, sym, ◌∙◌, append_assoc, add-one}
-use Rattle.std.specs.Prelude.{bytes_eq, not, is_some, slice_get, string_bytes}
+use Rattle.std.specs.Prelude.{bytes_eq, not, slice_get, string_bytes}
 use Rattle.std.specs.Option.{option_map, option_map_or, option_and_then, option_copied}
 use Rattle.std.specs.Borrow.{Bor}
 use Rattle.std.proofs.lemmas.Option.{slice_get-map}
@@ -15,7 +15,7 @@ use Rattle.sc_class.specs.Tables.Declared.{declared_feature_names, declared_feat
 use Rattle.sc_class.specs.Tables.Features.{DeclaredFeature, declared_in, declared_features, not_redefined, features_along, named_among}
 use Rattle.sc_class.specs.View.{entry_of}
 use Rattle.sc_class.proofs.Anys.{at}
-use Rattle.sc_class.proofs.AncestorLemmas.{then_named, not_redefined-none}
+use Rattle.sc_class.proofs.AncestorLemmas.{not_redefined-none}
 
 -- a list that is the image of another, read at one number
 pub at_image : {A B C : Type 0} (f : B → A) (g : A → C) (xs : List A) (ys : List B) → xs ≡ map f ys → (k : ℕ) (x : A) (d : C) → slice_get xs k ≡ Some x → g x ≡ option_map_or (λ y. g (f y)) (slice_get ys k) d
@@ -64,32 +64,6 @@ feature_in s k n c fs o e f g =
     ap (option_map feature_of) (g ∙ ap (λ fs. slice_get fs n) f) ∙ sym (slice_get-map feature_of c.features.items n) ∙ ap (λ (o : Option Class). slice_get (option_map_or (λ (c : Class). c.features) o []) n) (sym e)
 
 -- ---- along the ancestors
-
--- the search has come to a class that has this feature of its own or none, and that lists the name under `redefine` or doesn't
-module _ (total declared rest : Option DeclaredFeature) (listed : Bool) (o : Option FeatureEntry) (e : option_map entry_of o ≡ declared) (inv : total ≡ then_named declared listed rest) where
-  here : (b : Bool) → b ≡ listed → total ≡ then_named (option_map entry_of o) b rest
-  here b f = inv ∙ ap (λ d. then_named d listed rest) (sym e) ∙ ap (λ b. then_named (option_map entry_of o) b rest) (sym f)
-
-  pub named_found : is_some o ≡ true → option_map entry_of o ≡ total
-  named_found q = by o q ∙ sym (here listed refl)
-    where
-      by : (o : Option FeatureEntry) → is_some o ≡ true → option_map entry_of o ≡ then_named (option_map entry_of o) listed rest
-      by None q = cc
-      by (Some f) q = refl
-
-  pub named_redefined : (b : Bool) → b ≡ listed → b ≡ true → option_map entry_of o ≡ total
-  named_redefined b f q = by o ∙ ap (λ b. then_named (option_map entry_of o) b rest) (sym q) ∙ sym (here b f)
-    where
-      by : (o : Option FeatureEntry) → option_map entry_of o ≡ then_named (option_map entry_of o) true rest
-      by None = refl
-      by (Some f) = refl
-
-  pub named_on : is_some o ≡ false → (b : Bool) → b ≡ listed → b ≡ false → total ≡ rest
-  named_on q b f r = here b f ∙ ap (λ b. then_named (option_map entry_of o) b rest) r ∙ by o q
-    where
-      by : (o : Option FeatureEntry) → is_some o ≡ false → then_named (option_map entry_of o) false rest ≡ rest
-      by None q = refl
-      by (Some f) q = cc
 
 module _ (redefined : List Name) (k : ℕ) (fs : List tree_feature.Feature) (i : ℕ) (x : tree_feature.Feature) (l : i < length fs) (g : x ≡ get_or fs i x) (total : List DeclaredFeature)
     (y : List ℕ) (text : y ≡ string_bytes x.name.text) (b : Bool) (listed : b ≡ is_listed y redefined) where

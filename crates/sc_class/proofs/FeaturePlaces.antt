@@ -1,5 +1,5 @@
 -- Where the features of a name stand, class by class up the ancestors.
-use Rattle.std.proofs.Common.{◌≡◌, ℕ, suc, Bool, true, false, cond, List, [], ◌∷◌, map, Option, Some, None, refl, ap, ◌∙◌}
+use Rattle.std.proofs.Common.{◌≡◌, ℕ, Bool, true, false, cond, List, [], ◌∷◌, map, Option, Some, None, refl, ap, ◌∙◌}
 use Rattle.std.specs.Prelude.{bytes_eq, not, slice_get, if◌then◌else◌}
 use Rattle.std.specs.Option.{option_map_or}
 use Rattle.std.proofs.lemmas.List.{map-append}
@@ -7,7 +7,6 @@ use Rattle.sc_text.specs.declared.token.Span.{Span}
 use Rattle.sc_tree.specs.Plain.{System, Class, Feature, Name}
 use Rattle.sc_class.specs.Names.{is_listed}
 use Rattle.sc_class.specs.Tables.Declared.{declared_feature_names, declared_feature_names_at}
-use Rattle.sc_class.specs.Tables.Ancestors.{parent_number, ancestors_from}
 use Rattle.sc_class.specs.Tables.Features.{DeclaredFeature, declared_in, declared_features, redefined_names, not_redefined, features_along}
 use Rattle.sc_class.specs.Faults.Scopes.{feature_names}
 use Rattle.sc_class.specs.Internal.Found.{first_place}
@@ -52,24 +51,3 @@ place-along s x k ks =
     ap (place_among x) (map-append (λ (f : DeclaredFeature). f.feature.name) declared above) ∙ place-append x (feature_names declared) (feature_names above)
     ∙ ap (λ ns. first_place (place_among x ns) (place_among x (feature_names above))) (declared_names s k)
     ∙ ap (first_place (place_among x (declared_feature_names_at s k))) (place-not_redefined x (redefined_names s k) (features_along s ks))
-
--- ---- a search up from a class
-
--- the first place among so many classes from this one up
-abbrev pub place_from : System → List ℕ → ℕ → Option ℕ → Option Span
-place_from s x n o = place_among x (feature_names (features_along s (ancestors_from n s o)))
-
-module _ (s : System) (x : List ℕ) (a : ℕ) (o : Option ℕ) where
-  pub place-step : (b k : ℕ) → a ≡ suc b → o ≡ Some k →
-      place_from s x a o ≡ first_place (place_among x (declared_feature_names_at s k)) (cond (is_listed x (redefined_names s k)) None (place_from s x b (parent_number s k)))
-  place-step b k e f = ap (place_from s x a) f ∙ ap (λ (n : ℕ). place_from s x n (Some k)) e ∙ place-along s x k (ancestors_from b s (parent_number s k))
-
-  pub place-top : o ≡ None → place_from s x a o ≡ None
-  place-top f = ap (place_from s x a) f
-
-  pub place-done : a ≡ 0 → place_from s x a o ≡ None
-  place-done e = ap (λ (n : ℕ). place_from s x n o) e ∙ by o
-    where
-      by : (o : Option ℕ) → place_from s x 0 o ≡ None
-      by None = refl
-      by (Some k) = refl

@@ -1,20 +1,21 @@
 -- Features that are found by the names of all that a class has.
-use Rattle.std.proofs.Common.{◌≡◌, ◌<◌, ◌+◌, ℕ, Bool, true, false, cond, List, [], ◌∷◌, ◌++◌, Option, Some, None, length, map, refl, ap, sym, ◌∙◌, arith, add-one, below_more}
-use Rattle.std.specs.Prelude.{bytes_eq, slice_get}
-use Rattle.std.specs.Option.{option_map, option_and_then}
+use Rattle.std.proofs.Common.{◌≡◌, ◌<◌, ◌≤◌, ◌+◌, ℕ, zero, suc, Bool, true, false, cond, List, [], ◌∷◌, ◌++◌, Option, Some, None, length, map, refl, ap, sym, ◌∙◌, arith, add-one, below_more}
+use Rattle.std.specs.Prelude.{bytes_eq, nat_lt, slice_get}
+use Rattle.std.specs.Option.{option_map, option_map_or, option_and_then}
 use Rattle.std.proofs.lemmas.List.{length-append}
-use Rattle.std.proofs.lemmas.Option.{slice_get-map, slice_get_within}
-use Rattle.sc_text.specs.declared.token.Span.{Span}
-use Rattle.sc_tree.specs.Plain.{System}
+use Rattle.std.proofs.lemmas.Option.{slice_get-map, slice_get_past, slice_get_within}
+use Rattle.sc_tree.specs.Plain.{System, Class}
 use Rattle.sc_class.specs.declared.class_tables.feature_entry.FeatureEntry.{FeatureEntry}
 use Rattle.sc_class.specs.declared.class_tables.known_features.KnownFeatures.{KnownFeatures}
 use Rattle.sc_class.specs.Names.{number_among}
-use Rattle.sc_class.specs.Tables.Features.{DeclaredFeature, features, declared_features, named_among}
+use Rattle.sc_class.specs.Tables.Features.{DeclaredFeature, declared_in, features, features_along, declared_features, named_among, not_redefined, redefined_by}
+use Rattle.sc_class.specs.Tables.Ancestors.{ancestors_within, parent_of}
 use Rattle.sc_class.specs.Faults.Scopes.{feature_names}
 use Rattle.sc_class.specs.View.{entry_of}
-use Rattle.sc_class.specs.Internal.KnownFeatures.{entries_of, class_of_first, declarer_known, declarer, place_of_name, place_known, place_in}
+use Rattle.sc_class.specs.Internal.KnownFeatures.{entries_of, class_of_first, declarer_known, declarer}
 use Rattle.sc_class.proofs.Items.{read_append, read_last}
 use Rattle.sc_class.proofs.Declarers.{found_stands}
+use Rattle.sc_class.proofs.TableLemmas.{not_past}
 
 -- ---- by number
 
@@ -83,6 +84,20 @@ known_at s ts are k t e x o f =
     ap (option_map (λ (f : DeclaredFeature). f.class)) f ∙ sym (ap (λ (o : Option KnownFeatures). option_and_then (λ (t : KnownFeatures). class_of_first x (entries_of t)) o) e)
     ∙ are k (slice_get_within ts k t e) x
 
-pub placed_at : (s : System) (ts : List KnownFeatures) → ((k : ℕ) → k < length ts → (x : List ℕ) → place_known ts k x ≡ place_in s k x) → (k : ℕ) (t : KnownFeatures) → slice_get ts k ≡ Some t →
-    (x : List ℕ) (o : Option Span) → o ≡ place_of_name x (entries_of t) → o ≡ place_in s k x
-placed_at s ts are k t e x o f = f ∙ sym (ap (λ (o : Option KnownFeatures). option_and_then (λ (t : KnownFeatures). place_of_name x (entries_of t)) o) e) ∙ are k (slice_get_within ts k t e) x
+-- ---- a number that no class has
+
+module _ (s : System) (k : ℕ) where
+  none_beyond : (n : ℕ) → slice_get s.classes k ≡ None → features_along s (ancestors_within n s k) ≡ []
+  none_beyond zero e = refl
+  none_beyond (suc n) e = by (slice_get s.classes k) e
+    where
+      by : (o : Option Class) → o ≡ None → option_map_or (λ (c : Class). map (declared_in k) c.features) o [] ++ not_redefined (option_map_or redefined_by o []) (features_along s (option_map_or (ancestors_within n s) (option_and_then (parent_of s) o) [])) ≡ []
+      by None e = refl
+      by (Some c) e = cc
+
+  pub none_known : (ts : List KnownFeatures) → length ts ≡ length s.classes → slice_get ts k ≡ None → (x : List ℕ) → None ≡ named_among x (features s k)
+  none_known ts l e x = by (nat_lt k (length s.classes)) refl
+    where
+      by : (b : Bool) → nat_lt k (length s.classes) ≡ b → None ≡ named_among x (features s k)
+      by true f = let m : k < length s.classes = grind arith in absurd (not_past ts k (omega (arith, l, m)) e)
+      by false f = let m : length s.classes ≤ k = grind arith in sym (ap (named_among x) (none_beyond (length s.classes) (slice_get_past s.classes k m)))

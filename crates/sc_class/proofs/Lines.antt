@@ -1,28 +1,31 @@
 -- What is known by name in a line of classes, as it goes from class to class.
-use Rattle.std.proofs.Common.{◌≡◌, ◌<◌, ◌≤◌, ◌+◌, ℕ, zero, suc, Bool, true, false, cond, List, [], ◌∷◌, ◌++◌, ◌||◌, length, drop, get_or, map, Option, Some, None, refl, ap, sym, subst, ◌∙◌, arith}
-use Rattle.std.specs.Prelude.{bytes_eq, unwrap_or, is_some}
+use Rattle.std.proofs.Common.{◌≡◌, ◌<◌, ◌≤◌, ◌+◌, ◌-◌, ℕ, zero, suc, Bool, true, false, cond, List, [], ◌∷◌, ◌++◌, ◌||◌, length, drop, get_or, map, Option, Some, None, refl, ap, sym, subst, ◌∙◌, arith}
+use Rattle.std.specs.Prelude.{bytes_eq, nat_lt, unwrap_or, is_some, slice_get}
+use Rattle.std.specs.Bool.{OnTrue}
+use Rattle.std.proofs.lemmas.Bool.{OnTrue_from}
 use Rattle.std.specs.Borrow.{Bor}
 use Rattle.std.specs.HashMap.{HashMap, get_by, UpdatesBy}
-use Rattle.std.specs.Option.{option_map}
+use Rattle.std.specs.Option.{option_map, option_map_or}
+use Rattle.std.proofs.lemmas.Option.{slice_get_within}
 use Rattle.std.proofs.lemmas.Map.Text.{hash_map_updates_str}
 use Rattle.std.proofs.lemmas.List.{drop_all, drop_more, length-append, map-append}
 use Rattle.std.proofs.lemmas.List.Folds.{list_any-append}
 use Rattle.sc_text.specs.declared.token.Span.{Span}
-use Rattle.sc_tree.specs.Plain.{System, Name}
+use Rattle.sc_tree.specs.Plain.{System, Class, Name}
 use Rattle.sc_class.specs.declared.class_tables.line.NamedFeatures.{NamedFeatures}
 use Rattle.sc_class.specs.declared.class_tables.line.Change.{Change}
 use Rattle.sc_class.specs.declared.class_tables.line.Level.{Level}
 use Rattle.sc_class.specs.Names.{is_listed, number_among}
-use Rattle.sc_class.specs.Tables.Ancestors.{parent_number, ancestors_from}
-use Rattle.sc_class.specs.Tables.Declared.{declared_feature_names_at}
-use Rattle.sc_class.specs.Tables.Features.{DeclaredFeature, declared_features, redefined_names, features_along, named_among}
+use Rattle.sc_class.specs.Tables.Ancestors.{parent_number, ancestors, ancestors_from, ancestors_within}
+use Rattle.sc_class.specs.Tables.Declared.{declared_feature_names, declared_feature_names_at}
+use Rattle.sc_class.specs.Tables.Features.{DeclaredFeature, declared_features, redefined_by, redefined_names, features_along, named_among}
 use Rattle.sc_class.specs.Faults.Scopes.{feature_names}
 use Rattle.sc_class.specs.Internal.Found.{first_place}
 use Rattle.sc_class.specs.Internal.NameIndex.{place_among}
 use Rattle.sc_class.specs.Internal.KnownFeatures.{class_of_first}
 use Rattle.sc_class.specs.Internal.Lines.{no_features, named_along, named_up, joined, with_own, listed_names, known_by, kept_below, Said, put_in_turn, changes_of, said_of, said_below, above_in, IsWhole, IsLine, no_classes, one_more, StandsAt}
 use Rattle.sc_class.proofs.NameLemmas.{same_text}
-use Rattle.sc_class.proofs.AncestorLemmas.{listed-number, named-along, then_named}
+use Rattle.sc_class.proofs.AncestorLemmas.{above-ancestors_from, listed-number, named-along, then_named}
 use Rattle.sc_class.proofs.FeatureLemmas.{none_named}
 use Rattle.sc_class.proofs.Declarers.{declared_along}
 use Rattle.sc_class.proofs.FeaturePlaces.{declared_names, place-along}
@@ -123,15 +126,32 @@ own_named s k x above o e p f kept g =
     ∙ ap (λ (kept : NamedFeatures). joined (class_of_first x (declared_features s k)) (place_among x (declared_feature_names_at s k)) kept) g
 
 -- what is known of a name in a class that is entered
-pub entered : (s : System) (k n : ℕ) (x : List ℕ) (before : List ℕ → NamedFeatures) (changes above : List Change) → changes_of changes ≡ map (said_below s k) (changes_of above) → changes_of above ≡ said_of before (listed_names s k) →
-    ((y : List ℕ) → before y ≡ named_up s n (parent_number s k) y) → put_in_turn x (changes_of changes) (before x) ≡ named_up s (suc n) (Some k) x
-entered s k n x before changes above e f known =
+pub entered : (s : System) (k : ℕ) (x : List ℕ) (before : List ℕ → NamedFeatures) (changes above : List Change) → changes_of changes ≡ map (said_below s k) (changes_of above) → changes_of above ≡ said_of before (listed_names s k) →
+    put_in_turn x (changes_of changes) (before x) ≡ with_own s k x (before x)
+entered s k x before changes above e f =
     ap (λ (cs : List Said). put_in_turn x cs (before x)) (e ∙ ap (map (said_below s k)) f ∙ said_twice s k before (listed_names s k))
-    ∙ put_said x (λ y. with_own s k y (before y)) (listed_names s k) (before x) ∙ by (is_listed x (listed_names s k)) refl ∙ ap (with_own s k x) (known x) ∙ sym (up_step s k x n)
+    ∙ put_said x (λ y. with_own s k y (before y)) (listed_names s k) (before x) ∙ by (is_listed x (listed_names s k)) refl
   where
     by : (b : Bool) → is_listed x (listed_names s k) ≡ b → cond b (with_own s k x (before x)) (before x) ≡ with_own s k x (before x)
     by true q = refl
     by false q = sym (unlisted s k x q (before x))
+
+-- where there is no class, there is nothing to enter
+pub no_class : (s : System) (k : ℕ) (x : List ℕ) (above : NamedFeatures) → slice_get s.classes k ≡ None → above ≡ with_own s k x above
+no_class s k x above e = sym (unlisted s k x (ap (λ (o : Option Class). is_listed x (option_map_or declared_feature_names o [] ++ option_map_or redefined_by o [])) e) above)
+
+-- what is known along classes, of which the first is entered
+pub along_more : (s : System) (ks : List ℕ) (k : ℕ) (above : List ℕ) (known known' : List ℕ → NamedFeatures) → ks ≡ k ∷ above → ((x : List ℕ) → known' x ≡ with_own s k x (known x)) → ((x : List ℕ) → known x ≡ named_along s above x) → (x : List ℕ) → known' x ≡ named_along s ks x
+along_more s ks k above known known' e step is x = step x ∙ ap (with_own s k x) (is x) ∙ sym (along_step s k x above) ∙ sym (ap (λ (ls : List ℕ). named_along s ls x) e)
+
+itself_first : (s : System) (n k : ℕ) → k < n → ancestors_within n s k ≡ k ∷ drop 1 (ancestors_within n s k)
+itself_first s zero k l = absurd (omega (arith, l))
+itself_first s (suc n) k l = refl
+
+-- what is known in a class that is entered is what it has
+pub all_known : (s : System) (k : ℕ) (c : Class) (known known' : List ℕ → NamedFeatures) → slice_get s.classes k ≡ Some c → ((x : List ℕ) → known' x ≡ with_own s k x (known x)) → ((x : List ℕ) → known x ≡ named_along s (drop 1 (ancestors s k)) x) →
+    (x : List ℕ) → known' x ≡ named_along s (ancestors s k) x
+all_known s k c known known' e step is = along_more s (ancestors s k) k (drop 1 (ancestors s k)) known known' (itself_first s (length s.classes) k (slice_get_within s.classes k c e)) step is
 
 -- what is known of a name in the class above one that is left
 pub left : (s : System) (k n : ℕ) (x : List ℕ) (before : NamedFeatures) (above : List Change) → changes_of above ≡ above_in s n k → before ≡ named_up s (suc n) (Some k) x → put_in_turn x (changes_of above) before ≡ named_up s n (parent_number s k) x
@@ -216,7 +236,7 @@ entering s o levels levels' known known' l here stands p above below puts e = su
     is = record {
       is_line = one_more l p stands.is_line stands.is_whole (above ∙ said_same known (named_up s (length levels) (parent_number s l.class)) knows (listed_names s l.class));
       is_whole = subst (λ (n : ℕ). IsWhole s n (Some l.class)) (sym (longer levels l)) (whole_more s (length levels) l.class whole);
-      is_known = λ x. puts x ∙ entered s l.class (length levels) x known here l.above.items below above knows ∙ ap (λ (n : ℕ). named_up s n (Some l.class) x) (sym (longer levels l));
+      is_known = λ x. puts x ∙ entered s l.class x known here l.above.items below above ∙ ap (with_own s l.class x) (knows x) ∙ sym (up_step s l.class x (length levels)) ∙ ap (λ (n : ℕ). named_up s n (Some l.class) x) (sym (longer levels l));
     }
 
 pub leaving : (s : System) (o : Option ℕ) (levels all : List Level) (known known' : List ℕ → NamedFeatures) (l : Level) → StandsAt s o all known → all ≡ levels ++ l ∷ [] → ((x : List ℕ) → known' x ≡ put_in_turn x (changes_of l.above.items) (known x)) →
@@ -236,10 +256,19 @@ leaving s o levels all known known' l stands e puts o' p = subst (λ (o : Option
       is_known = λ x. puts x ∙ left s l.class (length levels) x (known x) l.above.items above.is_above (knew x);
     }
 
--- what is known in a line with no more than so many levels
-pub known_up : (s : System) (o : Option ℕ) (k : ℕ) (known : List ℕ → NamedFeatures) → IsWhole s k o × ((x : List ℕ) → known x ≡ named_up s k o x) → (n : ℕ) → k ≤ n → (p : Option ℕ) → o ≡ p → (x : List ℕ) → known x ≡ named_up s n p x
-known_up s o k known (whole, is) n l p e x =
-    is x ∙ ap (λ (ks : List ℕ). named_along s ks x) (sym (whole n l)) ∙ ap (λ (o : Option ℕ). named_up s n o x) e
+-- what is known in a line down to the parent of a class
+pub above_known : (s : System) (o : Option ℕ) (levels : List Level) (known : List ℕ → NamedFeatures) (k : ℕ) → StandsAt s o levels known → o ≡ parent_number s k → length levels < length s.classes → (x : List ℕ) → known x ≡ named_along s (drop 1 (ancestors s k)) x
+above_known s o levels known k stands e l x =
+    let above : ℕ = length s.classes - 1 in
+    stands.is_known x ∙ ap (λ (ks : List ℕ). named_along s ks x) (sym (stands.is_whole above (omega (arith, l)))) ∙ ap (λ (o : Option ℕ). named_up s above o x) e
+    ∙ ap (λ (ks : List ℕ). named_along s ks x) (sym (above-ancestors_from s (length s.classes) above k refl))
+
+pub above_if : (s : System) (o p : Option ℕ) (levels : List Level) (known : List ℕ → NamedFeatures) (k n m : ℕ) → StandsAt s o levels known → o ≡ p → p ≡ parent_number s k → n ≡ length levels → m ≡ length s.classes →
+    OnTrue (nat_lt n m) ((x : List ℕ) → known x ≡ named_along s (drop 1 (ancestors s k)) x)
+above_if s o p levels known k n m stands e f g h = OnTrue_from (nat_lt n m) ((x : List ℕ) → known x ≡ named_along s (drop 1 (ancestors s k)) x) (λ t. above_known s o levels known k stands (e ∙ f) (fewer t))
+  where
+    fewer : nat_lt n m ≡ true → length levels < length s.classes
+    fewer t = let l : n < m = grind arith in omega (arith, l, g, h)
 
 -- the feature that is declared first along classes is that of the class which declares it
 pub declared_up : (s : System) (ks x : List ℕ) (k : ℕ) → class_of_first x (features_along s ks) ≡ Some k → named_among x (declared_features s k) ≡ named_among x (features_along s ks)

@@ -41,7 +41,3 @@ place-append x (n ∷ ns) ms = ap (first_place (place_if x n)) (place-append x n
 
 pub place-one : (x : List ℕ) (ns : List Name) (n : Name) → place_among x (ns ++ n ∷ []) ≡ first_place (place_among x ns) (place_if x n)
 place-one x ns n = place-append x ns (n ∷ []) ∙ ap (first_place (place_among x ns)) (first_place-none (place_if x n))
-
--- a search along a list, whose next part is behind the one that was looked at
-pub search_on : (total found next here rest : Option Span) → total ≡ first_place found (first_place here rest) → next ≡ first_place found here → total ≡ first_place next rest
-search_on total found next here rest e f = e ∙ sym (first_place-assoc found here rest) ∙ ap (λ a. first_place a rest) (sym f)

@@ -1,8 +1,6 @@
 -- What the functions of `specs/Internal/ScopeSearch` give is the first clash in the text, and where they give none there is none.
 use Rattle.std.proofs.Common.{◌≡◌, Bool, true, false, List, [], ◌∷◌, ◌++◌, Option, Some, None, refl, sym, subst, ◌∙◌, ◌⊎◌, inl, inr}
-use Rattle.std.specs.Prelude.{Any, IfOk, Ok, Err, if◌then◌else◌}
-use Rattle.std.specs.Prelude as result
-use Rattle.std.specs.declared.alloc.AllocError.{AllocError}
+use Rattle.std.specs.Prelude.{Any, if◌then◌else◌}
 use Rattle.std.proofs.lemmas.List.{append_assoc, append-nil}
 use Rattle.sc_text.specs.declared.token.Span.{Span}
 use Rattle.sc_tree.specs.declared.expression.UnaryOperator.{UnaryOperator}
@@ -326,7 +324,7 @@ parts_found fs ms ns inner e pre post body =
     (clauses_found fs ms pre)
     (either_of (InstrsClash (fs ++ ns) body) (ClausesClash (fs ++ ms) post) (instrs_clash fs ns body) (clauses_clash fs ms post) (instrs_found fs ns body) (clauses_found fs ms post)))
 
-pub kind_found : (fs : List Name) (k : FeatureKind) → FindsFirstPlace (RoutineClashes fs k) (kind_clash fs k)
+kind_found : (fs : List Name) (k : FeatureKind) → FindsFirstPlace (RoutineClashes fs k) (kind_clash fs k)
 unfolding kind_clash
 kind_found fs (Attribute t) = λ p x. elim x [ ]
 kind_found fs (Routine r) =
@@ -338,6 +336,5 @@ kind_found fs (Routine r) =
     (λ p c. entity c) (λ p c. routine_behind c) (λ p c. routine_parts c) (entities_found fs formals locals)
     (parts_found fs formals (formals ++ locals) (fs ++ formals ++ locals) (sym (append_assoc fs formals locals)) r.precondition r.postcondition r.body)
 
-pub found_in_kind : (fs : List Name) (k : FeatureKind) (r : result.Result (Option Span) AllocError) → IfOk r (λ place. place ≡ kind_clash fs k) → IfOk r (FindsFirstPlace (RoutineClashes fs k))
-found_in_kind fs k (Ok place) e = subst (FindsFirstPlace (RoutineClashes fs k)) (sym e) (kind_found fs k)
-found_in_kind fs k (Err x) e = tt
+pub found_in_kind : (fs : List Name) (k : FeatureKind) (o : Option Span) → o ≡ kind_clash fs k → FindsFirstPlace (RoutineClashes fs k) o
+found_in_kind fs k o e = subst (FindsFirstPlace (RoutineClashes fs k)) (sym e) (kind_found fs k)

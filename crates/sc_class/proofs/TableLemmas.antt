@@ -145,7 +145,7 @@ lists_more s lists lines' v n e f (l, below) =
         ap (λ (vs : List (Vec ℕ Global)). ancestors_in vs n) f
         ∙ ap (λ (o : Option (Vec ℕ Global)). option_map_or (λ (v : Vec ℕ Global). v.items) o []) (ap (slice_get (lists ++ v ∷ [])) (sym l) ∙ read_last lists v) ∙ e
 
-not_past : {A : Type 0} (xs : List A) (k : ℕ) → k < length xs → slice_get xs k ≡ None → ⊥
+pub not_past : {A : Type 0} (xs : List A) (k : ℕ) → k < length xs → slice_get xs k ≡ None → ⊥
 not_past [] k l e = absurd (omega arith)
 not_past (x ∷ xs) zero l e = cc
 not_past (x ∷ xs) (suc k) l e = not_past xs k (less l) e

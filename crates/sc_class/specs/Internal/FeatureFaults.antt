@@ -1,26 +1,19 @@
 -- What is found at fault in the features of classes, as the code holds it.
-use Rattle.std.specs.Prelude.{◌≡◌, ◌⊎◌, ℕ, List, [], Option, Some, Any, map, slice_get}
+use Rattle.std.specs.Prelude.{◌≡◌, ◌⊎◌, ℕ, List, Option, Some, Any, slice_get}
 use Rattle.sc_text.specs.declared.token.Span.{Span}
 use Rattle.sc_tree.specs.Plain.{System, Class}
 use Rattle.sc_class.specs.declared.faults.features.FeatureFaults.{FeatureFaults}
-use Rattle.sc_class.specs.declared.faults.scopes.features.Part.TheVariants.{Inherited}
 use Rattle.sc_class.specs.Tables.Features.{features}
 use Rattle.sc_class.specs.Faults.Scopes.{ClassClashes, ClausesClash, RoutineClashes, feature_names}
 use Rattle.sc_class.specs.Faults.Redefinition.{BadlyRedefines}
 use Rattle.sc_class.specs.Internal.Found.{FindsFirstPlace}
 use Rattle.sc_class.specs.Internal.FaultAt.{FaultBefore, FaultAt}
-use Rattle.sc_class.specs.Internal.ScopeSearch.{names_of_part, names_clash}
 
 -- Names clash in the routines of the class at the number, or in its invariant.
 abbrev pub TextsClash : System → ℕ → Class → Span → Type 0
 TextsClash s k c p =
     Any (λ f. RoutineClashes (feature_names (features s k)) f.kind p) c.features
     ⊎ ClausesClash (feature_names (features s k)) c.invariant p
-
--- what clashes of the names that a class declares, and what it redefines badly
-pub record AreAbove (s : System) (k : ℕ) (c : Class) (f : FeatureFaults) : Type 0 where
-  pub clash : f.clash ≡ names_clash (names_of_part Inherited s k) [] (map (λ f. f.name) c.features)
-  pub redefinition : FindsFirstPlace (BadlyRedefines s k c) f.redefinition
 
 -- what is at fault in a class
 pub record AreOf (s : System) (k : ℕ) (c : Class) (f : FeatureFaults) : Type 0 where

@@ -26,11 +26,3 @@ declarer s k x = class_of_first x (features s k)
 
 abbrev pub place_of_name : List ℕ → List DeclaredFeature → Option Span
 place_of_name x fs = place_among x (feature_names fs)
-
--- the first place at which a feature of this name stands, by what is known of the class at a number
-abbrev pub place_known : List KnownFeatures → ℕ → List ℕ → Option Span
-place_known ts k x = option_and_then (λ t. place_of_name x (entries_of t)) (slice_get ts k)
-
--- the same, by the system
-abbrev pub place_in : System → ℕ → List ℕ → Option Span
-place_in s k x = place_of_name x (features s k)

@@ -1,6 +1,6 @@
 -- Lines of classes, each the parent of the next, with what is known by name of the last one's features, as the code
 -- holds them.
-use Rattle.std.specs.Prelude.{◌≡◌, ◌≤◌, ◌∷◌, ◌++◌, ℕ, List, [], Option, Some, None, bytes_eq, length, map, unwrap_or, if◌then◌else◌}
+use Rattle.std.specs.Prelude.{◌≡◌, ◌≤◌, ◌∷◌, ◌++◌, ℕ, List, [], Option, Some, None, bytes_eq, drop, length, map, unwrap_or, if◌then◌else◌}
 use Rattle.std.specs.Borrow.{Bor}
 use Rattle.std.specs.HashMap.{HashMap, get_by}
 use Rattle.sc_text.specs.declared.token.Span.{Span}
@@ -9,8 +9,10 @@ use Rattle.sc_class.specs.declared.class_tables.line.NamedFeatures.{NamedFeature
 use Rattle.sc_class.specs.declared.class_tables.line.Change.{Change}
 use Rattle.sc_class.specs.declared.class_tables.line.Level.{Level}
 use Rattle.sc_class.specs.declared.class_tables.line.Line.{Line}
+use Rattle.sc_class.specs.declared.faults.scopes.features.Part.{Part}
+use Rattle.sc_class.specs.declared.faults.scopes.features.Part.TheVariants.{All, Inherited}
 use Rattle.sc_class.specs.Names.{is_listed}
-use Rattle.sc_class.specs.Tables.Ancestors.{parent_number, ancestors_from}
+use Rattle.sc_class.specs.Tables.Ancestors.{parent_number, ancestors, ancestors_from}
 use Rattle.sc_class.specs.Tables.Declared.{declared_feature_names_at}
 use Rattle.sc_class.specs.Tables.Features.{declared_features, redefined_names, features_along}
 use Rattle.sc_class.specs.Internal.Found.{first_place}
@@ -105,12 +107,23 @@ pub record StandsAt (s : System) (o : Option ℕ) (levels : List Level) (known :
 abbrev pub Stands : System → Line → Type 0
 Stands s line = StandsAt s line.class line.levels.items (λ x. known_by x line.known)
 
--- What is known in the line, where there is one, is what its last class has.
-abbrev pub TellsIfAny : System → Option (Bor Line) → Type 0
-TellsIfAny s o =
-    (l : Bor Line) → o ≡ Some l → IsWhole s (length l.now.levels.items) l.now.class
-    × ((x : List ℕ) → known_by x l.now.known ≡ named_up s (length l.now.levels.items) l.now.class x)
+-- Where the first line stands at the parent of the class at the number, the second stands at that class.
+abbrev pub GoesOn : System → ℕ → Line → Line → Type 0
+GoesOn s k line line' = Stands s line → line.class ≡ parent_number s k → Stands s line'
 
--- What is known in the line is what this class has, or none, by so many classes on the way up from it.
-abbrev pub KnowsUp : System → ℕ → Option ℕ → Bor Line → Type 0
-KnowsUp s n o l = (x : List ℕ) → known_by x l.now.known ≡ named_up s n o x
+-- What is known in the line is what the first of these classes has, each of which is the parent of the one before it.
+abbrev pub KnowsAlong : System → List ℕ → Line → Type 0
+KnowsAlong s ks line = (x : List ℕ) → known_by x line.known ≡ named_along s ks x
+
+-- What is known in the line is what the class at the number inherits.
+abbrev pub KnowsAbove : System → ℕ → Line → Type 0
+KnowsAbove s k line = KnowsAlong s (drop 1 (ancestors s k)) line
+
+-- What is known in the line is what the class at the number has.
+abbrev pub KnowsAll : System → ℕ → Line → Type 0
+KnowsAll s k line = KnowsAlong s (ancestors s k) line
+
+-- What is known in the line is what this part of the features of the class at the number is found by.
+abbrev pub KnowsPart : Part → System → ℕ → Line → Type 0
+KnowsPart All s k line = KnowsAll s k line
+KnowsPart Inherited s k line = KnowsAbove s k line

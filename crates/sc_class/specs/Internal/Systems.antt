@@ -3,14 +3,9 @@ use Rattle.sc_tree.specs.Plain.{System}
 use Rattle.sc_tree.specs.View.{system_of}
 use Rattle.sc_class.specs.declared.class_tables.hierarchy.Hierarchy.{Hierarchy}
 use Rattle.sc_class.specs.declared.class_tables.outline.Outline.{Outline}
-use Rattle.sc_class.specs.declared.class_tables.ancestry.Ancestry.{Ancestry}
 
 abbrev pub in_hierarchy : Hierarchy → System
 in_hierarchy h = system_of h.system.now
 
 abbrev pub in_outline : Outline → System
 in_outline o = system_of o.hierarchy.system.now
-
--- the system of the class whose ancestors these are
-abbrev pub in_ancestry : Ancestry → System
-in_ancestry a = system_of a.outline.now.hierarchy.system.now

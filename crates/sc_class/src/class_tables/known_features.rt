@@ -2,14 +2,15 @@
 
 ghost use Rattle.std.specs.Prelude.{◌≡◌, IfOk, map};
 ghost use Rattle.std.specs.Option.{option_map};
+ghost use Rattle.sc_tree.specs.View.{system_of};
 ghost use Rattle.sc_class.specs.View.{entry_of};
-ghost use Rattle.sc_class.specs.Tables.Features.{named_among};
+ghost use Rattle.sc_class.specs.Tables.Features.{features, named_among};
 ghost use Rattle.sc_class.specs.Faults.Scopes.{feature_names};
-ghost use Rattle.sc_class.specs.Internal.NameIndex.{place_among};
 
+use crate::class_tables::ancestry::features_of;
 use crate::class_tables::feature_entry::FeatureEntry;
+use crate::class_tables::outline::Outline;
 use crate::names::NameIndex;
-use sc_text::Span;
 use std::alloc::{AllocError, Global};
 
 /// The features of a class, inherited ones too. Each is found by hash.
@@ -33,10 +34,12 @@ fn names_of<'s>(alloc: Global, entries: &[FeatureEntry<'s>]) -> Result<NameIndex
 }
 
 impl<'s> KnownFeatures<'s> {
-    /// These features.
-    pub fn of(alloc: Global, entries: Vec<FeatureEntry<'s>>) -> Result<Self, AllocError>
-        ensures { IfOk result (λ known. map entry_of known.entries.items ≡ map entry_of entries.entry.items) }
+    /// The features of the class at a number.
+    pub fn of(alloc: Global, outline: &Outline<'s>, number: usize) -> Result<Self, AllocError>
+        ensures { IfOk result (λ known. map entry_of known.entries.items
+            ≡ features (system_of outline.now.hierarchy.system.now) number) }
     {
+        let entries = features_of(alloc, outline, number)?;
         let names = names_of(alloc, &entries)?;
         Ok(KnownFeatures { entries, names })
     }
@@ -49,12 +52,5 @@ impl<'s> KnownFeatures<'s> {
             None => None,
             Some(number) => self.entries.get(number).copied(),
         }
-    }
-
-    /// The first place in the text at which a feature of this name stands. It looks once by hash.
-    pub fn place(&self, name: &str) -> Option<Span>
-        ensures { result ≡ place_among name.now (feature_names (map entry_of self.now.entries.items)) }
-    {
-        self.names.place(name)
     }
 }

@@ -1,16 +1,20 @@
 //! A line of classes, each the parent of the next, with what is known by name of the last one's features. Where one goes
 //! from class to class, each behind its parent, this takes time in proportion to what they declare and redefine.
 
-ghost use Rattle.std.specs.Prelude.{◌≡◌, ◌++◌, ℕ, List, [], None, Some, IfOk, OnOk, bytes_eq, length, map, slice_get, if◌then◌else◌};
+ghost use Rattle.std.specs.Prelude.{◌≡◌, ◌++◌, ℕ, List, [], None, Some, IfOk, OnOk, bytes_eq, map, slice_get, if◌then◌else◌};
 ghost use Rattle.std.specs.Bool.{OnTrue};
+ghost use Rattle.std.specs.Option.{option_map};
 ghost use Rattle.sc_tree.specs.View.{name_of, feature_of, class_of};
 ghost use Rattle.sc_class.specs.Tables.Ancestors.{parent_number};
 ghost use Rattle.sc_class.specs.Tables.Declared.{declared_feature_names};
-ghost use Rattle.sc_class.specs.Tables.Features.{redefined_by};
-ghost use Rattle.sc_class.specs.Internal.Lines.{Stands, change_of, changes_of, known_by, no_features, put_in_turn, said_below, said_of};
+ghost use Rattle.sc_class.specs.Tables.Features.{inherited_features, named_among, redefined_by};
+ghost use Rattle.sc_class.specs.View.{entry_of};
+ghost use Rattle.sc_class.specs.Internal.Lines.{GoesOn, KnowsAbove, Stands, change_of, changes_of, known_by, no_features, put_in_turn, said_below, said_of, with_own};
 ghost use Rattle.sc_class.specs.Internal.Systems.{in_hierarchy, in_outline};
 
+use crate::class_tables::ancestry::ancestors_of;
 use crate::class_tables::declared_names::redefined_in;
+use crate::class_tables::feature_entry::FeatureEntry;
 use crate::class_tables::hierarchy::Hierarchy;
 use crate::class_tables::outline::Outline;
 use sc_text::Span;
@@ -49,7 +53,7 @@ pub struct Line<'s> {
 }
 
 /// Whether the two are the same class, or none.
-pub fn is_same_class(one: Option<usize>, other: Option<usize>) -> bool
+fn is_same_class(one: Option<usize>, other: Option<usize>) -> bool
     ensures { OnTrue result (one ≡ other) }
 {
     match (one, other) {
@@ -119,13 +123,6 @@ impl<'s> Line<'s> {
         }
     }
 
-    /// How many classes there are.
-    pub fn len(&self) -> usize
-        ensures { result ≡ length self.now.levels.items }
-    {
-        self.levels.len()
-    }
-
     /// The features of the last class that have this name. It looks once by hash.
     pub fn named(&self, name: &str) -> NamedFeatures
         ensures { result ≡ known_by name.now self.now.known }
@@ -184,18 +181,18 @@ impl<'s> Line<'s> {
         Ok(changes)
     }
 
-    /// Goes on to a class, whose parent is the last one.
-    fn enter(
+    /// Goes on to a class. The line stands where the last one was its parent.
+    pub fn enter(
         &mut self,
         alloc: Global,
         outline: &Outline<'s>,
         number: usize,
         class: &'s Class,
     ) -> Result<(), AllocError>
-        requires stands { Stands (in_outline outline.now) self.old }
-        requires parent { self.old.class ≡ parent_number (in_outline outline.now) number }
-        requires text { slice_get (in_outline outline.now).classes number ≡ Some (class_of class.now) }
-        ensures { OnOk result (Stands (in_outline outline.now) self.new) }
+        requires { slice_get (in_outline outline.now).classes number ≡ Some (class_of class.now) }
+        ensures known { OnOk result ((x : List ℕ) → known_by x self.new.known
+            ≡ with_own (in_outline outline.now) number x (known_by x self.old.known)) }
+        ensures stands { OnOk result (GoesOn (in_outline outline.now) number self.old self.new) }
     {
         let above = self.known_above(alloc, class)?;
         let here = changes_in(alloc, outline, number, &above)?;
@@ -208,22 +205,60 @@ impl<'s> Line<'s> {
         Ok(())
     }
 
-    /// Goes on to a class, where its parent is the last one.
-    pub fn go_on(
+    /// Goes on to the class at a number, where there is one.
+    fn go_down(
         &mut self,
         alloc: Global,
         outline: &Outline<'s>,
         number: usize,
-        class: &'s Class,
     ) -> Result<(), AllocError>
-        requires stands { Stands (in_outline outline.now) self.old }
-        requires text { slice_get (in_outline outline.now).classes number ≡ Some (class_of class.now) }
-        ensures { OnOk result (Stands (in_outline outline.now) self.new) }
+        ensures { OnOk result ((x : List ℕ) → known_by x self.new.known
+            ≡ with_own (in_outline outline.now) number x (known_by x self.old.known)) }
     {
-        if is_same_class(self.class, outline.hierarchy.parent(number)) {
-            self.enter(alloc, outline, number, class)
-        } else {
-            Ok(())
+        let Some(class) = outline.class(number) else {
+            return Ok(());
+        };
+        self.enter(alloc, outline, number, class)
+    }
+
+    /// A line that knows what the class at a number inherits. It takes time in proportion to what its ancestors declare
+    /// and redefine.
+    pub fn above(alloc: Global, outline: &Outline<'s>, number: usize) -> Result<Self, AllocError>
+        ensures { IfOk result (KnowsAbove (in_outline outline.now) number) }
+    {
+        let ancestors = ancestors_of(alloc, &outline.hierarchy, number)?;
+        let last = ancestors.len().saturating_sub(1);
+        let mut line = Line::new(alloc);
+        for done in 0..last {
+            line.go_down(alloc, outline, ancestors[last - done])?;
+        }
+        Ok(line)
+    }
+
+    /// Whether the line has come to the parent of the class at a number.
+    pub fn is_above(&self, hierarchy: &Hierarchy, number: usize) -> bool
+        requires { Stands (in_hierarchy hierarchy.now) self.now }
+        ensures known { OnTrue result (KnowsAbove (in_hierarchy hierarchy.now) number self.now) }
+        ensures parent { OnTrue result (self.now.class ≡ parent_number (in_hierarchy hierarchy.now) number) }
+    {
+        is_same_class(self.class, hierarchy.parent(number))
+            && self.levels.len() < hierarchy.classes().len()
+    }
+
+    /// The feature of this name that the class at the number inherits. It looks twice by hash.
+    pub fn inherited(
+        &self,
+        outline: &Outline<'s>,
+        number: usize,
+        name: &str,
+    ) -> Option<FeatureEntry<'s>>
+        requires { KnowsAbove (in_outline outline.now) number self.now }
+        ensures { option_map entry_of result
+            ≡ named_among name.now (inherited_features (in_outline outline.now) number) }
+    {
+        match self.named(name).class {
+            None => None,
+            Some(class) => outline.declared(class, name),
         }
     }
 

@@ -1,45 +1,33 @@
 //! What each class declares itself, by name.
 
-ghost use Rattle.std.specs.Prelude.{◌≡◌, ◌<◌, ◌++◌, ℕ, List, IfOk, OnOk, map, length, slice_get};
+ghost use Rattle.std.specs.Prelude.{◌≡◌, ◌++◌, IfOk, OnOk, map, slice_get};
 ghost use Rattle.std.specs.Option.{option_map, option_copied};
 ghost use Rattle.sc_tree.specs.View.{name_of, feature_of, class_of, system_of};
-ghost use Rattle.sc_class.specs.Tables.Ancestors.{ancestors_from};
 ghost use Rattle.sc_class.specs.Names.{number_among, is_listed};
 ghost use Rattle.sc_class.specs.Tables.Declared.{features_at, declared_feature_names_at};
 ghost use Rattle.sc_class.specs.Internal.DeclaredNames.{names_of_class};
 ghost use Rattle.sc_class.specs.Tables.Declared.{creators_of};
-ghost use Rattle.sc_class.specs.Tables.Features.{redefined_names, declared_features, features, features_along, inherited_features, named_among, not_redefined};
+ghost use Rattle.sc_class.specs.Tables.Features.{redefined_names, declared_features, features_along, named_among, not_redefined};
 ghost use Rattle.sc_class.specs.View.{entry_of};
-ghost use Rattle.sc_class.specs.Faults.Scopes.{feature_names};
 ghost use Rattle.sc_class.specs.Internal.NameIndex.{place_among};
-ghost use Rattle.sc_class.specs.Internal.KnownFeatures.{declarer, declarer_known, place_in, place_known};
 ghost use Rattle.sc_class.specs.Internal.Lines.{kept_below, with_own};
 
-use crate::class_tables::ancestry::features_of;
 use crate::class_tables::declared_names::{DeclaredNames, declared_names_of, redefined_in};
 use crate::class_tables::feature_entry::FeatureEntry;
 use crate::class_tables::hierarchy::Hierarchy;
-use crate::class_tables::known_features::KnownFeatures;
 use crate::class_tables::line::NamedFeatures;
-use crate::faults::limits::{MAX_CLASSES, MAX_FEATURES};
 use crate::faults::places::first_place;
 use crate::names::NameIndex;
 use sc_text::Span;
 use sc_tree::{Class, Feature, Name};
 use std::alloc::{AllocError, Global};
 
-/// The classes of a system, with the names of what each declares itself. Of the first ones all features are found by
-/// hash, of every class where the limits are kept.
+/// The classes of a system, with the names of what each declares itself.
 #[derive(Drop)]
 pub struct Outline<'s> {
     pub hierarchy: Hierarchy<'s>,
     names: Vec<DeclaredNames<'s>>,
-    known: Vec<KnownFeatures<'s>>,
     ghost have_names: { names.items ≡ map names_of_class (system_of hierarchy.system.now).classes },
-    ghost are_known: { (k : ℕ) → k < length known.items → (x : List ℕ) → declarer_known known.items k x
-        ≡ declarer (system_of hierarchy.system.now) k x },
-    ghost are_placed: { (k : ℕ) → k < length known.items → (x : List ℕ) → place_known known.items k x
-        ≡ place_in (system_of hierarchy.system.now) k x },
 }
 
 /// The names of what each class declares.
@@ -56,49 +44,13 @@ fn names_of_each<'s>(
     Ok(names)
 }
 
-/// The features of the classes, by number, as far as the limits on classes and features are kept.
-fn known_features<'s>(
-    alloc: Global,
-    outline: &Outline<'s>,
-) -> Result<Vec<KnownFeatures<'s>>, AllocError>
-    ensures declarers { IfOk result (λ known. (k : ℕ) → k < length known.items → (x : List ℕ) →
-        declarer_known known.items k x
-        ≡ declarer (system_of outline.now.hierarchy.system.now) k x) }
-    ensures places { IfOk result (λ known. (k : ℕ) → k < length known.items → (x : List ℕ) → place_known known.items k x
-        ≡ place_in (system_of outline.now.hierarchy.system.now) k x) }
-{
-    let count = outline.hierarchy.classes().len().min(MAX_CLASSES);
-    let mut known = Vec::new(alloc);
-    for number in 0..count {
-        let entries = features_of(alloc, outline, number)?;
-        if entries.len() > MAX_FEATURES {
-            return Ok(known);
-        }
-        known.push(KnownFeatures::of(alloc, entries)?)?;
-    }
-    Ok(known)
-}
-
 impl<'s> Outline<'s> {
-    /// What the classes declare, and their features as far as the limits are kept.
+    /// What the classes declare.
     pub fn of(alloc: Global, hierarchy: Hierarchy<'s>) -> Result<Self, AllocError>
         ensures { IfOk result (λ outline. outline.hierarchy.system.now ≡ hierarchy.entry.system.now) }
     {
         let names = names_of_each(alloc, hierarchy.classes())?;
-        let mut outline = Outline {
-            hierarchy,
-            names,
-            known: Vec::new(alloc),
-        };
-        outline.know_features(alloc).and(Ok(outline))
-    }
-
-    /// Finds out the features of the classes.
-    fn know_features(&mut self, alloc: Global) -> Result<(), AllocError>
-        ensures { self.new.hierarchy ≡ self.old.hierarchy }
-    {
-        self.known = known_features(alloc, self)?;
-        Ok(())
+        Ok(Outline { hierarchy, names })
     }
 
     /// The class at a number.
@@ -176,61 +128,6 @@ impl<'s> Outline<'s> {
         }
     }
 
-    /// The feature of this name of a class, or of one of so many classes on the way up from it. It looks up to
-    /// twice by hash for each of them.
-    #[tactic(auto, using(crate::proofs::AncestorLemmas::named_at_top, crate::proofs::AncestorLemmas::named_done))]
-    fn named_from(&self, class: Option<usize>, count: usize, name: &str) -> Option<FeatureEntry<'s>>
-        ensures { option_map entry_of result
-            ≡ named_among name.now (features_along (system_of self.now.hierarchy.system.now) (ancestors_from count
-            (system_of self.now.hierarchy.system.now) class)) }
-    {
-        let mut next = class;
-        for _done in 0..count {
-            let Some(class) = next else {
-                return None;
-            };
-            let declared = self.declared(class, name);
-            if declared.is_some() || self.redefines(class, name) {
-                return declared;
-            }
-            next = self.hierarchy.parent(class);
-        }
-        None
-    }
-
-    /// The feature of this name of the class at the number. It looks twice by hash, and where a limit is passed up to
-    /// twice for each ancestor, until it is found.
-    pub fn named(&self, class: usize, name: &str) -> Option<FeatureEntry<'s>>
-        ensures { option_map entry_of result
-            ≡ named_among name.now (features (system_of self.now.hierarchy.system.now) class) }
-    {
-        match self.known.get(class) {
-            None => self.named_above(class, name),
-            Some(known) => match known.named(name) {
-                None => None,
-                Some(entry) => self.declared(entry.class, name),
-            },
-        }
-    }
-
-    /// The same, by a walk up the ancestors.
-    fn named_above(&self, class: usize, name: &str) -> Option<FeatureEntry<'s>>
-        ensures { option_map entry_of result
-            ≡ named_among name.now (features (system_of self.now.hierarchy.system.now) class) }
-    {
-        let count = self.hierarchy.classes().len();
-        self.named_from(Some(class), count, name)
-    }
-
-    /// The feature of this name of the parent of the class at the number.
-    pub fn inherited(&self, class: usize, name: &str) -> Option<FeatureEntry<'s>>
-        ensures { option_map entry_of result
-            ≡ named_among name.now (inherited_features (system_of self.now.hierarchy.system.now) class) }
-    {
-        let above = self.hierarchy.classes().len().saturating_sub(1);
-        self.named_from(self.hierarchy.parent(class), above, name)
-    }
-
     /// The first place at which a feature of this name stands that the class at the number declares itself. It looks
     /// once by hash.
     fn declared_place(&self, class: usize, name: &str) -> Option<Span>
@@ -241,63 +138,6 @@ impl<'s> Outline<'s> {
             None => None,
             Some(names) => names.features.place(name),
         }
-    }
-
-    /// The first place at which a feature of this name stands of a class and of so many classes on the way up from it.
-    /// It looks up to twice by hash for each of them.
-    fn place_from(&self, class: Option<usize>, count: usize, name: &str) -> Option<Span>
-        ensures { result
-            ≡ place_among name.now (feature_names (features_along (system_of self.now.hierarchy.system.now)
-            (ancestors_from count (system_of self.now.hierarchy.system.now) class))) }
-    {
-        let mut found = None;
-        let mut next = class;
-        for _done in 0..count {
-            let Some(class) = next else {
-                return found;
-            };
-            found = first_place(found, self.declared_place(class, name));
-            if self.redefines(class, name) {
-                return found;
-            }
-            next = self.hierarchy.parent(class);
-        }
-        found
-    }
-
-    /// The first place at which a feature of this name of the class at the number stands. It looks once by hash, and
-    /// where a limit is passed up to twice for each ancestor.
-    pub fn place(&self, class: usize, name: &str) -> Option<Span>
-        ensures { result ≡ place_among name.now
-            (feature_names (features (system_of self.now.hierarchy.system.now) class)) }
-    {
-        match self.known.get(class) {
-            None => self.place_above(class, name),
-            Some(known) => known.place(name),
-        }
-    }
-
-    /// The same, by a walk up the ancestors.
-    fn place_above(&self, class: usize, name: &str) -> Option<Span>
-        ensures { result ≡ place_among name.now
-            (feature_names (features (system_of self.now.hierarchy.system.now) class)) }
-    {
-        let count = self.hierarchy.classes().len();
-        self.place_from(Some(class), count, name)
-    }
-
-    /// The first place at which a feature of this name stands that the class at the number inherits and doesn't
-    /// redefine. It looks up to twice by hash for each ancestor.
-    pub fn inherited_place(&self, class: usize, name: &str) -> Option<Span>
-        ensures { let s = system_of self.now.hierarchy.system.now in
-            result ≡ place_among name.now
-            (feature_names (not_redefined (redefined_names s class) (inherited_features s class))) }
-    {
-        if self.redefines(class, name) {
-            return None;
-        }
-        let above = self.hierarchy.classes().len().saturating_sub(1);
-        self.place_from(self.hierarchy.parent(class), above, name)
     }
 
     /// The features of this name of the class at the number, where its parent has these. It looks up to three times by

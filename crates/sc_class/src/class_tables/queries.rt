@@ -15,7 +15,7 @@ ghost use Rattle.sc_class.specs.Tables.ByClass as by_class;
 ghost use Rattle.sc_class.specs.Internal.Systems.{in_outline};
 ghost use Rattle.sc_class.specs.SystemIn.{root_in, system_in};
 
-use crate::class_tables::ancestry::{ancestors_of_each, features_of};
+use crate::class_tables::ancestry::{ancestors_of_each, features_of, known_features};
 use crate::class_tables::feature_entry::FeatureEntry;
 use crate::class_tables::outline::Outline;
 use crate::class_tables::{Tables, conformance};
@@ -33,10 +33,12 @@ impl<'s> Tables<'s> {
     {
         let root = root.copied()?;
         let ancestors_of_each = ancestors_of_each(alloc, &outline.hierarchy)?;
+        let known = known_features(alloc, &outline)?;
         Ok(Tables {
             outline,
             root,
             ancestors_of_each,
+            known,
         })
     }
 
@@ -123,8 +125,22 @@ impl<'s> Tables<'s> {
         ensures { option_map entry_of result ≡ class_features.feature_named (system_in self.now) class name.now }
     {
         match class {
-            ClassId::Declared(number) => self.outline.named(number, name),
+            ClassId::Declared(number) => self.named(number, name),
             ClassId::Any | ClassId::None | ClassId::Integer | ClassId::Boolean => None,
+        }
+    }
+
+    /// The feature of this name of the class at a number.
+    fn named(&self, number: usize, name: &str) -> Option<FeatureEntry<'s>>
+        ensures { option_map entry_of result
+            ≡ class_features.named_among name.now (class_features.features (system_in self.now) number) }
+    {
+        match self.known.get(number) {
+            None => None,
+            Some(known) => match known.named(name) {
+                None => None,
+                Some(entry) => self.outline.declared(entry.class, name),
+            },
         }
     }
 

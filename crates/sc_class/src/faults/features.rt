@@ -2,11 +2,10 @@
 
 ghost use Rattle.std.specs.Prelude.{◌≡◌, Some, IfOk, OnOk, slice_get};
 ghost use Rattle.sc_tree.specs.View.{class_of};
-ghost use Rattle.sc_class.specs.Internal.FeatureFaults.{AreAbove, AreFound, AreOf, AreOfAll, Keeps};
-ghost use Rattle.sc_class.specs.Internal.Lines.{Stands};
-ghost use Rattle.sc_class.specs.Internal.Systems.{in_ancestry, in_outline};
+ghost use Rattle.sc_class.specs.Internal.FeatureFaults.{AreFound, AreOf, AreOfAll, Keeps};
+ghost use Rattle.sc_class.specs.Internal.Lines.{GoesOn, KnowsAbove, Stands};
+ghost use Rattle.sc_class.specs.Internal.Systems.{in_outline};
 
-use crate::class_tables::ancestry::Ancestry;
 use crate::class_tables::line::Line;
 use crate::class_tables::order::down_from_parents;
 use crate::class_tables::outline::Outline;
@@ -24,37 +23,27 @@ pub struct FeatureFaults {
     pub redefinition: Option<Span>,
 }
 
-/// What is at fault where the features of the parent of a class are known.
-fn faults_above(
+/// What is at fault in a class, where the line knows what it inherits. The line goes on to the class.
+fn faults_below<'s>(
     alloc: Global,
-    ancestry: &Ancestry,
-    class: &Class,
+    outline: &Outline<'s>,
+    line: &mut Line<'s>,
+    number: usize,
+    class: &'s Class,
 ) -> Result<FeatureFaults, AllocError>
-    ensures { IfOk result (AreAbove (in_ancestry ancestry.now) ancestry.now.number (class_of class.now)) }
+    requires known { KnowsAbove (in_outline outline.now) number line.old }
+    requires text { slice_get (in_outline outline.now).classes number ≡ Some (class_of class.now) }
+    ensures found { IfOk result (AreOf (in_outline outline.now) number (class_of class.now)) }
+    ensures stands { OnOk result (GoesOn (in_outline outline.now) number line.old line.new) }
 {
-    let clash = features_clash(alloc, ancestry, &class.features)?;
-    let redefinition = bad_redefinition(ancestry, class);
+    let above = features_clash(alloc, outline, &*line, number, &class.features)?;
+    let redefinition = bad_redefinition(outline, &*line, number, class);
+    line.enter(alloc, outline, number, class)?;
+    let inside = texts_clash(alloc, outline, &*line, number, class)?;
     Ok(FeatureFaults {
-        clash,
+        clash: first_place(above, inside),
         redefinition,
     })
-}
-
-/// The class at the number, of whose ancestors the line may tell.
-fn with_line<'t, 's>(
-    outline: &'t Outline<'s>,
-    number: usize,
-    line: &'t Line<'s>,
-) -> Ancestry<'t, 's>
-    requires { Stands (in_outline outline.now) line.now }
-    ensures of_it { in_ancestry result ≡ in_outline outline.now }
-    ensures at_it { result.number ≡ number }
-{
-    Ancestry {
-        outline,
-        number,
-        line: Some(line),
-    }
 }
 
 /// What is at fault in a class. The line goes on to the class where it has come to its parent.
@@ -71,15 +60,11 @@ fn faults_in_class<'s>(
     ensures stands { OnOk result (Stands (in_outline outline.now) line.new) }
 {
     line.return_to(&outline.hierarchy, outline.hierarchy.parent(number))?;
-    let above = with_line(&*outline, number, &*line);
-    let faults = faults_above(alloc, &above, class)?;
-    line.go_on(alloc, outline, number, class)?;
-    let here = with_line(&*outline, number, &*line);
-    let inside = texts_clash(alloc, &here, class)?;
-    Ok(FeatureFaults {
-        clash: first_place(faults.clash, inside),
-        redefinition: faults.redefinition,
-    })
+    if line.is_above(&outline.hierarchy, number) {
+        return faults_below(alloc, outline, line, number, class);
+    }
+    let mut above = Line::above(alloc, outline, number)?;
+    faults_below(alloc, outline, &mut above, number, class)
 }
 
 /// Keeps what is at fault in the class at the number.

@@ -4,35 +4,23 @@ ghost use Rattle.std.specs.Prelude.{◌≡◌, ◌↔◌, IfOk, IsTrue};
 ghost use Rattle.sc_class.specs.Faults.Limits as limits;
 ghost use Rattle.sc_class.specs.Internal.Systems.{in_outline};
 
-use crate::class_tables::ancestry::Ancestry;
+use crate::class_tables::ancestry::features_of;
 use crate::class_tables::outline::Outline;
 use crate::faults::routine_limits::has_large_routine;
 use std::alloc::{AllocError, Global};
 
 /// How many classes a system may have.
-pub const MAX_CLASSES: usize = 256;
+const MAX_CLASSES: usize = 256;
 /// How many features a class may have, inherited ones too.
-pub const MAX_FEATURES: usize = 256;
-
-/// Whether the class at the number has too many features.
-fn has_many_features(alloc: Global, outline: &Outline, number: usize) -> Result<bool, AllocError>
-    ensures { IfOk result (λ many. many ≡ limits.has_many_features (in_outline outline.now) number) }
-{
-    let ancestry = Ancestry {
-        outline,
-        number,
-        line: None,
-    };
-    let features = ancestry.features(alloc)?;
-    Ok(features.len() > MAX_FEATURES)
-}
+const MAX_FEATURES: usize = 256;
 
 /// Whether one of so many classes has too many features.
 fn has_large_class(alloc: Global, outline: &Outline, count: usize) -> Result<bool, AllocError>
     ensures { IfOk result (λ large. limits.TellsLargeClass (in_outline outline.now) count large) }
 {
     for number in 0..count {
-        if has_many_features(alloc, outline, number)? {
+        let features = features_of(alloc, outline, number)?;
+        if features.len() > MAX_FEATURES {
             return Ok(true);
         }
     }

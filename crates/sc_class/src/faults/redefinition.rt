@@ -4,43 +4,52 @@ ghost use Rattle.std.specs.Prelude.{◌≡◌, map};
 ghost use Rattle.sc_tree.specs.View.{clause_of, class_of, declaration_of, kind_of, name_of, type_if_any};
 ghost use Rattle.sc_class.specs.Internal.Found.{FindsFirstPlace};
 ghost use Rattle.sc_class.specs.Faults.Redefinition as redefinition;
-ghost use Rattle.sc_class.specs.Internal.Systems.{in_hierarchy, in_ancestry};
+ghost use Rattle.sc_class.specs.Internal.Lines.{KnowsAbove};
+ghost use Rattle.sc_class.specs.Internal.Systems.{in_hierarchy, in_outline};
 
-use crate::class_tables::ancestry::Ancestry;
 use crate::class_tables::conformance::{is_same_type, type_conforms};
 use crate::class_tables::declared_names::redefined_in;
 use crate::class_tables::hierarchy::Hierarchy;
+use crate::class_tables::line::Line;
+use crate::class_tables::outline::Outline;
 use crate::faults::places::first_place;
 use crate::names::is_same_text;
 use sc_text::Span;
 use sc_tree::{Class, Clause, Declaration, DeclaredType, FeatureKind, Name};
 
 /// A fault of what the class redefines.
-pub fn bad_redefinition(ancestry: &Ancestry, class: &Class) -> Option<Span>
-    ensures { FindsFirstPlace (redefinition.BadlyRedefines (in_ancestry ancestry.now) ancestry.now.number (class_of
+pub fn bad_redefinition(
+    outline: &Outline,
+    line: &Line,
+    number: usize,
+    class: &Class,
+) -> Option<Span>
+    requires { KnowsAbove (in_outline outline.now) number line.now }
+    ensures { FindsFirstPlace (redefinition.BadlyRedefines (in_outline outline.now) number (class_of
         class.now)) result }
 {
     let mut found = None;
     let redefined = redefined_in(class);
     for name in redefined {
-        found = first_place(found, badly_redefined(ancestry, name));
+        found = first_place(found, badly_redefined(outline, line, number, name));
     }
     found
 }
 
 /// A fault of one name that the class redefines.
-fn badly_redefined(ancestry: &Ancestry, name: &Name) -> Option<Span>
-    ensures { FindsFirstPlace (redefinition.NameBadlyRedefined (in_ancestry ancestry.now) ancestry.now.number (name_of
+fn badly_redefined(outline: &Outline, line: &Line, number: usize, name: &Name) -> Option<Span>
+    requires { KnowsAbove (in_outline outline.now) number line.now }
+    ensures { FindsFirstPlace (redefinition.NameBadlyRedefined (in_outline outline.now) number (name_of
         name.now)) result }
 {
-    let Some(inherited) = ancestry.inherited(&name.text) else {
+    let Some(inherited) = line.inherited(outline, number, &name.text) else {
         return Some(name.span);
     };
-    let Some(declared) = ancestry.outline.declared(ancestry.number, &name.text) else {
+    let Some(declared) = outline.declared(number, &name.text) else {
         return Some(name.span);
     };
     if can_redefine(
-        &ancestry.outline.hierarchy,
+        &outline.hierarchy,
         &declared.feature.kind,
         &inherited.feature.kind,
     ) {

@@ -6,7 +6,7 @@ ghost use Rattle.sc_class.specs.Faults.ClassRules as class_rules;
 ghost use Rattle.sc_class.specs.View.{root_of};
 ghost use Rattle.sc_class.specs.Internal.Systems.{in_outline};
 
-use crate::class_tables::ancestry::Ancestry;
+use crate::class_tables::known_features::KnownFeatures;
 use crate::class_tables::outline::Outline;
 use crate::root::Root;
 use sc_tree::FeatureKind;
@@ -38,12 +38,8 @@ fn creates_by(
     if !outline.creates(number, procedure) {
         return Ok(false);
     }
-    let ancestry = Ancestry {
-        outline,
-        number,
-        line: None,
-    };
-    match ancestry.feature(procedure) {
+    let known = KnownFeatures::of(alloc, outline, number)?;
+    match known.named(procedure) {
         None => Ok(false),
         Some(entry) => Ok(is_plain_procedure(&entry.feature.kind)),
     }

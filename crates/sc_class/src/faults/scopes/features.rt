@@ -4,9 +4,11 @@ ghost use Rattle.std.specs.Prelude.{◌≡◌, List};
 ghost use Rattle.sc_tree.specs.Plain as plain;
 ghost use Rattle.sc_class.specs.Internal.NameIndex.{place_among};
 ghost use Rattle.sc_class.specs.Internal.ScopeSearch.{names_of_part};
-ghost use Rattle.sc_class.specs.Internal.Systems.{in_ancestry};
+ghost use Rattle.sc_class.specs.Internal.Lines.{KnowsPart};
+ghost use Rattle.sc_class.specs.Internal.Systems.{in_outline};
 
-use crate::class_tables::ancestry::Ancestry;
+use crate::class_tables::line::Line;
+use crate::class_tables::outline::Outline;
 use sc_text::Span;
 use std::marker::Model;
 
@@ -19,25 +21,35 @@ pub enum Part {
     Inherited,
 }
 
-/// The names of features of a class.
+/// The names of features of a class, which are found in a line that knows them.
 #[derive(Drop)]
-pub struct Features<'l, 't, 's> {
-    ancestry: &'l Ancestry<'t, 's>,
+pub struct Features<'t, 's> {
+    outline: &'t Outline<'s>,
+    line: &'t Line<'s>,
+    number: usize,
     part: Part,
 }
 
-impl<'l, 't, 's> Model for Features<'l, 't, 's> {
+impl<'t, 's> Model for Features<'t, 's> {
     ghost Value = { List plain.Name };
 
-    ghost view = { λ f. names_of_part f.part (in_ancestry f.ancestry.now) f.ancestry.now.number };
+    ghost view = { λ f. names_of_part f.part (in_outline f.outline.now) f.number };
+
+    ghost invariant = { λ f. KnowsPart f.part (in_outline f.outline.now) f.number f.line.now };
 }
 
-impl<'l, 't, 's> Features<'l, 't, 's> {
-    /// These features of a class.
-    pub fn of(ancestry: &'l Ancestry<'t, 's>, part: Part) -> Self
-        ensures { result ≡ names_of_part part (in_ancestry ancestry.now) ancestry.now.number }
+impl<'t, 's> Features<'t, 's> {
+    /// These features of the class at a number.
+    pub fn of(outline: &'t Outline<'s>, line: &'t Line<'s>, number: usize, part: Part) -> Self
+        requires { KnowsPart part (in_outline outline.now) number line.now }
+        ensures { result ≡ names_of_part part (in_outline outline.now) number }
     {
-        Features { ancestry, part }
+        Features {
+            outline,
+            line,
+            number,
+            part,
+        }
     }
 
     /// The first place at which a feature of this name stands.
@@ -45,8 +57,14 @@ impl<'l, 't, 's> Features<'l, 't, 's> {
         ensures { result ≡ place_among name.now self.now }
     {
         match self.part {
-            Part::All => self.ancestry.place(name),
-            Part::Inherited => self.ancestry.inherited_place(name),
+            Part::All => self.line.named(name).place,
+            Part::Inherited => {
+                if self.outline.redefines(self.number, name) {
+                    None
+                } else {
+                    self.line.named(name).place
+                }
+            }
         }
     }
 }

@@ -3,8 +3,6 @@
 ghost use Rattle.std.specs.Prelude.{◌≡◌, [], IfOk};
 ghost use Rattle.sc_tree.specs.View.{kind_of};
 ghost use Rattle.sc_tree.specs.declared.system.FeatureKind.TheVariants as kind;
-ghost use Rattle.sc_class.specs.Internal.Found.{FindsFirstPlace};
-ghost use Rattle.sc_class.specs.Faults.Scopes.{RoutineClashes};
 ghost use Rattle.sc_class.specs.Internal.ScopeSearch as search;
 
 use crate::faults::places::first_place;
@@ -18,20 +16,10 @@ use sc_tree::{FeatureKind, Routine};
 use std::alloc::{AllocError, Global};
 
 /// The first place in the text at which a name clashes in a feature of a class that has these features.
-/// It goes over the feature once, and looks for each name twice by hash. Locals are known in the body alone.
-pub fn routine_clash(
-    alloc: Global,
-    features: &Features,
-    kind: &FeatureKind,
-) -> Result<Option<Span>, AllocError>
-    ensures { IfOk result (FindsFirstPlace (RoutineClashes features.now (kind_of kind.now))) }
-{
-    in_kind(alloc, features, kind)
-}
-
-/// In a feature: an attribute has no names of its own.
+/// It goes over the feature once, and looks for each name twice by hash. Locals are known in the body alone, and an
+/// attribute has no names of its own.
 #[tactic(auto, unfolding(crate::specs::Internal::ScopeSearch::kind_clash, sc_tree::specs::View::kind_of))]
-fn in_kind(
+pub fn routine_clash(
     alloc: Global,
     features: &Features,
     kind: &FeatureKind,

@@ -11,7 +11,7 @@ use Rattle.sc_class.proofs.faults.class_clashes.invariant_clash.Goals as goal
 
 pub returns : goal.returns
 returns c =
-    let ns = feature_names (features (system_of c.args.ancestry.now.outline.now.hierarchy.system.now) c.args.ancestry.now.number) in
+    let ns = feature_names (features (system_of c.args.outline.now.hierarchy.system.now) c.args.number) in
     let ks = map clause_of c.args.clauses.now in
     subst (FindsFirstPlace (ClausesClash ns ks))
     (sym (c.in_clauses.ensures ∙ ap (λ (fs : List Name). clauses_clash fs c.new-known.result ks) c.of-names.ensures ∙ ap (λ (known : List Name). clauses_clash ns known ks) c.new-known.ensures))

@@ -6,4 +6,4 @@ use Rattle.sc_class.proofs.SearchLemmas.{Among}
 use Rattle.sc_class.proofs.faults.class_clashes.routines_clash.Given as goal
 
 abbrev pub invariant-loop-feature : goal.invariant-loop-feature
-invariant-loop-feature l = FindsFirstPlace (Among (λ p. p.start) (λ f p. RoutineClashes (feature_names (features (system_of l.ancestry.outline.now.hierarchy.system.now) l.ancestry.number)) f.kind p) feature_of l.declared l.feature-index) l.found
+invariant-loop-feature l = FindsFirstPlace (Among (λ p. p.start) (λ f p. RoutineClashes (feature_names (features (system_of l.fn.outline.hierarchy.system.now) l.number)) f.kind p) feature_of l.declared l.feature-index) l.found

@@ -11,8 +11,8 @@ use Rattle.sc_class.proofs.faults.class_clashes.texts_clash.Goals as goal
 pub returns : goal.returns
 unfolding class_of
 returns c =
-    let s = system_of c.args.ancestry.now.outline.now.hierarchy.system.now in
-    let k = c.args.ancestry.now.number in
+    let s = system_of c.args.outline.now.hierarchy.system.now in
+    let k = c.args.number in
     let known = feature_names (features s k) in
     subst (FindsFirstPlace (TextsClash s k (class_of c.args.class.now))) (sym c.first_place.ensures)
     (either_of (λ p. Any (λ f. RoutineClashes known f.kind p) (class_of c.args.class.now).features) (ClausesClash known (class_of c.args.class.now).invariant) c.in_ok-inside.inside c.invariant_clash-invariant.result
