@@ -5,7 +5,7 @@ use Rattle.sc_parse.specs.Reading.Looks.{Ahead, Read}
 use Rattle.sc_tree.proofs.ReadingSteps.{bind_err}
 use Rattle.sc_parse.specs.declared.fault.ParseFault.{ParseFault}
 use Rattle.sc_parse.specs.declared.fault.ParseFault.TheVariants as fault
-use Rattle.sc_parse.specs.Reading.Reads.{Fails, Reads}
+use Rattle.sc_parse.specs.Reading.Reads.{Fails, Reads, Gives}
 
 pub Fails-bind : {A B : Type 0} (a : Result A Fault) (f : A → Result B Fault) (e : ParseFault) → Fails a e → Fails (a >>= f) e
 Fails-bind a f (fault.NotInGrammar span) h = bind_err a Wrong f h
@@ -21,3 +21,7 @@ Fails-along a b fault.OutOfMemory q h = tt
 pub Reads-along : {A X : Type 0} (view : X → A) (a b : Read A) (r : Result (X × ℕ) ParseFault) (rest : Ahead) → a ≡ b → Reads view b r rest → Reads view a r rest
 Reads-along view a b (Ok p) rest q h = q ∙ h
 Reads-along view a b (Err e) rest q h = Fails-along a b e q h
+
+pub Gives-along : {A X : Type 0} (view : X → A) (a b : Read A) (r : Result X ParseFault) (rest : Ahead) → a ≡ b → Gives view b r rest → Gives view a r rest
+Gives-along view a b (Ok x) rest q h = (h.0, q ∙ h.1)
+Gives-along view a b (Err e) rest q h = Fails-along a b e q h

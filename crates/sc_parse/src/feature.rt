@@ -148,15 +148,15 @@ impl<'a> Parser<'a> {
         ensures { Gives features_in (spec.routine room (names_in exports.now.value) (name_in name)
             (declarations_in formals) (type_if_any_in result_type) (ahead self.old)) result (ahead self.new) }
     {
-        let (precondition, locals) = self.opening(room)?;
-        let (body, postcondition) = self.closing(room)?;
+        let opening = self.opening(room)?;
+        let closing = self.closing(room)?;
         let routine = Routine {
             formals,
             result_type,
-            precondition,
-            locals,
-            body,
-            postcondition,
+            precondition: opening.0,
+            locals: opening.1,
+            body: closing.0,
+            postcondition: closing.1,
         };
         one_feature(self.alloc, exports, name, FeatureKind::Routine(routine))
     }
@@ -173,13 +173,16 @@ impl<'a> Parser<'a> {
         ensures { Gives features_in (spec.attribute_or_routine room (names_in exports.now.value) (name_in name)
             (declarations_in formals) (type_if_any_in result_type) (ahead self.old)) result (ahead self.new) }
     {
-        let is_attribute = formals.is_empty() && !self.begins_routine();
-        match result_type {
-            Some(declared) if is_attribute => {
-                one_feature(self.alloc, exports, name, FeatureKind::Attribute(declared))
-            }
-            result_type => self.routine(exports, name, formals, result_type, room),
+        let Some(declared) = result_type else {
+            return self.routine(exports, name, formals, None, room);
+        };
+        if !formals.is_empty() {
+            return self.routine(exports, name, formals, Some(declared), room);
         }
+        if self.begins_routine() {
+            return self.routine(exports, name, formals, Some(declared), room);
+        }
+        one_feature(self.alloc, exports, name, FeatureKind::Attribute(declared))
     }
 
     /// What follows the first name of attributes.

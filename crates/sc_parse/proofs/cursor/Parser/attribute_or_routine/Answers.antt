@@ -1,6 +1,6 @@
-use Rattle.std.proofs.Common.{◌≡◌, ℕ, false, List, [], ◌∷◌, Option, Some, Ok, refl, sym, ◌∙◌, map, arith}
-use Rattle.std.specs.Prelude.{vec_len}
-use Rattle.std.proofs.lemmas.Bool.{eqb-true, not-true}
+use Rattle.std.proofs.Common.{◌≡◌, ℕ, zero, suc, ◌<◌, true, false, List, [], ◌∷◌, length, Option, Some, None, Ok, refl, sym, ◌∙◌, map, arith}
+use Rattle.std.specs.Prelude.{◌==◌, vec_len}
+use Rattle.std.proofs.lemmas.Bool.{eqb-true, false≢true}
 use Rattle.std.proofs.lemmas.List.{nil_from_length}
 use Rattle.sc_parse.specs.Reading.Looks.{Ahead}
 use Rattle.sc_tree.specs.declared.declaration.Declaration.{Declaration}
@@ -9,11 +9,11 @@ use Rattle.sc_tree.specs.declared.system.FeatureKind.TheVariants as kind
 use Rattle.sc_tree.specs.Plain as plain
 use Rattle.sc_parse.specs.Reading.Classes as spec
 use Rattle.sc_tree.specs.View.{declaration_of, kind_of}
-use Rattle.sc_tree.proofs.ReadingSteps.{choose_false, not_both}
+use Rattle.sc_tree.proofs.ReadingSteps.{choose_true, choose_false}
 use Rattle.sc_parse.specs.Reading.Reads.{ahead, type_if_any_in, features_in, feature_with}
+use Rattle.sc_parse.proofs.Faults.{Gives-along}
 use Rattle.sc_parse.proofs.Lists.{Gives-made}
 use Rattle.sc_parse.proofs.cursor.Parser.attribute_or_routine.Goals as goal
-use Rattle.sc_parse.proofs.cursor.Parser.attribute_or_routine.Goals.{then-is_empty, else-is_empty}
 
 attribute_read : (room : ℕ) (es : List plain.Name) (x : plain.Name) (formals : List Declaration) (t : Option DeclaredType) (d : DeclaredType)
     (ts : Ahead) (fs : List plain.Feature) →
@@ -22,20 +22,44 @@ attribute_read : (room : ℕ) (es : List plain.Name) (x : plain.Name) (formals :
 unfolding kind_of
 attribute_read room es x formals t d ts fs e s b q = rw (e, s, q) (choose_false (spec.begins_routine ts) _ _ b)
 
-pub returns-in-Some : goal.returns-in-Some
-returns-in-Some c =
-    let none : c.args.formals.items ≡ [] =
-    elim c.if-is_empty.branch [
-      | then-is_empty w ↦ (
-          let zero : vec_len c.args.formals ≡ 0 = eqb-true _ _ (sym c.is_empty.ensures ∙ w.if-is_empty.true) in
-          nil_from_length c.args.formals.items (omega (arith, zero, c.args.formals.ok.0))
-          )
-      | else-is_empty w ↦ absurd (not_both c.if-is_attribute.true (w.is_attribute-is ∙ w.if-is_empty.false))
-    ] in
-    let unplaced : spec.begins_routine (ahead c.args.self.now) ≡ false =
-    elim c.if-is_empty.branch [
-      | then-is_empty w ↦ sym w.begins_routine.ensures ∙ not-true _ (sym w.is_attribute-is ∙ c.if-is_attribute.true)
-      | else-is_empty w ↦ absurd (not_both c.if-is_attribute.true (w.is_attribute-is ∙ w.if-is_empty.false))
-    ] in
+none_read : (room : ℕ) (es : List plain.Name) (x : plain.Name) (formals : List Declaration) (t : Option DeclaredType) (ts : Ahead) → t ≡ None →
+    spec.attribute_or_routine room es x (map declaration_of formals) (type_if_any_in t) ts ≡ spec.routine room es x (map declaration_of formals) (type_if_any_in None) ts
+none_read room es x [] t ts e = rw e refl
+none_read room es x (f ∷ formals) t ts e = rw e refl
+
+formals_read : (room : ℕ) (es : List plain.Name) (x : plain.Name) (formals : List Declaration) (t : Option DeclaredType) (d : DeclaredType) (ts : Ahead) → 0 < length formals → t ≡ Some d →
+    spec.attribute_or_routine room es x (map declaration_of formals) (type_if_any_in t) ts ≡ spec.routine room es x (map declaration_of formals) (type_if_any_in (Some d)) ts
+formals_read room es x [] t d ts p e = absurd (omega (arith, p))
+formals_read room es x (f ∷ formals) t d ts p e = rw e refl
+
+begun_read : (room : ℕ) (es : List plain.Name) (x : plain.Name) (formals : List Declaration) (t : Option DeclaredType) (d : DeclaredType) (ts : Ahead) → spec.begins_routine ts ≡ true → t ≡ Some d →
+    spec.attribute_or_routine room es x (map declaration_of formals) (type_if_any_in t) ts ≡ spec.routine room es x (map declaration_of formals) (type_if_any_in (Some d)) ts
+begun_read room es x [] t d ts b e = rw e (choose_true (spec.begins_routine ts) _ _ b)
+begun_read room es x (f ∷ formals) t d ts b e = rw e refl
+
+not_zero : (n : ℕ) → false ≡ (n == 0) → 0 < n
+not_zero zero e = absurd (false≢true e)
+not_zero (suc n) e = omega arith
+
+pub returns-in_default : goal.returns-in_default
+returns-in_default c =
+    Gives-along features_in _ _ c.routine.result _ (none_read c.args.room _ _ c.args.formals.items c.args.result_type (ahead c.args.self.now) c.in_default.is) c.routine.ensures
+
+pub returns-then-not-is_empty : goal.returns-then-not-is_empty
+returns-then-not-is_empty c =
+    Gives-along features_in _ _ c.routine-then-not-is_empty.result _
+    (formals_read c.args.room _ _ c.args.formals.items c.args.result_type _ (ahead c.args.self.now) (omega (arith, not_zero _ c.if-not-is_empty.ensures, c.args.formals.ok.0)) c.in-Some.is)
+    c.routine-then-not-is_empty.ensures
+
+pub returns-then-begins_routine : goal.returns-then-begins_routine
+returns-then-begins_routine c =
+    Gives-along features_in _ _ c.routine-then-begins_routine.result _
+    (begun_read c.args.room _ _ c.args.formals.items c.args.result_type _ (ahead c.args.self.now) (sym c.begins_routine.ensures ∙ c.if-begins_routine.true) c.in-Some.is)
+    c.routine-then-begins_routine.ensures
+
+pub returns : goal.returns
+returns c =
+    let empty : vec_len c.args.formals ≡ 0 = eqb-true _ _ (sym c.is_empty.ensures ∙ c.if-not-is_empty.false) in
+    let none : c.args.formals.items ≡ [] = nil_from_length c.args.formals.items (omega (arith, empty, c.args.formals.ok.0)) in
     Gives-made features_in _ c.one_feature.result _ 0 _ c.one_feature.ensures
-    (attribute_read c.args.room _ _ c.args.formals.items _ _ (ahead c.args.self.now) _ none c.in-Some.is unplaced refl)
+    (attribute_read c.args.room _ _ c.args.formals.items _ _ (ahead c.args.self.now) _ none c.in-Some.is (sym c.begins_routine.ensures ∙ c.if-begins_routine.false) refl)

@@ -25,30 +25,30 @@ routine_read room es x r ts body rest g h fs o d e =
     (routine_is room es x formals result ts ∙ bind_ok _ _ (after_opening room es x formals result) o
     ∙ bind_ok _ _ (routine_with es x formals result ((clauses_in r.precondition, declarations_in r.locals), g, body)) d)
 
-pub returns-in_err-precondition : goal.returns-in_err-precondition
-returns-in_err-precondition c =
+pub returns-in_err-opening : goal.returns-in_err-opening
+returns-in_err-opening c =
     let es = names_in c.args.exports.now.value in
     let x = name_in c.args.name in
     let formals = declarations_in c.args.formals in
     let result = type_if_any_in c.args.result_type in
     let p = err_from_is_err_and c.from_residual.result c.from_residual.ensures.1 in
     rw (p.1, p.2)
-    (Fails-along _ _ c.in_err-precondition.field-0.0 (routine_is c.args.room es x formals result (ahead c.args.self.now))
-    (Fails-bind _ (after_opening c.args.room es x formals result) c.in_err-precondition.field-0.0 c.in_err-precondition.ensures))
+    (Fails-along _ _ c.in_err-opening.field-0.0 (routine_is c.args.room es x formals result (ahead c.args.self.now))
+    (Fails-bind _ (after_opening c.args.room es x formals result) c.in_err-opening.field-0.0 c.in_err-opening.ensures))
 
-pub returns-in_err-body : goal.returns-in_err-body
-returns-in_err-body c =
+pub returns-in_err-closing : goal.returns-in_err-closing
+returns-in_err-closing c =
     let es = names_in c.args.exports.now.value in
     let x = name_in c.args.name in
     let formals = declarations_in c.args.formals in
     let result = type_if_any_in c.args.result_type in
-    let p = err_from_is_err_and c.from_residual-in_err-body.result c.from_residual-in_err-body.ensures.1 in
+    let p = err_from_is_err_and c.from_residual-in_err-closing.result c.from_residual-in_err-closing.ensures.1 in
     rw (p.1, p.2)
-    (Fails-along _ _ c.in_err-body.field-0.0
-    (routine_is c.args.room es x formals result (ahead c.args.self.now) ∙ bind_ok _ _ (after_opening c.args.room es x formals result) c.in_ok-precondition.ensures.1)
-    (Fails-bind _ _ c.in_err-body.field-0.0 c.in_err-body.ensures))
+    (Fails-along _ _ c.in_err-closing.field-0.0
+    (routine_is c.args.room es x formals result (ahead c.args.self.now) ∙ bind_ok _ _ (after_opening c.args.room es x formals result) c.in_ok-opening.ensures.1)
+    (Fails-bind _ _ c.in_err-closing.field-0.0 c.in_err-closing.ensures))
 
 pub returns : goal.returns
 returns c =
     Gives-made features_in _ c.one_feature.result _ _ _ c.one_feature.ensures
-    (routine_read c.args.room _ _ _ (ahead c.args.self.now) _ _ _ _ _ c.in_ok-precondition.ensures.1 c.in_ok-body.ensures.1 refl)
+    (routine_read c.args.room _ _ _ (ahead c.args.self.now) _ _ _ _ _ c.in_ok-opening.ensures.1 c.in_ok-closing.ensures.1 refl)
