@@ -1,19 +1,19 @@
 -- What is read in parts: object tests, constructs, routines and classes.
-use Rattle.std.proofs.Common.{◌≡◌, ℕ, suc, max, List, [], ◌∷◌, Option, Result, Ok, Err, refl, ap, sym, ◌∙◌}
+use Rattle.std.proofs.Common.{◌≡◌, ℕ, suc, max, true, false, List, [], ◌∷◌, Option, Result, Ok, Err, refl, ap, sym, ◌∙◌}
 use Rattle.sc_text.specs.declared.token.Terminal.{Terminal}
 use Rattle.sc_text.specs.declared.token.Terminal.TheVariants as terminal
 use Rattle.sc_tree.specs.Grammar.Classes.{routine_of, ends_class}
 use Rattle.sc_tree.specs.Grammar.Operators.{top}
-use Rattle.sc_tree.specs.Plain.{Name, DeclaredType, Declaration, Clause, Expr, ObjectTest, Head, Instr, Loop, Block, Instrs, Feature, Parent, ClassMark, Class}
+use Rattle.sc_tree.specs.Plain.{Name, DeclaredType, Declaration, Clause, Expr, ObjectTest, Head, Instr, If, Loop, Block, Instrs, no_instrs, Branches, no_branches, Feature, Parent, ClassMark, Class}
 use Rattle.sc_tree.specs.Internal.Reading.Looks.{Fault, ◌>>=◌}
-use Rattle.sc_tree.proofs.ReadingSteps.{bind_ok}
-use Rattle.sc_parse.specs.Reading.Looks.{Ahead, up_to, Read, expect, skip, name}
+use Rattle.sc_tree.proofs.ReadingSteps.{bind_ok, choose_true, choose_false}
+use Rattle.sc_parse.specs.Reading.Looks.{Ahead, up_to, Read, past, sees, expect, skip, name, left}
 use Rattle.sc_parse.specs.Reading.Assertions.{assertion}
 use Rattle.sc_parse.specs.Reading.Types.{tested_type}
 use Rattle.sc_parse.specs.Reading.Expressions.{chain, object_test, nested}
-use Rattle.sc_parse.specs.Reading.Instructions.{branch, iteration, nested_chain, head, heads, block, instrs, nested_instrs}
+use Rattle.sc_parse.specs.Reading.Instructions.{branch, branches, other, conditional, iteration, nested_chain, head, heads, block, instrs, nested_instrs}
 use Rattle.sc_parse.specs.Reading.Classes.{locals, routine, parents, creators, sections, past_note, class_of, class_marked}
-use Rattle.sc_parse.specs.Reading.Reads.{named_ahead, under_ahead, ended_ahead, opening_ahead, closing_ahead, header_ahead, members_ahead}
+use Rattle.sc_parse.specs.Reading.Reads.{named_ahead, inside_ahead, condition_ahead, other_ahead, opening_ahead, closing_ahead, header_ahead, members_ahead}
 
 bind_assoc : {A B C : Type 0} (a : Result A Fault) (f : A → Result B Fault) (g : B → Result C Fault) → ((a >>= f) >>= g) ≡ (a >>= λ x. f x >>= g)
 bind_assoc (Ok x) f g = refl
@@ -89,20 +89,66 @@ object_test_read inner room ts o r t h s x rest e p q v y =
     object_test_is inner room ts ∙ bind_ok _ _ (after_type inner room ts) p ∙ bind_ok _ _ (after_tested ts o) q ∙ bind_ok _ _ (object_test_with ts o (t, h, s)) v
     ∙ ap (λ (e : Expr). Ok (e, h, rest)) (sym y)
 
+-- what was read up to a word, and what is made of it
+read_up_to : {A B : Type 0} (a : Read A) (word : Terminal) (g : A × ℕ × Ahead → Read B) →
+    ((a >>= λ (x : A × ℕ × Ahead). expect word x.2 >>= λ (r : Ahead). Ok (x.0, x.1, r)) >>= g) ≡ (a >>= λ (x : A × ℕ × Ahead). expect word x.2 >>= λ (r : Ahead). g (x.0, x.1, r))
+read_up_to {A} {B} a word g =
+    bind_assoc a (λ (x : A × ℕ × Ahead). expect word x.2 >>= λ (r : Ahead). Ok (x.0, x.1, r)) g
+    ∙ bind_same a (λ (x : A × ℕ × Ahead). (expect word x.2 >>= λ (r : Ahead). Ok (x.0, x.1, r)) >>= g) (λ (x : A × ℕ × Ahead). expect word x.2 >>= λ (r : Ahead). g (x.0, x.1, r))
+    λ (x : A × ℕ × Ahead). bind_assoc (expect word x.2) (λ (r : Ahead). Ok (x.0, x.1, r)) g
+
 module _ (room : ℕ) (ts : Ahead) where
   abbrev pub branch_with : Expr × ℕ × Ahead → Instrs × ℕ × Ahead → Read (Expr × Instrs)
   branch_with t b = Ok ((t.0, b.0), max t.1 b.1, b.2)
 
   abbrev pub after_condition : Expr × ℕ × Ahead → Read (Expr × Instrs)
-  after_condition t = under_ahead room terminal.Then t.2 >>= branch_with t
+  after_condition t = nested_instrs room t.2 >>= branch_with t
 
-  pub branch_is : branch room (nested_instrs room) ts ≡ (nested room top ts >>= after_condition)
+  pub branch_is : branch room (nested_instrs room) ts ≡ (condition_ahead room terminal.Then ts >>= after_condition)
   unfolding branch
-  branch_is = bind_same _ _ _ λ (t : Expr × ℕ × Ahead). sym (bind_assoc (expect terminal.Then t.2) (nested_instrs room) (branch_with t))
+  branch_is = sym (read_up_to (nested room top ts) terminal.Then after_condition)
 
-  pub branch_read : (t : Expr) (h : ℕ) (r : Ahead) (b : Instrs) (g : ℕ) (rest : Ahead) → nested room top ts ≡ Ok (t, h, r) → under_ahead room terminal.Then r ≡ Ok (b, g, rest) →
+  pub branch_read : (t : Expr) (h : ℕ) (r : Ahead) (b : Instrs) (g : ℕ) (rest : Ahead) → condition_ahead room terminal.Then ts ≡ Ok (t, h, r) → nested_instrs room r ≡ Ok (b, g, rest) →
       branch room (nested_instrs room) ts ≡ Ok ((t, b), max h g, rest)
   branch_read t h r b g rest p q = branch_is ∙ bind_ok _ _ after_condition p ∙ bind_ok _ _ (branch_with (t, h, r)) q
+
+  -- `else` with what stands under it, or nothing, up to the `end`
+  pub other_there : sees terminal.Else ts ≡ true → other_ahead room ts ≡ inside_ahead room terminal.End (past ts)
+  unfolding other
+  other_there e =
+      ap (λ (a : Read Instrs). a >>= λ (o : Instrs × ℕ × Ahead). expect terminal.End o.2 >>= λ (r : Ahead). Ok (o.0, o.1, r)) (choose_true (sees terminal.Else ts) _ _ e)
+
+  abbrev pub no_other : Ahead → Read Instrs
+  no_other r = Ok (no_instrs, 0, r)
+
+  pub other_none : sees terminal.Else ts ≡ false → other_ahead room ts ≡ (expect terminal.End ts >>= no_other)
+  unfolding other
+  other_none e =
+      ap (λ (a : Read Instrs). a >>= λ (o : Instrs × ℕ × Ahead). expect terminal.End o.2 >>= λ (r : Ahead). Ok (o.0, o.1, r)) (choose_false (sees terminal.Else ts) _ _ e)
+
+  abbrev pub if_with : (Expr × Instrs) × ℕ × Ahead → Branches × ℕ × Ahead → Instrs × ℕ × Ahead → Read Instr
+  if_with g bs o = Ok (If (up_to ts.last.start o.2) g.0.0 g.0.1 bs.0 o.0, suc (max g.1 (max bs.1 o.1)), o.2)
+
+  abbrev pub after_branches : (Expr × Instrs) × ℕ × Ahead → Branches × ℕ × Ahead → Read Instr
+  after_branches g bs = other_ahead room bs.2 >>= if_with g bs
+
+  abbrev pub after_first : (Expr × Instrs) × ℕ × Ahead → Read Instr
+  after_first g = branches room (nested_instrs room) (left g.2) no_branches 0 g.2 >>= after_branches g
+
+  pub conditional_is : conditional room (nested_instrs room) ts ≡ (branch room (nested_instrs room) ts >>= after_first)
+  unfolding conditional
+  conditional_is =
+      sym
+      (bind_same (branch room (nested_instrs room) ts) after_first _ λ (g : (Expr × Instrs) × ℕ × Ahead).
+      bind_same (branches room (nested_instrs room) (left g.2) no_branches 0 g.2) (after_branches g) _ λ (bs : Branches × ℕ × Ahead).
+      read_up_to (other room (nested_instrs room) bs.2) terminal.End (if_with g bs))
+
+  pub conditional_read : (g : Expr × Instrs) (hg : ℕ) (q : Ahead) (bs : Branches) (hb : ℕ) (r : Ahead) (o : Instrs) (ho : ℕ) (rest : Ahead) (i : Instr) →
+      branch room (nested_instrs room) ts ≡ Ok (g, hg, q) → branches room (nested_instrs room) (left q) no_branches 0 q ≡ Ok (bs, hb, r) → other_ahead room r ≡ Ok (o, ho, rest) →
+      i ≡ If (up_to ts.last.start rest) g.0 g.1 bs o → conditional room (nested_instrs room) ts ≡ Ok (i, suc (max hg (max hb ho)), rest)
+  conditional_read g hg q bs hb r o ho rest i d e f w =
+      conditional_is ∙ bind_ok _ _ after_first d ∙ bind_ok _ _ (after_branches (g, hg, q)) e ∙ bind_ok _ _ (if_with (g, hg, q) (bs, hb, r)) f
+      ∙ ap (λ (i : Instr). Ok (i, suc (max hg (max hb ho)), rest)) (sym w)
 
   abbrev pub head_with : Expr × ℕ × Ahead → Name × Ahead → Read Head
   head_with t x = Ok (record { value = t.0; name = x.0 }, t.1, x.1)
@@ -119,68 +165,52 @@ module _ (room : ℕ) (ts : Ahead) where
   head_read t h r x rest k p q e =
       head_is ∙ bind_ok _ _ after_value p ∙ bind_ok _ _ (head_with (t, h, r)) q ∙ ap (λ (k : Head). Ok (k, h, rest)) (sym e)
 
-  -- the `end` behind a body, and what is made of both
-  abbrev from_end : {A : Type 0} → (Instrs × ℕ × Ahead → Read A) → Instrs × ℕ × Ahead → Read A
-  from_end g b = expect terminal.End b.2 >>= λ (rest : Ahead). g (b.0, b.1, rest)
-
-  abbrev to_end : Instrs × ℕ × Ahead → Read Instrs
-  to_end b = expect terminal.End b.2 >>= λ (rest : Ahead). Ok (b.0, b.1, rest)
-
-  abbrev up_to_end : {A : Type 0} → (Instrs × ℕ × Ahead → Read A) → Instrs × ℕ × Ahead → Read A
-  up_to_end g b = to_end b >>= g
-
-  ended_then : {A : Type 0} (word : Terminal) (r : Ahead) (g : Instrs × ℕ × Ahead → Read A) →
-      (ended_ahead room word r >>= g) ≡ (expect word r >>= λ (s : Ahead). nested_instrs room s >>= from_end g)
-  ended_then word r g =
-      bind_assoc (under_ahead room word r) to_end g ∙ bind_assoc (expect word r) (nested_instrs room) (up_to_end g)
-      ∙ bind_same (expect word r) (λ (s : Ahead). nested_instrs room s >>= up_to_end g) (λ (s : Ahead). nested_instrs room s >>= from_end g) λ (s : Ahead).
-      bind_same (nested_instrs room s) (up_to_end g) (from_end g) λ (b : Instrs × ℕ × Ahead). bind_assoc (expect terminal.End b.2) (λ (rest : Ahead). Ok (b.0, b.1, rest)) g
-
   abbrev pub loop_with : Instrs × ℕ × Ahead → Expr × ℕ × Ahead → Instrs × ℕ × Ahead → Read Instr
   loop_with i t b = Ok (Loop (up_to ts.last.start b.2) i.0 t.0 b.0, suc (max i.1 (max t.1 b.1)), b.2)
 
   abbrev pub after_until : Instrs × ℕ × Ahead → Expr × ℕ × Ahead → Read Instr
-  after_until i t = ended_ahead room terminal.Loop t.2 >>= loop_with i t
+  after_until i t = inside_ahead room terminal.End t.2 >>= loop_with i t
 
   abbrev pub after_initial : Instrs × ℕ × Ahead → Read Instr
-  after_initial i = do
-    r ← expect terminal.Until i.2
-    nested room top r >>= after_until i
+  after_initial i = condition_ahead room terminal.Loop i.2 >>= after_until i
 
-  abbrev loop_steps : Instrs × ℕ × Ahead → Expr × ℕ × Ahead → Read Instr
-  loop_steps i t = expect terminal.Loop t.2 >>= λ (s : Ahead). nested_instrs room s >>= from_end (loop_with i t)
-
-  abbrev condition_steps : Instrs × ℕ × Ahead → Ahead → Read Instr
-  condition_steps i r = nested room top r >>= loop_steps i
-
-  pub iteration_is : iteration room (nested_instrs room) ts ≡ (nested_instrs room ts >>= after_initial)
+  pub iteration_is : iteration room (nested_instrs room) ts ≡ (inside_ahead room terminal.Until ts >>= after_initial)
   unfolding iteration
   iteration_is =
-      bind_same (nested_instrs room ts) (λ (i : Instrs × ℕ × Ahead). expect terminal.Until i.2 >>= condition_steps i) after_initial λ (i : Instrs × ℕ × Ahead).
-      bind_same (expect terminal.Until i.2) (condition_steps i) (λ (r : Ahead). nested room top r >>= after_until i) λ (r : Ahead).
-      bind_same (nested room top r) (loop_steps i) (after_until i) λ (t : Expr × ℕ × Ahead). sym (ended_then terminal.Loop t.2 (loop_with i t))
+      sym
+      (read_up_to (nested_instrs room ts) terminal.Until after_initial
+      ∙ bind_same (nested_instrs room ts) (λ (i : Instrs × ℕ × Ahead). expect terminal.Until i.2 >>= λ (r : Ahead). after_initial (i.0, i.1, r)) _ λ (i : Instrs × ℕ × Ahead).
+      bind_same (expect terminal.Until i.2) (λ (r : Ahead). after_initial (i.0, i.1, r)) _ λ (r : Ahead).
+      read_up_to (nested room top r) terminal.Loop (after_until (i.0, i.1, r))
+      ∙ bind_same (nested room top r) (λ (t : Expr × ℕ × Ahead). expect terminal.Loop t.2 >>= λ (s : Ahead). after_until (i.0, i.1, r) (t.0, t.1, s)) _ λ (t : Expr × ℕ × Ahead).
+      bind_same (expect terminal.Loop t.2) (λ (s : Ahead). after_until (i.0, i.1, r) (t.0, t.1, s)) _ λ (s : Ahead).
+      read_up_to (nested_instrs room s) terminal.End (loop_with (i.0, i.1, r) (t.0, t.1, s)))
 
-  pub iteration_read : (a : Instrs) (ha : ℕ) (q r : Ahead) (t : Expr) (ht : ℕ) (s : Ahead) (b : Instrs) (hb : ℕ) (rest : Ahead) (i : Instr) →
-      nested_instrs room ts ≡ Ok (a, ha, q) → expect terminal.Until q ≡ Ok r → nested room top r ≡ Ok (t, ht, s) → ended_ahead room terminal.Loop s ≡ Ok (b, hb, rest) →
+  pub iteration_read : (a : Instrs) (ha : ℕ) (q : Ahead) (t : Expr) (ht : ℕ) (s : Ahead) (b : Instrs) (hb : ℕ) (rest : Ahead) (i : Instr) →
+      inside_ahead room terminal.Until ts ≡ Ok (a, ha, q) → condition_ahead room terminal.Loop q ≡ Ok (t, ht, s) → inside_ahead room terminal.End s ≡ Ok (b, hb, rest) →
       i ≡ Loop (up_to ts.last.start rest) a t b → iteration room (nested_instrs room) ts ≡ Ok (i, suc (max ha (max ht hb)), rest)
-  iteration_read a ha q r t ht s b hb rest i d e f g w =
-      iteration_is ∙ bind_ok _ _ after_initial d ∙ bind_ok _ _ (λ r. nested room top r >>= after_until (a, ha, q)) e ∙ bind_ok _ _ (after_until (a, ha, q)) f
-      ∙ bind_ok _ _ (loop_with (a, ha, q) (t, ht, s)) g ∙ ap (λ (i : Instr). Ok (i, suc (max ha (max ht hb)), rest)) (sym w)
+  iteration_read a ha q t ht s b hb rest i d e f w =
+      iteration_is ∙ bind_ok _ _ after_initial d ∙ bind_ok _ _ (after_until (a, ha, q)) e ∙ bind_ok _ _ (loop_with (a, ha, q) (t, ht, s)) f
+      ∙ ap (λ (i : Instr). Ok (i, suc (max ha (max ht hb)), rest)) (sym w)
 
   abbrev pub block_with : List Head × ℕ × Ahead → Instrs × ℕ × Ahead → Read Instr
   block_with xs b = Ok (Block (up_to ts.last.start b.2) xs.0 b.0, suc (max xs.1 b.1), b.2)
 
+  abbrev pub after_do : List Head × ℕ × Ahead → Ahead → Read Instr
+  after_do xs r = inside_ahead room terminal.End r >>= block_with xs
+
   abbrev pub after_heads : List Head × ℕ × Ahead → Read Instr
-  after_heads xs = ended_ahead room terminal.Do xs.2 >>= block_with xs
+  after_heads xs = expect terminal.Do xs.2 >>= after_do xs
 
   pub block_is : block room (nested_instrs room) ts ≡ (heads room (nested_instrs room) ts >>= after_heads)
   unfolding block
   block_is =
-      bind_same (heads room (nested_instrs room) ts) (λ (xs : List Head × ℕ × Ahead). expect terminal.Do xs.2 >>= λ (s : Ahead). nested_instrs room s >>= from_end (block_with xs)) after_heads
-      λ (xs : List Head × ℕ × Ahead). sym (ended_then terminal.Do xs.2 (block_with xs))
+      sym
+      (bind_same (heads room (nested_instrs room) ts) after_heads _ λ (xs : List Head × ℕ × Ahead).
+      bind_same (expect terminal.Do xs.2) (after_do xs) _ λ (s : Ahead). read_up_to (nested_instrs room s) terminal.End (block_with xs))
 
-  pub block_read : (hs : List Head) (h : ℕ) (r : Ahead) (b : Instrs) (g : ℕ) (rest : Ahead) (i : Instr) →
-      heads room (nested_instrs room) ts ≡ Ok (hs, h, r) → ended_ahead room terminal.Do r ≡ Ok (b, g, rest) → i ≡ Block (up_to ts.last.start rest) hs b →
+  pub block_read : (hs : List Head) (h : ℕ) (q r : Ahead) (b : Instrs) (g : ℕ) (rest : Ahead) (i : Instr) →
+      heads room (nested_instrs room) ts ≡ Ok (hs, h, q) → expect terminal.Do q ≡ Ok r → inside_ahead room terminal.End r ≡ Ok (b, g, rest) → i ≡ Block (up_to ts.last.start rest) hs b →
       block room (nested_instrs room) ts ≡ Ok (i, suc (max h g), rest)
-  block_read hs h r b g rest i d e w =
-      block_is ∙ bind_ok _ _ after_heads d ∙ bind_ok _ _ (block_with (hs, h, r)) e ∙ ap (λ (i : Instr). Ok (i, suc (max h g), rest)) (sym w)
+  block_read hs h q r b g rest i d e f w =
+      block_is ∙ bind_ok _ _ after_heads d ∙ bind_ok _ _ (after_do (hs, h, q)) e ∙ bind_ok _ _ (block_with (hs, h, q)) f ∙ ap (λ (i : Instr). Ok (i, suc (max h g), rest)) (sym w)

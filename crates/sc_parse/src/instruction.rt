@@ -4,7 +4,7 @@ ghost use Rattle.std.specs.Prelude.{◌≡◌};
 ghost use Rattle.sc_tree.specs.Plain.{no_branches};
 ghost use Rattle.sc_parse.specs.Reading.Instructions as spec;
 ghost use Rattle.sc_parse.specs.Reading.Looks.{begin, left, past};
-ghost use Rattle.sc_parse.specs.Reading.Reads.{ahead, variable_in, clauses_in, expr_in, head_in, heads_in, instr_in, instrs_in, branch_in, branches_in, under_ahead, ended_ahead, Gives, Reads, Takes};
+ghost use Rattle.sc_parse.specs.Reading.Reads.{ahead, variable_in, clauses_in, expr_in, head_in, heads_in, instr_in, instrs_in, branch_in, branches_in, inside_ahead, condition_ahead, other_ahead, Gives, Reads, Takes};
 
 use crate::cursor::Parser;
 use crate::expression::TOP;
@@ -45,23 +45,14 @@ impl<'a> Parser<'a> {
         self.instructions(room - 1)
     }
 
-    /// Instructions inside the construct whose part begins with this word.
+    /// The same, up to this word.
     #[cycle(instructions)]
-    fn under(&mut self, word: Terminal, room: u8) -> Result<Vec<Instr>, ParseFault>
-        ensures { Gives instrs_in (under_ahead room word (ahead self.old)) result (ahead self.new) }
+    fn instructions_up_to(&mut self, word: Terminal, room: u8) -> Result<Vec<Instr>, ParseFault>
+        ensures { Gives instrs_in (inside_ahead room word (ahead self.old)) result (ahead self.new) }
     {
+        let found = self.instructions_inside(room)?;
         self.expect(word)?;
-        self.instructions_inside(room)
-    }
-
-    /// The same, up to the `end` of the construct.
-    #[cycle(instructions)]
-    fn ended(&mut self, word: Terminal, room: u8) -> Result<Vec<Instr>, ParseFault>
-        ensures { Gives instrs_in (ended_ahead room word (ahead self.old)) result (ahead self.new) }
-    {
-        let body = self.under(word, room)?;
-        self.expect(Terminal::End)?;
-        Ok(body)
+        Ok(found)
     }
 
     /// The instruction that begins here.
@@ -184,14 +175,23 @@ impl<'a> Parser<'a> {
         Ok(Instr::Create(self.span_from(start), variable, Some(call)))
     }
 
+    /// A condition inside the construct that it belongs to, up to this word.
+    fn condition(&mut self, word: Terminal, room: u8) -> Result<Expr, ParseFault>
+        ensures { Gives expr_in (condition_ahead room word (ahead self.old)) result (ahead self.new) }
+    {
+        let (condition, _) = self.nested(TOP, room)?;
+        self.expect(word)?;
+        Ok(condition)
+    }
+
     /// A condition and what stands under it.
     #[cycle(instructions)]
     fn branch(&mut self, room: u8) -> Result<Branch, ParseFault>
         ensures { Gives branch_in (spec.branch room (spec.nested_instrs room) (ahead self.old))
             result (ahead self.new) }
     {
-        let (condition, _) = self.nested(TOP, room)?;
-        let body = self.under(Terminal::Then, room)?;
+        let condition = self.condition(Terminal::Then, room)?;
+        let body = self.instructions_inside(room)?;
         Ok(Branch { condition, body })
     }
 
@@ -214,47 +214,43 @@ impl<'a> Parser<'a> {
         Ok(found)
     }
 
-    /// What stands under `else`, if it is there.
+    /// What stands under `else`, if it is there, up to the `end` of the construct.
     #[cycle(instructions)]
-    #[tactic(auto, unfolding(crate::specs::Reading::Instructions::other))]
     fn other(&mut self, room: u8) -> Result<Vec<Instr>, ParseFault>
-        ensures { Gives instrs_in (spec.other room (spec.nested_instrs room) (ahead self.old)) result (ahead self.new) }
+        ensures { Gives instrs_in (other_ahead room (ahead self.old)) result (ahead self.new) }
     {
-        if !self.sees(Terminal::Else) {
-            return Ok(Vec::new(self.alloc));
+        if self.sees(Terminal::Else) {
+            self.take();
+            return self.instructions_up_to(Terminal::End, room);
         }
-        self.take();
-        self.instructions_inside(room)
+        self.expect(Terminal::End)?;
+        Ok(Vec::new(self.alloc))
     }
 
     /// What follows `if`, up to its `end`.
     #[cycle(instructions)]
-    #[tactic(auto, unfolding(crate::specs::Reading::Instructions::conditional))]
     fn conditional(&mut self, room: u8) -> Result<Instr, ParseFault>
         ensures { Gives instr_in (spec.conditional room (spec.nested_instrs room) (ahead self.old))
             result (ahead self.new) }
     {
         let start = self.last.start;
-        let Branch { condition, body } = self.branch(room)?;
+        let first = self.branch(room)?;
         let branches = self.branches(room)?;
         let other = self.other(room)?;
-        self.expect(Terminal::End)?;
         let span = self.span_from(start);
-        Ok(Instr::If(span, condition, body, branches, other))
+        Ok(Instr::If(span, first.condition, first.body, branches, other))
     }
 
     /// What follows `from`, up to its `end`.
     #[cycle(instructions)]
-    #[tactic(auto, using(crate::proofs::Parts::iteration_is))]
     fn iteration(&mut self, room: u8) -> Result<Instr, ParseFault>
         ensures { Gives instr_in (spec.iteration room (spec.nested_instrs room) (ahead self.old))
             result (ahead self.new) }
     {
         let start = self.last.start;
-        let initial = self.instructions_inside(room)?;
-        self.expect(Terminal::Until)?;
-        let (condition, _) = self.nested(TOP, room)?;
-        let body = self.ended(Terminal::Loop, room)?;
+        let initial = self.instructions_up_to(Terminal::Until, room)?;
+        let condition = self.condition(Terminal::Loop, room)?;
+        let body = self.instructions_up_to(Terminal::End, room)?;
         let span = self.span_from(start);
         Ok(Instr::Loop(span, initial, condition, body))
     }
@@ -333,7 +329,8 @@ impl<'a> Parser<'a> {
     {
         let start = self.last.start;
         let heads = self.heads(room)?;
-        let body = self.ended(Terminal::Do, room)?;
+        self.expect(Terminal::Do)?;
+        let body = self.instructions_up_to(Terminal::End, room)?;
         Ok(Instr::Block(self.span_from(start), heads, body))
     }
 }

@@ -1,9 +1,10 @@
 -- What a method of the parser gives: what the reading function gives, unless memory ran out.
-use Rattle.std.specs.Prelude.{◌≡◌, ℕ, max, List, Option, Result, Ok, Err, string_bytes, map}
+use Rattle.std.specs.Prelude.{◌≡◌, ℕ, max, Bool, true, false, if◌then◌else◌, List, Option, Some, option_map, Result, Ok, Err, string_bytes, map}
 use Rattle.std.specs.declared.vec.Vec.{Vec}
 use Rattle.std.specs.declared.boxed.Box.{Box}
 use Rattle.std.specs.declared.string.String.{String}
 use Rattle.std.specs.declared.alloc.Global.{Global}
+use Rattle.sc_text.specs.Kind.{Kind}
 use Rattle.sc_text.specs.declared.token.Terminal.{Terminal}
 use Rattle.sc_text.specs.declared.token.Terminal.TheVariants as terminal
 use Rattle.sc_tree.specs.declared.declaration.HandlerTag.{HandlerTag}
@@ -24,11 +25,13 @@ use Rattle.sc_tree.specs.declared.system.Class.{Class}
 use Rattle.sc_tree.specs.declared.system.System.{System}
 use Rattle.sc_tree.specs.Plain as plain
 use Rattle.sc_tree.specs.View.{name_of, handler_tag_of, type_of, type_if_any, declaration_of, expr_of, target_of, exprs_of, variable_of, tag_of, clause_of, head_of, instr_of, instrs_of, branches_of, kind_of, feature_of, parent_of, mark_if_any, class_of, system_of}
-use Rattle.sc_tree.specs.Grammar.Classes.{ends_class}
+use Rattle.sc_tree.specs.Grammar.Classes.{heads_class, ends_class}
+use Rattle.sc_tree.specs.Grammar.Operators.{top}
 use Rattle.sc_tree.specs.Internal.Reading.Looks.{Fault, Wrong, Deep, ◌>>=◌}
-use Rattle.sc_parse.specs.Reading.Looks.{Ahead, Read, Taken, skip, expect, name}
+use Rattle.sc_parse.specs.Reading.Looks.{Ahead, Read, Taken, past, sees, skip, expect, name, integer_ahead}
 use Rattle.sc_parse.specs.Reading.Assertions.{assertion}
-use Rattle.sc_parse.specs.Reading.Instructions.{instrs, nested_instrs}
+use Rattle.sc_parse.specs.Reading.Expressions.{nested}
+use Rattle.sc_parse.specs.Reading.Instructions.{other, instrs, nested_instrs}
 use Rattle.sc_parse.specs.Reading.Classes.{locals, parents, creators, sections, past_note}
 use Rattle.sc_parse.specs.declared.cursor.Parser.{Parser}
 use Rattle.sc_parse.specs.declared.fault.ParseFault.{ParseFault}
@@ -136,24 +139,45 @@ system_in s = system_of s
 
 -- ---- what is read
 
+-- where a note before a class ends, or one before its `end`
+abbrev pub ends_note : Bool → Kind → Bool
+ends_note true = heads_class
+ends_note false = ends_class
+
+-- the constant that is the next token
+abbrev pub constant_ahead : Ahead → Option plain.Expr
+constant_ahead ts =
+    if sees terminal.True ts then Some (plain.Boolean (past ts).last true)
+    else if sees terminal.False ts then Some (plain.Boolean (past ts).last false)
+    else if sees terminal.Void ts then Some (plain.Void (past ts).last)
+    else option_map (plain.Integer (past ts).last) (integer_ahead ts)
+
 -- a name behind `as`
 abbrev pub named_ahead : Ahead → Taken plain.Name
 named_ahead ts = do
   r ← expect terminal.As ts
   name r
 
--- what stands one deeper, behind a word
-abbrev pub under_ahead : ℕ → Terminal → Ahead → Read plain.Instrs
-under_ahead room word ts = do
-  r ← expect word ts
-  nested_instrs room r
-
--- the same, up to the `end` behind it
-abbrev pub ended_ahead : ℕ → Terminal → Ahead → Read plain.Instrs
-ended_ahead room word ts = do
-  b ← under_ahead room word ts
-  rest ← expect terminal.End b.2
+-- instructions that stand one deeper, up to a word
+abbrev pub inside_ahead : ℕ → Terminal → Ahead → Read plain.Instrs
+inside_ahead room word ts = do
+  b ← nested_instrs room ts
+  rest ← expect word b.2
   Ok (b.0, b.1, rest)
+
+-- a condition that stands one deeper, up to a word
+abbrev pub condition_ahead : ℕ → Terminal → Ahead → Read plain.Expr
+condition_ahead room word ts = do
+  t ← nested room top ts
+  rest ← expect word t.2
+  Ok (t.0, t.1, rest)
+
+-- what stands under `else`, if it stands here, up to the `end` behind it
+abbrev pub other_ahead : ℕ → Ahead → Read plain.Instrs
+other_ahead room ts = do
+  o ← other room (nested_instrs room) ts
+  rest ← expect terminal.End o.2
+  Ok (o.0, o.1, rest)
 
 -- what a routine has before its body
 abbrev pub opening_ahead : ℕ → Ahead → Read (List plain.Clause × List plain.Declaration)

@@ -1,17 +1,16 @@
-use Rattle.std.proofs.Common.{ap, sym, ◌∙◌, max, suc, Ok, arith}
-use Rattle.std.proofs.lemmas.Grind.{common_steps}
+use Rattle.std.proofs.Common.{ap, sym, ◌∙◌, max, suc, Ok}
+use Rattle.sc_text.specs.declared.token.Terminal.TheVariants as terminal
 use Rattle.sc_tree.proofs.ViewLemmas.{instr_of-if, instr_of-loop, instr_of-block}
 use Rattle.sc_parse.proofs.Views.{instrs_of-push, branches_of-push}
-use Rattle.sc_parse.specs.Reading.Instructions.{conditional}
 use Rattle.sc_tree.specs.View.{instrs_of, branches_of}
 use Rattle.sc_text.specs.declared.token.Span.{Span}
-use Rattle.sc_tree.specs.Plain.{Loop, Block, Instrs}
-use Rattle.sc_parse.specs.Reading.Reads.{ahead, expr_in, heads_in, instrs_in, branches_in}
+use Rattle.sc_tree.specs.Plain.{If, Loop, Block, Instrs}
+use Rattle.sc_parse.specs.Reading.Reads.{ahead, expr_in, heads_in, instrs_in, branch_in, branches_in, inside_ahead}
 use Rattle.sc_parse.proofs.Turns.{instrs_begin, instrs_end, instrs_more, instrs_none, instrs_fail, branches_begin, branches_end, branches_more, branches_none, branches_fail}
 use Rattle.sc_tree.proofs.ReadingSteps.{bind_ok}
-use Rattle.sc_parse.proofs.Parts.{after_condition, branch_is, branch_read, after_initial, iteration_is, iteration_read, after_heads, block_is, block_read}
+use Rattle.sc_parse.proofs.Parts.{after_condition, branch_is, branch_read, other_there, no_other, other_none, after_branches, after_first, conditional_is, conditional_read, after_until, after_initial, iteration_is, iteration_read, after_do, after_heads, block_is, block_read}
 use Rattle.std.proofs.lemmas.Result.{err_from_is_err_and}
-use Rattle.sc_parse.proofs.Faults.{Fails-along, Fails-bind}
+use Rattle.sc_parse.proofs.Faults.{Fails-along, Fails-bind, Gives-along}
 use Rattle.sc_parse.proofs.cursor.Parser.+instructions.Goals as goal
 
 pub instructions-loop-turn-init : goal.instructions-loop-turn-init
@@ -40,32 +39,10 @@ branches-loop-turn-preserved t c = (
       ∙ c.loop-turn.invariant.1,
 )
 
-pub ended-returns : goal.ended-returns
-ended-returns t c = (c.in_ok-body.ensures.0, grind (arith, common_steps))
-
 pub branch-returns : goal.branch-returns
 branch-returns t c = (
-  max c.in_ok-condition.field-0-1 c.in_ok-body.ensures.0,
-  branch_read c.args.room (ahead c.args.self.now) _ _ _ _ _ _ c.in_ok-condition.ensures.read c.in_ok-body.ensures.1,
-)
-
-pub conditional-returns : goal.conditional-returns
-unfolding conditional
-conditional-returns t c =
-    (suc (max c.in_ok-condition.ensures.0 (max c.in_ok-branches.ensures.0 c.in_ok-other.ensures.0)), grind (arith, common_steps, instr_of-if))
-
-pub iteration-returns : goal.iteration-returns
-iteration-returns t c = (
-  suc (max c.in_ok-initial.ensures.0 (max c.in_ok-condition.field-0-1 c.in_ok-body.ensures.0)),
-  iteration_read c.args.room (ahead c.args.self.now) _ _ _ _ _ _ _ _ _ _ _ c.in_ok-initial.ensures.1 c.in_ok-expect.ensures c.in_ok-condition.ensures.read c.in_ok-body.ensures.1
-      (instr_of-loop _ _ _ _ ∙ ap (λ (s : Span). Loop s (instrs_in c.in_ok-initial.initial) (expr_in c.in_ok-condition.condition) (instrs_in c.in_ok-body.body)) c.span_from-span.ensures),
-)
-
-pub block-returns : goal.block-returns
-block-returns t c = (
-  suc (max c.in_ok-heads.ensures.0 c.in_ok-body.ensures.0),
-  block_read c.args.room (ahead c.args.self.now) _ _ _ _ _ _ _ c.in_ok-heads.ensures.1 c.in_ok-body.ensures.1
-      (instr_of-block _ _ _ ∙ ap (λ (s : Span). Block s (heads_in c.in_ok-heads.heads) (instrs_in c.in_ok-body.body)) c.span_from.ensures),
+  max c.in_ok-condition.ensures.0 c.in_ok-body.ensures.0,
+  branch_read c.args.room (ahead c.args.self.now) _ _ _ _ _ _ c.in_ok-condition.ensures.1 c.in_ok-body.ensures.1,
 )
 
 pub instructions-returns-then-not-begins_instruction : goal.instructions-returns-then-not-begins_instruction
@@ -114,7 +91,7 @@ branch-returns-in_err-condition t c =
     rw (p.1, p.2)
     (Fails-along _ _ c.in_err-condition.field-0.0
     (branch_is c.args.room ts)
-    (Fails-bind _ _ c.in_err-condition.field-0.0 c.in_err-condition.ensures.read))
+    (Fails-bind _ _ c.in_err-condition.field-0.0 c.in_err-condition.ensures))
 
 pub branch-returns-in_err-body : goal.branch-returns-in_err-body
 branch-returns-in_err-body t c =
@@ -122,8 +99,67 @@ branch-returns-in_err-body t c =
     let p = err_from_is_err_and c.from_residual-in_err-body.result c.from_residual-in_err-body.ensures.1 in
     rw (p.1, p.2)
     (Fails-along _ _ c.in_err-body.field-0.0
-    (branch_is c.args.room ts ∙ bind_ok _ _ (after_condition c.args.room ts) c.in_ok-condition.ensures.read)
+    (branch_is c.args.room ts ∙ bind_ok _ _ (after_condition c.args.room ts) c.in_ok-condition.ensures.1)
     (Fails-bind _ _ c.in_err-body.field-0.0 c.in_err-body.ensures))
+
+-- ---- conditionals
+
+pub conditional-returns-in_err-first : goal.conditional-returns-in_err-first
+conditional-returns-in_err-first t c =
+    let ts = ahead c.args.self.now in
+    let p = err_from_is_err_and c.from_residual.result c.from_residual.ensures.1 in
+    rw (p.1, p.2)
+    (Fails-along _ _ c.in_err-first.field-0.0
+    (conditional_is c.args.room ts)
+    (Fails-bind _ _ c.in_err-first.field-0.0 c.in_err-first.ensures))
+
+pub conditional-returns-in_err-branches : goal.conditional-returns-in_err-branches
+conditional-returns-in_err-branches t c =
+    let ts = ahead c.args.self.now in
+    let p = err_from_is_err_and c.from_residual-in_err-branches.result c.from_residual-in_err-branches.ensures.1 in
+    rw (p.1, p.2)
+    (Fails-along _ _ c.in_err-branches.field-0.0
+    (conditional_is c.args.room ts ∙ bind_ok _ _ (after_first c.args.room ts) c.in_ok-first.ensures.1)
+    (Fails-bind _ _ c.in_err-branches.field-0.0 c.in_err-branches.ensures))
+
+pub conditional-returns-in_err-other : goal.conditional-returns-in_err-other
+conditional-returns-in_err-other t c =
+    let ts = ahead c.args.self.now in
+    let p = err_from_is_err_and c.from_residual-in_err-other.result c.from_residual-in_err-other.ensures.1 in
+    rw (p.1, p.2)
+    (Fails-along _ _ c.in_err-other.field-0.0
+    (conditional_is c.args.room ts ∙ bind_ok _ _ (after_first c.args.room ts) c.in_ok-first.ensures.1 ∙ bind_ok _ _ (after_branches c.args.room ts (branch_in c.in_ok-first.first, c.in_ok-first.ensures.0, ts)) c.in_ok-branches.ensures.1)
+    (Fails-bind _ _ c.in_err-other.field-0.0 c.in_err-other.ensures))
+
+pub conditional-returns : goal.conditional-returns
+conditional-returns t c = (
+  suc (max c.in_ok-first.ensures.0 (max c.in_ok-branches.ensures.0 c.in_ok-other.ensures.0)),
+  conditional_read c.args.room (ahead c.args.self.now) _ _ _ _ _ _ _ _ _ _ c.in_ok-first.ensures.1 c.in_ok-branches.ensures.1 c.in_ok-other.ensures.1
+      (instr_of-if _ _ _ _ _
+      ∙ ap (λ (s : Span). If s (expr_in c.in_ok-first.first.condition) (instrs_in c.in_ok-first.first.body) (branches_in c.in_ok-branches.branches) (instrs_in c.in_ok-other.other)) c.span_from-span.ensures),
+)
+
+pub other-returns-then-sees : goal.other-returns-then-sees
+other-returns-then-sees t c =
+    let ts = ahead c.args.self.now in
+    Gives-along instrs_in _ _ c.instructions_up_to.result _ (other_there c.args.room ts (sym c.sees.ensures ∙ c.if-sees.true) ∙ ap (inside_ahead c.args.room terminal.End) (sym c.take.ensures.past))
+    c.instructions_up_to.ensures
+
+pub other-returns-in_err-expect : goal.other-returns-in_err-expect
+other-returns-in_err-expect t c =
+    let p = err_from_is_err_and c.from_residual.result c.from_residual.ensures.1 in
+    rw (p.1, p.2)
+    (Fails-along _ _ c.in_err-expect.field-0.0 (other_none c.args.room (ahead c.args.self.now) (sym c.sees.ensures ∙ c.if-sees.false))
+    (Fails-bind _ _ c.in_err-expect.field-0.0 c.in_err-expect.ensures))
+
+pub other-returns : goal.other-returns
+other-returns t c = (
+  0,
+  other_none c.args.room (ahead c.args.self.now) (sym c.sees.ensures ∙ c.if-sees.false) ∙ bind_ok _ _ (no_other c.args.room (ahead c.args.self.now)) c.in_ok-expect.ensures
+      ∙ ap (λ (is : Instrs). Ok (is, 0, ahead c.expect.new.self)) (sym (ap instrs_of c.new.ensures.items)),
+)
+
+-- ---- loops and blocks
 
 pub iteration-returns-in_err-initial : goal.iteration-returns-in_err-initial
 iteration-returns-in_err-initial t c =
@@ -134,14 +170,30 @@ iteration-returns-in_err-initial t c =
     (iteration_is c.args.room ts)
     (Fails-bind _ _ c.in_err-initial.field-0.0 c.in_err-initial.ensures))
 
-pub iteration-returns-in_err-expect : goal.iteration-returns-in_err-expect
-iteration-returns-in_err-expect t c =
+pub iteration-returns-in_err-condition : goal.iteration-returns-in_err-condition
+iteration-returns-in_err-condition t c =
     let ts = ahead c.args.self.now in
-    let p = err_from_is_err_and c.from_residual-in_err-expect.result c.from_residual-in_err-expect.ensures.1 in
+    let p = err_from_is_err_and c.from_residual-in_err-condition.result c.from_residual-in_err-condition.ensures.1 in
     rw (p.1, p.2)
-    (Fails-along _ _ c.in_err-expect.field-0.0
+    (Fails-along _ _ c.in_err-condition.field-0.0
     (iteration_is c.args.room ts ∙ bind_ok _ _ (after_initial c.args.room ts) c.in_ok-initial.ensures.1)
-    (Fails-bind _ _ c.in_err-expect.field-0.0 c.in_err-expect.ensures))
+    (Fails-bind _ _ c.in_err-condition.field-0.0 c.in_err-condition.ensures))
+
+pub iteration-returns-in_err-body : goal.iteration-returns-in_err-body
+iteration-returns-in_err-body t c =
+    let ts = ahead c.args.self.now in
+    let p = err_from_is_err_and c.from_residual-in_err-body.result c.from_residual-in_err-body.ensures.1 in
+    rw (p.1, p.2)
+    (Fails-along _ _ c.in_err-body.field-0.0
+    (iteration_is c.args.room ts ∙ bind_ok _ _ (after_initial c.args.room ts) c.in_ok-initial.ensures.1 ∙ bind_ok _ _ (after_until c.args.room ts (instrs_in c.in_ok-initial.initial, c.in_ok-initial.ensures.0, ts)) c.in_ok-condition.ensures.1)
+    (Fails-bind _ _ c.in_err-body.field-0.0 c.in_err-body.ensures))
+
+pub iteration-returns : goal.iteration-returns
+iteration-returns t c = (
+  suc (max c.in_ok-initial.ensures.0 (max c.in_ok-condition.ensures.0 c.in_ok-body.ensures.0)),
+  iteration_read c.args.room (ahead c.args.self.now) _ _ _ _ _ _ _ _ _ _ c.in_ok-initial.ensures.1 c.in_ok-condition.ensures.1 c.in_ok-body.ensures.1
+      (instr_of-loop _ _ _ _ ∙ ap (λ (s : Span). Loop s (instrs_in c.in_ok-initial.initial) (expr_in c.in_ok-condition.condition) (instrs_in c.in_ok-body.body)) c.span_from-span.ensures),
+)
 
 pub block-returns-in_err-heads : goal.block-returns-in_err-heads
 block-returns-in_err-heads t c =
@@ -152,11 +204,27 @@ block-returns-in_err-heads t c =
     (block_is c.args.room ts)
     (Fails-bind _ _ c.in_err-heads.field-0.0 c.in_err-heads.ensures))
 
+pub block-returns-in_err-expect : goal.block-returns-in_err-expect
+block-returns-in_err-expect t c =
+    let ts = ahead c.args.self.now in
+    let p = err_from_is_err_and c.from_residual-in_err-expect.result c.from_residual-in_err-expect.ensures.1 in
+    rw (p.1, p.2)
+    (Fails-along _ _ c.in_err-expect.field-0.0
+    (block_is c.args.room ts ∙ bind_ok _ _ (after_heads c.args.room ts) c.in_ok-heads.ensures.1)
+    (Fails-bind _ _ c.in_err-expect.field-0.0 c.in_err-expect.ensures))
+
 pub block-returns-in_err-body : goal.block-returns-in_err-body
 block-returns-in_err-body t c =
     let ts = ahead c.args.self.now in
     let p = err_from_is_err_and c.from_residual-in_err-body.result c.from_residual-in_err-body.ensures.1 in
     rw (p.1, p.2)
     (Fails-along _ _ c.in_err-body.field-0.0
-    (block_is c.args.room ts ∙ bind_ok _ _ (after_heads c.args.room ts) c.in_ok-heads.ensures.1)
+    (block_is c.args.room ts ∙ bind_ok _ _ (after_heads c.args.room ts) c.in_ok-heads.ensures.1 ∙ bind_ok _ _ (after_do c.args.room ts (heads_in c.in_ok-heads.heads, c.in_ok-heads.ensures.0, ts)) c.in_ok-expect.ensures)
     (Fails-bind _ _ c.in_err-body.field-0.0 c.in_err-body.ensures))
+
+pub block-returns : goal.block-returns
+block-returns t c = (
+  suc (max c.in_ok-heads.ensures.0 c.in_ok-body.ensures.0),
+  block_read c.args.room (ahead c.args.self.now) _ _ _ _ _ _ _ _ c.in_ok-heads.ensures.1 c.in_ok-expect.ensures c.in_ok-body.ensures.1
+      (instr_of-block _ _ _ ∙ ap (λ (s : Span). Block s (heads_in c.in_ok-heads.heads) (instrs_in c.in_ok-body.body)) c.span_from.ensures),
+)

@@ -8,17 +8,14 @@ use Rattle.sc_parse.proofs.cursor.Parser.+instructions.Given as goal
 abbrev pub decreases-instructions_inside : goal.decreases-instructions_inside
 decreases-instructions_inside l = l.room * 16
 
-abbrev pub decreases-under : goal.decreases-under
-decreases-under l = l.room * 16 + 1
-
-abbrev pub decreases-ended : goal.decreases-ended
-decreases-ended l = l.room * 16 + 2
+abbrev pub decreases-instructions_up_to : goal.decreases-instructions_up_to
+decreases-instructions_up_to l = l.room * 16 + 1
 
 abbrev pub decreases-branch : goal.decreases-branch
 decreases-branch l = l.room * 16 + 2
 
 abbrev pub decreases-other : goal.decreases-other
-decreases-other l = l.room * 16 + 1
+decreases-other l = l.room * 16 + 2
 
 abbrev pub decreases-iteration : goal.decreases-iteration
 decreases-iteration l = l.room * 16 + 3
