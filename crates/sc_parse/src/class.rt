@@ -1,7 +1,6 @@
 //! Classes (ECMA-367, 8.4, 8.6, 8.10 and 8.20).
 
 ghost use Rattle.std.specs.Prelude.{◌≡◌, ◌∷◌, [], IfOk, IsTrue};
-ghost use Rattle.sc_tree.specs.Grammar.Classes as grammar;
 ghost use Rattle.sc_parse.specs.Reading.Classes as spec;
 ghost use Rattle.sc_parse.specs.Reading.Looks.{left, skip};
 ghost use Rattle.sc_tree.specs.Sections.{share_lists};
@@ -9,7 +8,7 @@ ghost use Rattle.sc_parse.specs.Reading.Reads.{ahead, mark_in, parent_in, parent
 
 use crate::cursor::Parser;
 use crate::fault::ParseFault;
-use crate::look::{ends_class, heads_class};
+use crate::look::ends_note;
 use sc_text::Terminal;
 use sc_tree::{Class, ClassMark, Clause, Feature, Name, Parent};
 
@@ -23,34 +22,21 @@ struct Header {
 
 impl<'a> Parser<'a> {
     ghost use Rattle.sc_parse.specs.Reading.Header.{header_in};
+    ghost use Rattle.sc_parse.specs.Reading.Reads.{ends_note};
 
-    /// Reads a note before a class, if there is one.
-    fn skip_first_note(&mut self)
-        ensures { ahead self.new ≡ spec.past_note grammar.heads_class (ahead self.old) }
+    /// Reads a note before a class or, if that is not meant, before its `end`, if there is one.
+    fn skip_note(&mut self, is_first: bool)
+        ensures { ahead self.new ≡ spec.past_note (ends_note is_first) (ahead self.old) }
     {
-        if self.sees_note() {
-            self.take();
-            while let Some(token) = self.rest.first() {
-                if heads_class(token) {
-                    return;
-                }
-                self.take();
-            }
+        if !self.sees_note() {
+            return;
         }
-    }
-
-    /// Reads a note before the `end` of a class, if there is one.
-    fn skip_last_note(&mut self)
-        ensures { ahead self.new ≡ spec.past_note grammar.ends_class (ahead self.old) }
-    {
-        if self.sees_note() {
-            self.take();
-            while let Some(token) = self.rest.first() {
-                if ends_class(token) {
-                    return;
-                }
-                self.take();
+        self.take();
+        while let Some(token) = self.rest.first() {
+            if ends_note(token, is_first) {
+                return;
             }
+            self.take();
         }
     }
 
@@ -156,7 +142,7 @@ impl<'a> Parser<'a> {
     {
         let features = self.sections(room)?;
         let invariant = self.assertion(Terminal::Invariant, room)?;
-        self.skip_last_note();
+        self.skip_note(false);
         self.expect(Terminal::End)?;
         Ok((features, invariant))
     }
@@ -166,23 +152,19 @@ impl<'a> Parser<'a> {
     fn class(&mut self, room: u8) -> Result<Class, ParseFault>
         ensures { Gives class_in (spec.class room (ahead self.old)) result (ahead self.new) }
     {
-        self.skip_first_note();
+        self.skip_note(true);
         let start = self.next_start();
         let mark = self.mark();
-        let Header {
-            name,
-            parents,
-            creators,
-        } = self.header()?;
-        let (features, invariant) = self.members(room)?;
+        let header = self.header()?;
+        let members = self.members(room)?;
         Ok(Class {
             span: self.span_from(start),
             mark,
-            name,
-            parents,
-            creators,
-            features,
-            invariant,
+            name: header.name,
+            parents: header.parents,
+            creators: header.creators,
+            features: members.0,
+            invariant: members.1,
         })
     }
 

@@ -2,7 +2,7 @@
 
 ghost use Rattle.std.specs.Prelude.{◌≡◌};
 ghost use Rattle.sc_text.specs.Kind.{kind_of, kinds_of};
-ghost use Rattle.sc_tree.specs.Grammar.Classes as grammar;
+ghost use Rattle.sc_parse.specs.Reading.Reads.{ends_note};
 ghost use Rattle.sc_parse.specs.Reading.Looks as spec;
 ghost use Rattle.sc_tree.specs.Internal.Reading.Looks as looks;
 ghost use Rattle.sc_parse.specs.Reading.Classes as classes;
@@ -67,25 +67,16 @@ fn past(tokens: &[Token]) -> &[Token]
     }
 }
 
-/// Whether a note before `class` ends at the token.
-pub fn heads_class(token: &Token) -> bool
-    ensures { result ≡ grammar.heads_class (kind_of token.now.kind) }
+/// Whether a note before a class or, if that is not meant, before its `end` ends at the token.
+pub fn ends_note(token: &Token, is_first: bool) -> bool
+    ensures { result ≡ ends_note is_first (kind_of token.now.kind) }
 {
     match token.kind {
-        TokenKind::Terminal(terminal) => matches!(
-            terminal,
-            Terminal::Deferred | Terminal::Expanded | Terminal::Frozen | Terminal::Class
-        ),
-        _ => false,
-    }
-}
-
-/// Whether a note before `end` ends at the token.
-pub fn ends_class(token: &Token) -> bool
-    ensures { result ≡ grammar.ends_class (kind_of token.now.kind) }
-{
-    match token.kind {
-        TokenKind::Terminal(terminal) => matches!(terminal, Terminal::End),
+        TokenKind::Terminal(terminal) => match terminal {
+            Terminal::Deferred | Terminal::Expanded | Terminal::Frozen | Terminal::Class => is_first,
+            Terminal::End => !is_first,
+            _ => false,
+        },
         _ => false,
     }
 }

@@ -28,11 +28,11 @@ placed m x ps ns fs is e = ap (λ (s : Span). spec.class_of s m x ps ns fs is) e
 
 pub returns : goal.returns
 returns c =
-    let read = c.in_ok-features.ensures.read in (
+    let read = c.in_ok-members.ensures.read in (
       read.0,
-      class_read c.args.room (ahead c.args.self.now) _ _ _ _ _ _ _ _ _ _ _ _ _ c.next_start-start.ensures c.skip_first_note.ensures c.mark-mark.ensures c.in_ok-name.ensures read.1
+      class_read c.args.room (ahead c.args.self.now) _ _ _ _ _ _ _ _ _ _ _ _ _ c.next_start-start.ensures c.skip_note.ensures c.mark-mark.ensures c.in_ok-header.ensures read.1
           (class_of-is _ ∙ placed _ _ _ _ _ _ c.span_from.ensures),
     )
 
 pub invariant_of-result : goal.invariant_of-result
-invariant_of-result c = record { shared = c.in_ok-features.ensures.shared }
+invariant_of-result c = record { shared = c.in_ok-members.ensures.shared }
