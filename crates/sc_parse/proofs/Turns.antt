@@ -126,18 +126,19 @@ module _ (inner : ℕ → Ahead → Read Expr) (room k n i : ℕ) (t : Expr) (h 
       let s : suc (max h g) ≡ m + 1 = omega (arith, a) in
       right ∙ bind_ok _ _ (after_operand inner room k n i t h ts op) x ∙ choose_false _ _ _ (sym y ∙ z) ∙ ap (λ (v : Expr). Ok (v, suc (max h g), rest)) (sym l) ∙ ap (λ (m : ℕ). Ok (v, m, rest)) s
 
+  pub operators_more : (u : Expr) (g : ℕ) (rest : Ahead) (c : Bool) (v : Expr) (m : ℕ) → inner k r ≡ Ok (u, g, rest) → c ≡ groups k → c ≡ true → v ≡ Binary (across t u) op t u → m ≡ max h g →
+      operators inner room k (n - (i + 1)) v (m + 1) rest ≡ all
+  operators_more u g rest c v m x y z l a =
+      let s : m + 1 ≡ suc (max h g) = omega (arith, a) in
+      ap (λ (m : ℕ). operators inner room k (n - (i + 1)) v m rest) s ∙ ap (λ (v : Expr). operators inner room k (n - (i + 1)) v (suc (max h g)) rest) l
+      ∙ sym (right ∙ bind_ok _ _ (after_operand inner room k n i t h ts op) x ∙ choose_true _ _ _ (sym y ∙ z))
+
 -- the first turn has as many before it as tokens are left
 pub operators_begin : (inner : ℕ → Ahead → Read Expr) (room k : ℕ) (ts : Ahead) (t : Expr) (h : ℕ) →
     operators inner room k (length ts.rest - 0) t h ts ≡ operators inner room k (left ts) t h ts
 operators_begin inner room k ts t h = ap (λ (f : ℕ). operators inner room k f t h ts) (turns_of ts)
 
 -- ---- turns of calls
-
--- where no dot stands, no call follows
-pub calls_alone : (inner : ℕ → Ahead → Read Expr) (room f : ℕ) (t : Expr) (h : ℕ) (ts : Ahead) (b : Bool) → b ≡ sees terminal.Dot ts → b ≡ false → calls inner room f t h ts ≡ Ok (t, h, ts)
-unfolding calls
-calls_alone inner room zero t h ts b q d = refl
-calls_alone inner room (suc f) t h ts b q d = choose_false (sees terminal.Dot ts) _ _ (sym q ∙ d)
 
 module _ (inner : ℕ → Ahead → Read Expr) (room n i : ℕ) (t : Expr) (h : ℕ) (ts : Ahead) where
   -- what follows a call

@@ -30,9 +30,6 @@ impl<'a> Parser<'a> {
         }
         let start = self.next_start();
         let (head, height) = self.calling(None, start, room)?;
-        if !self.sees(Terminal::Dot) {
-            return Ok((head, height));
-        }
         self.calls(room, head, height)
     }
 

@@ -1,10 +1,10 @@
 //! Expressions (ECMA-367, 8.28).
 
-ghost use Rattle.std.specs.Prelude.{◌≡◌, ◌≤◌, ◌<◌, max, Ok, IfOk};
+ghost use Rattle.std.specs.Prelude.{◌≡◌, ◌≤◌, ◌<◌, max, Some, None, Ok, IfOk, MatchOption};
 ghost use Rattle.sc_tree.specs.Plain as plain;
 ghost use Rattle.sc_parse.specs.Reading.Looks.{Ahead, left};
 ghost use Rattle.sc_parse.specs.Reading.Expressions as spec;
-ghost use Rattle.sc_parse.specs.Reading.Reads.{ahead, expr_in, Reads};
+ghost use Rattle.sc_parse.specs.Reading.Reads.{ahead, expr_in, constant_ahead, Reads};
 
 use crate::cursor::Parser;
 use crate::fault::ParseFault;
@@ -149,24 +149,37 @@ impl<'a> Parser<'a> {
         Ok((Expr::Unary(span, operator, operand), height + 1))
     }
 
+    /// The constant that the next token is.
+    #[tactic(auto, unfolding(sc_tree::specs::View::expr_of))]
+    fn constant(&self) -> Option<Expr>
+        ensures { MatchOption result (constant_ahead (ahead self.now) ≡ None)
+            (λ e. constant_ahead (ahead self.now) ≡ Some (expr_in e)) }
+    {
+        let span = self.next_span();
+        if self.sees(Terminal::True) {
+            return Some(Expr::Boolean(span, true));
+        }
+        if self.sees(Terminal::False) {
+            return Some(Expr::Boolean(span, false));
+        }
+        if self.sees(Terminal::Void) {
+            return Some(Expr::Void(span));
+        }
+        match self.integer() {
+            Some(value) => Some(Expr::Integer(span, value)),
+            None => None,
+        }
+    }
+
     /// A constant, an expression in parentheses, an object test or a chain of calls.
     #[cycle(expression)]
-    #[tactic(auto, unfolding(crate::specs::Reading::Expressions::primary, crate::specs::Reading::Expressions::parenthesized, sc_tree::specs::View::expr_of))]
     fn primary(&mut self, room: u8) -> Result<(Expr, u8), ParseFault>
         ensures read { Reads expr_in (spec.primary (spec.nested room) room (ahead self.old)) result (ahead self.new) }
         ensures high { IfOk result (λ p. p.1 ≤ room) }
     {
-        if self.sees(Terminal::True) {
+        if let Some(constant) = self.constant() {
             self.take();
-            return Ok((Expr::Boolean(self.last, true), 0));
-        }
-        if self.sees(Terminal::False) {
-            self.take();
-            return Ok((Expr::Boolean(self.last, false), 0));
-        }
-        if self.sees(Terminal::Void) {
-            self.take();
-            return Ok((Expr::Void(self.last), 0));
+            return Ok((constant, 0));
         }
         if self.sees(Terminal::OpenParenthesis) {
             self.take();
@@ -178,12 +191,6 @@ impl<'a> Parser<'a> {
             self.take();
             return self.object_test(room);
         }
-        match self.integer() {
-            Some(value) => {
-                self.take();
-                Ok((Expr::Integer(self.last, value), 0))
-            }
-            None => self.chain(room),
-        }
+        self.chain(room)
     }
 }

@@ -1,6 +1,6 @@
 use Rattle.std.proofs.Common.{◌+◌, refl, ◌∙◌, ap, sym, List, [], ◌∷◌, ◌++◌, Ok, arith}
 use Rattle.std.proofs.lemmas.Result.{err_from_is_err_and}
-use Rattle.sc_tree.proofs.ReadingSteps.{choose_false}
+use Rattle.sc_tree.proofs.ReadingSteps.{bind_ok, choose_false}
 use Rattle.sc_tree.proofs.ViewLemmas.{expr_of-current, expr_of-result, expr_of-call, expr_of-object_test}
 use Rattle.sc_parse.proofs.Views.{exprs_of-push}
 use Rattle.sc_tree.specs.declared.expression.Expr.{Expr}
@@ -9,11 +9,11 @@ use Rattle.sc_tree.specs.Plain as plain
 use Rattle.sc_tree.specs.View.{exprs_of}
 use Rattle.sc_parse.specs.Reading.Expressions.{nested, actuals}
 use Rattle.sc_parse.specs.Reading.Reads.{ahead, name_in, type_if_any_in, expr_in, exprs_in, target_in}
-use Rattle.sc_parse.proofs.Faults.{Fails-along, Reads-along}
+use Rattle.sc_parse.proofs.Faults.{Fails-along, Fails-bind, Reads-along}
 use Rattle.sc_parse.proofs.Levels.{free_of_no_class, stays, reaches, fails_higher}
-use Rattle.sc_parse.proofs.Turns.{expr_zero, operators_end, operators_begin, operators_deep, operators_fail, operators_done, calls_begin, calls_fail, calls_more, chain_current, chain_result, chain_fail, chain_dots, calls_alone, exprs_begin, exprs_more, exprs_none, exprs_fail, exprs_end, calls_none, calls_end}
+use Rattle.sc_parse.proofs.Turns.{expr_zero, operators_end, operators_begin, operators_deep, operators_fail, operators_done, operators_more, calls_begin, calls_fail, calls_more, chain_current, chain_result, chain_fail, chain_dots, exprs_begin, exprs_more, exprs_none, exprs_fail, exprs_end, calls_none, calls_end}
 use Rattle.sc_parse.proofs.Parts.{object_test_read}
-use Rattle.sc_parse.proofs.Steps.{calling_is}
+use Rattle.sc_parse.proofs.Steps.{calling_is, primary_constant, primary_otherwise, primary_parenthesis, primary_test, primary_chain, closed, parenthesized_is, parenthesized_read}
 use Rattle.sc_parse.proofs.cursor.Parser.+expression.Goals as goal
 
 -- ---- levels
@@ -73,6 +73,60 @@ operators-returns-then-not-is_grouped-clause-read t c =
     c.in_ok-left.ensures
     c.deeper-height.ensures
 
+pub operators-loop-turn-preserved : goal.operators-loop-turn-preserved
+operators-loop-turn-preserved t c = record {
+  high = omega (arith, c.deeper-height.ensures, c.in_ok-right.ensures.high, c.if-room-height.false);
+  same = operators_more (nested c.args.room) c.args.room c.args.class _ c.loop-turn._turn (expr_in c.loop-turn.left) c.loop-turn.height (ahead c.loop-turn.self) _ c.loop-turn.invariant.same
+      _ _ _ c.loop-turn-test.true c.operator.ensures c.in-Some.is c.if-room-height.false c.take_operator.ensures _ _ _ _ _ _ c.in_ok-right.ensures.read c.is_grouped.ensures c.if-not-is_grouped.false
+      c.in_ok-left.ensures c.deeper-height.ensures;
+}
+
+-- ---- primaries
+
+pub primary-returns-in-Some-clause-read : goal.primary-returns-in-Some-clause-read
+primary-returns-in-Some-clause-read t c = primary_constant (nested c.args.room) c.args.room (ahead c.args.self.now) _ _ c.in-Some.ensures c.take.ensures.past
+
+pub primary-returns-in_err-inner-clause-read : goal.primary-returns-in_err-inner-clause-read
+primary-returns-in_err-inner-clause-read t c =
+    let ts = ahead c.args.self.now in
+    let p = err_from_is_err_and c.from_residual.result c.from_residual.ensures.1 in
+    rw (p.1, p.2)
+    (Fails-along _ _ c.in_err-inner.field-0.0
+    (primary_parenthesis (nested c.args.room) c.args.room ts (primary_otherwise (nested c.args.room) c.args.room ts c.constant.result _ c.constant.ensures c.in_default.not-Some) _ c.sees.ensures _ c.if-sees.true c.take-then-sees.ensures.past
+    ∙ parenthesized_is (nested c.args.room) _)
+    (Fails-bind _ _ c.in_err-inner.field-0.0 c.in_err-inner.ensures.read))
+
+pub primary-returns-in_err-expect-clause-read : goal.primary-returns-in_err-expect-clause-read
+primary-returns-in_err-expect-clause-read t c =
+    let ts = ahead c.args.self.now in
+    let p = err_from_is_err_and c.from_residual-in_err-expect.result c.from_residual-in_err-expect.ensures.1 in
+    rw (p.1, p.2)
+    (Fails-along _ _ c.in_err-expect.field-0.0
+    (primary_parenthesis (nested c.args.room) c.args.room ts (primary_otherwise (nested c.args.room) c.args.room ts c.constant.result _ c.constant.ensures c.in_default.not-Some) _ c.sees.ensures _ c.if-sees.true c.take-then-sees.ensures.past
+    ∙ parenthesized_is (nested c.args.room) _ ∙ bind_ok _ _ closed c.in_ok-inner.ensures.read)
+    (Fails-bind _ _ c.in_err-expect.field-0.0 c.in_err-expect.ensures))
+
+pub primary-returns-then-sees-clause-read : goal.primary-returns-then-sees-clause-read
+primary-returns-then-sees-clause-read t c =
+    let ts = ahead c.args.self.now in
+    primary_parenthesis (nested c.args.room) c.args.room ts (primary_otherwise (nested c.args.room) c.args.room ts c.constant.result _ c.constant.ensures c.in_default.not-Some) _ c.sees.ensures _ c.if-sees.true c.take-then-sees.ensures.past
+    ∙ parenthesized_read (nested c.args.room) _ _ _ _ _ c.in_ok-inner.ensures.read c.in_ok-expect.ensures
+
+pub primary-returns-then-sees-2-clause-read : goal.primary-returns-then-sees-2-clause-read
+primary-returns-then-sees-2-clause-read t c =
+    let ts = ahead c.args.self.now in
+    Reads-along expr_in _ _ c.object_test.result _
+    (primary_test (nested c.args.room) c.args.room ts (primary_otherwise (nested c.args.room) c.args.room ts c.constant.result _ c.constant.ensures c.in_default.not-Some) _ c.sees.ensures c.if-sees.false _ c.sees-2.ensures _ c.if-sees-2.true
+    c.take-then-sees-2.ensures.past)
+    c.object_test.ensures.read
+
+pub primary-returns-clause-read : goal.primary-returns-clause-read
+primary-returns-clause-read t c =
+    let ts = ahead c.args.self.now in
+    Reads-along expr_in _ _ c.chain.result _
+    (primary_chain (nested c.args.room) c.args.room ts (primary_otherwise (nested c.args.room) c.args.room ts c.constant.result _ c.constant.ensures c.in_default.not-Some) _ c.sees.ensures c.if-sees.false _ c.sees-2.ensures c.if-sees-2.false)
+    c.chain.ensures.read
+
 -- ---- calls
 
 pub calls-loop-turn-init : goal.calls-loop-turn-init
@@ -118,11 +172,6 @@ chain-returns-in_err-head-clause-read t c =
     rw (p.1, p.2)
     (chain_fail (nested c.args.room) c.args.room (ahead c.args.self.now) _ c.sees.ensures c.if-sees.false _ c.sees-2.ensures _ _ c.if-sees-2.false c.next_start-start.ensures refl c.in_err-head.field-0.0
     c.in_err-head.ensures.read)
-
-pub chain-returns-then-not-sees-clause-read : goal.chain-returns-then-not-sees-clause-read
-chain-returns-then-not-sees-clause-read t c =
-    chain_dots (nested c.args.room) c.args.room (ahead c.args.self.now) _ c.sees.ensures c.if-sees.false _ c.sees-2.ensures _ _ c.if-sees-2.false c.next_start-start.ensures refl _ _ _ c.in_ok-head.ensures.read
-    ∙ calls_alone (nested c.args.room) c.args.room _ _ _ _ _ c.sees-3.ensures c.if-not-sees.true
 
 pub chain-returns-clause-read : goal.chain-returns-clause-read
 chain-returns-clause-read t c =
