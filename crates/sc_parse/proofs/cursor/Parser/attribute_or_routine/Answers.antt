@@ -1,4 +1,4 @@
-use Rattle.std.proofs.Common.{◌≡◌, ℕ, zero, suc, ◌<◌, true, false, List, [], ◌∷◌, length, Option, Some, None, Ok, refl, sym, ◌∙◌, map, arith}
+use Rattle.std.proofs.Common.{◌≡◌, ℕ, zero, suc, ◌<◌, true, false, List, [], ◌∷◌, length, Option, Some, None, Ok, refl, ap, sym, ◌∙◌, map, arith}
 use Rattle.std.specs.Prelude.{◌==◌, vec_len}
 use Rattle.std.proofs.lemmas.Bool.{eqb-true, false≢true}
 use Rattle.std.proofs.lemmas.List.{nil_from_length}
@@ -24,18 +24,19 @@ attribute_read room es x formals t d ts fs e s b q = rw (e, s, q) (choose_false 
 
 none_read : (room : ℕ) (es : List plain.Name) (x : plain.Name) (formals : List Declaration) (t : Option DeclaredType) (ts : Ahead) → t ≡ None →
     spec.attribute_or_routine room es x (map declaration_of formals) (type_if_any_in t) ts ≡ spec.routine room es x (map declaration_of formals) (type_if_any_in None) ts
-none_read room es x [] t ts e = rw e refl
-none_read room es x (f ∷ formals) t ts e = rw e refl
+none_read room es x [] t ts e = ap (λ (t : Option DeclaredType). spec.attribute_or_routine room es x (map declaration_of []) (type_if_any_in t) ts) e
+none_read room es x (f ∷ formals) t ts e = ap (λ (t : Option DeclaredType). spec.attribute_or_routine room es x (map declaration_of (f ∷ formals)) (type_if_any_in t) ts) e
 
 formals_read : (room : ℕ) (es : List plain.Name) (x : plain.Name) (formals : List Declaration) (t : Option DeclaredType) (d : DeclaredType) (ts : Ahead) → 0 < length formals → t ≡ Some d →
     spec.attribute_or_routine room es x (map declaration_of formals) (type_if_any_in t) ts ≡ spec.routine room es x (map declaration_of formals) (type_if_any_in (Some d)) ts
 formals_read room es x [] t d ts p e = absurd (omega (arith, p))
-formals_read room es x (f ∷ formals) t d ts p e = rw e refl
+formals_read room es x (f ∷ formals) t d ts p e = ap (λ (t : Option DeclaredType). spec.attribute_or_routine room es x (map declaration_of (f ∷ formals)) (type_if_any_in t) ts) e
 
 begun_read : (room : ℕ) (es : List plain.Name) (x : plain.Name) (formals : List Declaration) (t : Option DeclaredType) (d : DeclaredType) (ts : Ahead) → spec.begins_routine ts ≡ true → t ≡ Some d →
     spec.attribute_or_routine room es x (map declaration_of formals) (type_if_any_in t) ts ≡ spec.routine room es x (map declaration_of formals) (type_if_any_in (Some d)) ts
-begun_read room es x [] t d ts b e = rw e (choose_true (spec.begins_routine ts) _ _ b)
-begun_read room es x (f ∷ formals) t d ts b e = rw e refl
+begun_read room es x [] t d ts b e =
+    ap (λ (t : Option DeclaredType). spec.attribute_or_routine room es x (map declaration_of []) (type_if_any_in t) ts) e ∙ choose_true (spec.begins_routine ts) _ _ b
+begun_read room es x (f ∷ formals) t d ts b e = ap (λ (t : Option DeclaredType). spec.attribute_or_routine room es x (map declaration_of (f ∷ formals)) (type_if_any_in t) ts) e
 
 not_zero : (n : ℕ) → false ≡ (n == 0) → 0 < n
 not_zero zero e = absurd (false≢true e)
