@@ -73,7 +73,8 @@ pub fn ends_note(token: &Token, is_first: bool) -> bool
 {
     match token.kind {
         TokenKind::Terminal(terminal) => match terminal {
-            Terminal::Deferred | Terminal::Expanded | Terminal::Frozen | Terminal::Class => is_first,
+            Terminal::Deferred | Terminal::Expanded | Terminal::Frozen | Terminal::Class =>
+                is_first,
             Terminal::End => !is_first,
             _ => false,
         },

@@ -2,7 +2,7 @@ use Rattle.std.proofs.Common.{◌≡◌, ℕ, zero, suc, ◌<◌, true, false, L
 use Rattle.std.specs.Prelude.{◌==◌, vec_len}
 use Rattle.std.proofs.lemmas.Bool.{eqb-true, false≢true}
 use Rattle.std.proofs.lemmas.List.{nil_from_length}
-use Rattle.sc_parse.specs.Reading.Looks.{Ahead}
+use Rattle.sc_parse.specs.Reading.Looks.{Ahead, Read}
 use Rattle.sc_tree.specs.declared.declaration.Declaration.{Declaration}
 use Rattle.sc_tree.specs.declared.declaration.DeclaredType.{DeclaredType}
 use Rattle.sc_tree.specs.declared.system.FeatureKind.TheVariants as kind
@@ -22,21 +22,26 @@ attribute_read : (room : ℕ) (es : List plain.Name) (x : plain.Name) (formals :
 unfolding kind_of
 attribute_read room es x formals t d ts fs e s b q = rw (e, s, q) (choose_false (spec.begins_routine ts) _ _ b)
 
-none_read : (room : ℕ) (es : List plain.Name) (x : plain.Name) (formals : List Declaration) (t : Option DeclaredType) (ts : Ahead) → t ≡ None →
-    spec.attribute_or_routine room es x (map declaration_of formals) (type_if_any_in t) ts ≡ spec.routine room es x (map declaration_of formals) (type_if_any_in None) ts
-none_read room es x [] t ts e = ap (λ (t : Option DeclaredType). spec.attribute_or_routine room es x (map declaration_of []) (type_if_any_in t) ts) e
-none_read room es x (f ∷ formals) t ts e = ap (λ (t : Option DeclaredType). spec.attribute_or_routine room es x (map declaration_of (f ∷ formals)) (type_if_any_in t) ts) e
+-- the same list of formals and what follows it, of a type that is there or not
+abbrev read_as : ℕ → List plain.Name → plain.Name → Ahead → List Declaration → Option DeclaredType → Read (List plain.Feature)
+read_as room es x ts formals t = spec.attribute_or_routine room es x (map declaration_of formals) (type_if_any_in t) ts
 
-formals_read : (room : ℕ) (es : List plain.Name) (x : plain.Name) (formals : List Declaration) (t : Option DeclaredType) (d : DeclaredType) (ts : Ahead) → 0 < length formals → t ≡ Some d →
-    spec.attribute_or_routine room es x (map declaration_of formals) (type_if_any_in t) ts ≡ spec.routine room es x (map declaration_of formals) (type_if_any_in (Some d)) ts
-formals_read room es x [] t d ts p e = absurd (omega (arith, p))
-formals_read room es x (f ∷ formals) t d ts p e = ap (λ (t : Option DeclaredType). spec.attribute_or_routine room es x (map declaration_of (f ∷ formals)) (type_if_any_in t) ts) e
+abbrev as_routine : ℕ → List plain.Name → plain.Name → Ahead → List Declaration → Option DeclaredType → Read (List plain.Feature)
+as_routine room es x ts formals t = spec.routine room es x (map declaration_of formals) (type_if_any_in t) ts
 
-begun_read : (room : ℕ) (es : List plain.Name) (x : plain.Name) (formals : List Declaration) (t : Option DeclaredType) (d : DeclaredType) (ts : Ahead) → spec.begins_routine ts ≡ true → t ≡ Some d →
-    spec.attribute_or_routine room es x (map declaration_of formals) (type_if_any_in t) ts ≡ spec.routine room es x (map declaration_of formals) (type_if_any_in (Some d)) ts
-begun_read room es x [] t d ts b e =
-    ap (λ (t : Option DeclaredType). spec.attribute_or_routine room es x (map declaration_of []) (type_if_any_in t) ts) e ∙ choose_true (spec.begins_routine ts) _ _ b
-begun_read room es x (f ∷ formals) t d ts b e = ap (λ (t : Option DeclaredType). spec.attribute_or_routine room es x (map declaration_of (f ∷ formals)) (type_if_any_in t) ts) e
+module _ (room : ℕ) (es : List plain.Name) (x : plain.Name) (ts : Ahead) (t : Option DeclaredType) where
+  none_read : (formals : List Declaration) → t ≡ None → read_as room es x ts formals t ≡ as_routine room es x ts formals None
+  none_read [] e = ap (read_as room es x ts []) e
+  none_read (f ∷ formals) e = ap (read_as room es x ts (f ∷ formals)) e
+
+  module _ (d : DeclaredType) (e : t ≡ Some d) where
+    formals_read : (formals : List Declaration) → 0 < length formals → read_as room es x ts formals t ≡ as_routine room es x ts formals (Some d)
+    formals_read [] p = absurd (omega (arith, p))
+    formals_read (f ∷ formals) p = ap (read_as room es x ts (f ∷ formals)) e
+
+    begun_read : (formals : List Declaration) → spec.begins_routine ts ≡ true → read_as room es x ts formals t ≡ as_routine room es x ts formals (Some d)
+    begun_read [] b = ap (read_as room es x ts []) e ∙ choose_true (spec.begins_routine ts) _ _ b
+    begun_read (f ∷ formals) b = ap (read_as room es x ts (f ∷ formals)) e
 
 not_zero : (n : ℕ) → false ≡ (n == 0) → 0 < n
 not_zero zero e = absurd (false≢true e)
@@ -44,18 +49,18 @@ not_zero (suc n) e = omega arith
 
 pub returns-in_default : goal.returns-in_default
 returns-in_default c =
-    Gives-along features_in _ _ c.routine.result _ (none_read c.args.room _ _ c.args.formals.items c.args.result_type (ahead c.args.self.now) c.in_default.is) c.routine.ensures
+    Gives-along features_in _ _ c.routine.result _ (none_read c.args.room _ _ (ahead c.args.self.now) c.args.result_type c.args.formals.items c.in_default.is) c.routine.ensures
 
 pub returns-then-not-is_empty : goal.returns-then-not-is_empty
 returns-then-not-is_empty c =
     Gives-along features_in _ _ c.routine-then-not-is_empty.result _
-    (formals_read c.args.room _ _ c.args.formals.items c.args.result_type _ (ahead c.args.self.now) (omega (arith, not_zero _ c.if-not-is_empty.ensures, c.args.formals.ok.0)) c.in-Some.is)
+    (formals_read c.args.room _ _ (ahead c.args.self.now) c.args.result_type _ c.in-Some.is c.args.formals.items (omega (arith, not_zero _ c.if-not-is_empty.ensures, c.args.formals.ok.0)))
     c.routine-then-not-is_empty.ensures
 
 pub returns-then-begins_routine : goal.returns-then-begins_routine
 returns-then-begins_routine c =
     Gives-along features_in _ _ c.routine-then-begins_routine.result _
-    (begun_read c.args.room _ _ c.args.formals.items c.args.result_type _ (ahead c.args.self.now) (sym c.begins_routine.ensures ∙ c.if-begins_routine.true) c.in-Some.is)
+    (begun_read c.args.room _ _ (ahead c.args.self.now) c.args.result_type _ c.in-Some.is c.args.formals.items (sym c.begins_routine.ensures ∙ c.if-begins_routine.true))
     c.routine-then-begins_routine.ensures
 
 pub returns : goal.returns
