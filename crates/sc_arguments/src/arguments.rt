@@ -1,6 +1,5 @@
 //! The arguments of a command line: what is asked for, and of which files.
 
-mod explaining;
 mod format;
 mod given;
 mod help;
@@ -13,12 +12,16 @@ ghost use Rattle.std.specs.Prelude.{◌≡◌, IfOk, codes, map};
 ghost use Rattle.sc_arguments.specs.Asked.{IsAskedFor, IsAskedOf};
 ghost use Rattle.sc_arguments.specs.Usage as spec;
 
-use crate::arguments::explaining::is_explained;
 use crate::arguments::format::read_format;
 use crate::arguments::given::given_in;
-use crate::arguments::options::{Taken, argument};
+use crate::arguments::options::{
+    CODE, EXPLAIN, FILES, FLAG, FORMAT, KEPT, NO_EXPLAIN, OPTION, OUTPUT_LIMIT, RECORD, ROOT,
+    TRACE, Taken, argument,
+};
+use crate::arguments::searching::SEARCH;
 use crate::arguments::tracing::{read_trace, read_trace_by};
 use clap::ArgMatches;
+use clap::builder::ValueParser;
 use clap::error::ErrorKind;
 pub use format::Format;
 pub use help::ask_for_help;
@@ -274,39 +277,112 @@ const AUDIT_HELP: &str = "Plays the record by one thread, and says whether that 
 
 const KEPT_HELP: &str = "Writes the record of the run to this file, for `scoop replay`";
 
-/// What `check` takes.
-const CHECK_TAKES: [Taken; 5] = [
-    Taken::Explain(EXPLAIN_HELP),
-    Taken::NoExplain,
-    Taken::Format,
-    Taken::Root,
-    Taken::Files,
+/// A command, with a short and a long text on it, one behind its options, and what it takes.
+struct Described {
+    name: &'static str,
+    about: &'static str,
+    long_about: &'static str,
+    after_help: &'static str,
+    takes: &'static [Taken],
+}
+
+/// What the program can be told to do.
+const COMMANDS: [Described; 6] = [
+    Described {
+        name: "check",
+        about: CHECK_ABOUT,
+        long_about: CHECK_LONG_ABOUT,
+        after_help: CHECK_AFTER_HELP,
+        takes: &[
+            Taken {
+                help: EXPLAIN_HELP,
+                ..EXPLAIN
+            },
+            NO_EXPLAIN,
+            FORMAT,
+            ROOT,
+            FILES,
+        ],
+    },
+    Described {
+        name: "run",
+        about: RUN_ABOUT,
+        long_about: RUN_LONG_ABOUT,
+        after_help: RUN_AFTER_HELP,
+        takes: &RUN_TAKES,
+    },
+    Described {
+        name: "replay",
+        about: REPLAY_ABOUT,
+        long_about: REPLAY_LONG_ABOUT,
+        after_help: REPLAY_AFTER_HELP,
+        takes: &[
+            TRACE,
+            Taken {
+                help: RUN_EXPLAIN_HELP,
+                ..EXPLAIN
+            },
+            NO_EXPLAIN,
+            FORMAT,
+            ROOT,
+            RECORD,
+            FILES,
+        ],
+    },
+    SEARCH,
+    Described {
+        name: "print",
+        about: PRINT_ABOUT,
+        long_about: PRINT_LONG_ABOUT,
+        after_help: PRINT_AFTER_HELP,
+        takes: &[FILES],
+    },
+    Described {
+        name: "explain",
+        about: EXPLAIN_ABOUT,
+        long_about: EXPLAIN_LONG_ABOUT,
+        after_help: EXPLAIN_AFTER_HELP,
+        takes: &[CODE],
+    },
 ];
 
 /// What `run` takes.
 const RUN_TAKES: [Taken; 11] = [
-    Taken::Number("workers", WORKERS_HELP, 8, "1"),
-    Taken::Number("turns", TURNS_HELP, 10_000_000, "1000000"),
-    Taken::OutputLimit,
-    Taken::Kept(KEPT_HELP),
-    Taken::Flag("audit", AUDIT_HELP),
-    Taken::Trace,
-    Taken::Explain(RUN_EXPLAIN_HELP),
-    Taken::NoExplain,
-    Taken::Format,
-    Taken::Root,
-    Taken::Files,
-];
-
-/// What `replay` takes.
-const REPLAY_TAKES: [Taken; 7] = [
-    Taken::Trace,
-    Taken::Explain(RUN_EXPLAIN_HELP),
-    Taken::NoExplain,
-    Taken::Format,
-    Taken::Root,
-    Taken::Record,
-    Taken::Files,
+    Taken {
+        name: "workers",
+        help: WORKERS_HELP,
+        value_names: &["N"],
+        parser: ValueParser::Signed(1, 8),
+        default: &["1"],
+        ..OPTION
+    },
+    Taken {
+        name: "turns",
+        help: TURNS_HELP,
+        value_names: &["N"],
+        parser: ValueParser::Signed(1, 10_000_000),
+        default: &["1000000"],
+        ..OPTION
+    },
+    OUTPUT_LIMIT,
+    Taken {
+        help: KEPT_HELP,
+        ..KEPT
+    },
+    Taken {
+        name: "audit",
+        help: AUDIT_HELP,
+        ..FLAG
+    },
+    TRACE,
+    Taken {
+        help: RUN_EXPLAIN_HELP,
+        ..EXPLAIN
+    },
+    NO_EXPLAIN,
+    FORMAT,
+    ROOT,
+    FILES,
 ];
 
 /// Reads the arguments of a command line, of which the first is the program's name. Where none of them says whether the
@@ -360,9 +436,10 @@ fn read_check(
     options: &ArgMatches<'_>,
     explains: bool,
 ) -> Result<CheckOptions, UsageFault> {
+    let text = options.get_str("root").unwrap_or("");
     Ok(CheckOptions {
-        root: read_root(alloc, options)?,
-        is_explained: is_explained(options, explains),
+        root: root_option::root_of(alloc, text)?.ok_or(UsageFault::BadRoot)?,
+        is_explained: options.get_flag("explain") || explains && !options.get_flag("no-explain"),
         format: read_format(options),
     })
 }
@@ -372,18 +449,18 @@ fn read_run<'a>(
     options: &ArgMatches<'a>,
     explains: bool,
 ) -> Result<RunOptions<'a>, UsageFault> {
-    let root = read_root(alloc, options)?;
+    let check = read_check(alloc, options, explains)?;
     let workers = options.get_one("workers").unwrap_or(DEFAULT_WORKERS);
     Ok(RunOptions {
-        root,
+        root: check.root,
         workers,
         turns: options.get_one("turns").unwrap_or(DEFAULT_TURNS),
         output_limit: options.get_one("output-limit"),
         record: options.get_str("record"),
         is_audited: options.get_flag("audit"),
         trace: read_trace_by(options, workers)?,
-        is_explained: is_explained(options, explains),
-        format: read_format(options),
+        is_explained: check.is_explained,
+        format: check.format,
     })
 }
 
@@ -400,100 +477,38 @@ fn read_replay<'a>(
         return Err(UsageFault::NoCommand);
     };
     let names = Vec::from_slice(alloc, names)?;
+    let check = read_check(alloc, options, explains)?;
     let replay = ReplayOptions {
-        root: read_root(alloc, options)?,
+        root: check.root,
         record: *record,
         trace: read_trace(options),
-        is_explained: is_explained(options, explains),
-        format: read_format(options),
+        is_explained: check.is_explained,
+        format: check.format,
     };
     Ok(Invocation::Replay(replay, names))
 }
 
-fn read_root(alloc: Global, options: &ArgMatches<'_>) -> Result<Root, UsageFault> {
-    let text = options.get_str("root").unwrap_or("");
-    root_option::root_of(alloc, text)?.ok_or(UsageFault::BadRoot)
-}
-
 fn scoop_command<'a>(alloc: Global) -> Result<clap::Command<'a>, AllocError> {
-    let commands = commands(alloc)?;
-    program(alloc).subcommands(commands)?.bin_name("scoop")
-}
-
-/// What the program can be told to do.
-fn commands<'a>(alloc: Global) -> Result<Vec<clap::Command<'a>>, AllocError> {
-    let mut commands = Vec::new(alloc);
-    add(&mut commands, check_command(alloc))?;
-    add(&mut commands, run_command(alloc))?;
-    add(&mut commands, replay_command(alloc))?;
-    add(&mut commands, searching::search_command(alloc))?;
-    add(&mut commands, print_command(alloc))?;
-    add(&mut commands, explain_command(alloc))?;
-    Ok(commands)
-}
-
-/// Adds this command, where memory sufficed for it.
-fn add<'a>(
-    commands: &mut Vec<clap::Command<'a>>,
-    command: Result<clap::Command<'a>, AllocError>,
-) -> Result<(), AllocError> {
-    commands.push(command?)?;
-    Ok(())
-}
-
-/// The program, without its commands.
-fn program<'a>(alloc: Global) -> clap::Command<'a> {
-    described(alloc, "scoop", [ABOUT, LONG_ABOUT, STATUS_HELP])
+    let mut program = clap::Command::new(alloc, "scoop")
+        .about(ABOUT)
+        .long_about(LONG_ABOUT)
+        .after_help(STATUS_HELP)
         .version("0.1.0")
         .subcommand_required(true)
-        .arg_required_else_help(true)
+        .arg_required_else_help(true);
+    for described in &COMMANDS {
+        program = program.subcommand(command_of(alloc, described)?)?;
+    }
+    program.bin_name("scoop")
 }
 
-fn check_command<'a>(alloc: Global) -> Result<clap::Command<'a>, AllocError> {
-    let texts = [CHECK_ABOUT, CHECK_LONG_ABOUT, CHECK_AFTER_HELP];
-    command_of(alloc, "check", texts, &CHECK_TAKES)
-}
-
-fn run_command<'a>(alloc: Global) -> Result<clap::Command<'a>, AllocError> {
-    let texts = [RUN_ABOUT, RUN_LONG_ABOUT, RUN_AFTER_HELP];
-    command_of(alloc, "run", texts, &RUN_TAKES)
-}
-
-fn replay_command<'a>(alloc: Global) -> Result<clap::Command<'a>, AllocError> {
-    let texts = [REPLAY_ABOUT, REPLAY_LONG_ABOUT, REPLAY_AFTER_HELP];
-    command_of(alloc, "replay", texts, &REPLAY_TAKES)
-}
-
-fn print_command<'a>(alloc: Global) -> Result<clap::Command<'a>, AllocError> {
-    let texts = [PRINT_ABOUT, PRINT_LONG_ABOUT, PRINT_AFTER_HELP];
-    command_of(alloc, "print", texts, &[Taken::Files])
-}
-
-fn explain_command<'a>(alloc: Global) -> Result<clap::Command<'a>, AllocError> {
-    let texts = [EXPLAIN_ABOUT, EXPLAIN_LONG_ABOUT, EXPLAIN_AFTER_HELP];
-    command_of(alloc, "explain", texts, &[Taken::Code])
-}
-
-/// A command of this name with these texts in its help, which takes this.
-fn command_of<'a>(
-    alloc: Global,
-    name: &'a str,
-    texts: [&'a str; 3],
-    takes: &[Taken],
-) -> Result<clap::Command<'a>, AllocError> {
-    let mut command = described(alloc, name, texts);
-    for taken in takes {
-        let argument = argument(alloc, *taken)?;
-        command = command.arg(argument)?;
+fn command_of<'a>(alloc: Global, described: &Described) -> Result<clap::Command<'a>, AllocError> {
+    let mut command = clap::Command::new(alloc, described.name)
+        .about(described.about)
+        .long_about(described.long_about)
+        .after_help(described.after_help);
+    for taken in described.takes {
+        command = command.arg(argument(alloc, taken)?)?;
     }
     Ok(command)
-}
-
-/// A command of this name that takes nothing, with a short and a long text on it and one behind its options.
-fn described<'a>(alloc: Global, name: &'a str, texts: [&'a str; 3]) -> clap::Command<'a> {
-    let [about, long_about, after_help] = texts;
-    clap::Command::new(alloc, name)
-        .about(about)
-        .long_about(long_about)
-        .after_help(after_help)
 }

@@ -1,7 +1,6 @@
 //! What commands take: options, and what is given to them.
 
 use crate::arguments::format::{FORMAT_HELP, FORMATS};
-use crate::arguments::searching::{SOUGHT, SOUGHT_HELP};
 use crate::arguments::tracing::{TRACE_HELP, TRACED};
 use clap::builder::ValueParser;
 use clap::{Arg, ArgAction};
@@ -9,116 +8,163 @@ use std::alloc::{AllocError, Global};
 
 /// What a command takes, with the text on it in the command's help.
 #[derive(Clone, Copy)]
-pub enum Taken {
-    /// The option `--explain`.
-    Explain(&'static str),
-    /// The option `--no-explain`. Of both the last is meant.
-    NoExplain,
-    /// An option of this name that takes no value.
-    Flag(&'static str, &'static str),
-    /// An option of this name whose value is a number: from 1 to that, and this one where there is none.
-    Number(&'static str, &'static str, i64, &'static str),
-    /// The option `--record`, whose value is a file to write to.
-    Kept(&'static str),
-    /// The option `--output-limit`.
-    OutputLimit,
-    /// The option `--trace`, whose value stands behind `=` if it has one.
-    Trace,
-    /// The option `--root`.
-    Root,
-    /// The option `--format`.
-    Format,
-    /// The option `--for`.
-    Sought,
-    /// A record.
-    Record,
-    /// Files.
-    Files,
-    /// A code.
-    Code,
+pub struct Taken {
+    pub name: &'static str,
+    pub help: &'static str,
+    /// Whether it is an option of this name, and not what is given to the command.
+    pub is_option: bool,
+    pub is_required: bool,
+    pub action: ArgAction,
+    /// The least and the most values of one use.
+    pub values: (usize, usize),
+    /// What help calls each value.
+    pub value_names: &'static [&'static str],
+    /// What each value has to be.
+    pub parser: ValueParser<'static>,
+    /// The value where it isn't used.
+    pub default: &'static [&'static str],
+    /// The value of a use without one.
+    pub missing: &'static [&'static str],
+    /// Whether its value stands behind `=`.
+    pub needs_equals: bool,
+    /// The options that a use of this one undoes.
+    pub undone: &'static [&'static str],
 }
 
-const OUTPUT_LIMIT_HELP: &str =
-    "Ends the run once all that is printed has more bytes than this, 0 to 1000000000000";
+/// An option that takes no value.
+pub const FLAG: Taken = Taken {
+    name: "",
+    help: "",
+    is_option: true,
+    is_required: false,
+    action: ArgAction::SetTrue,
+    values: (0, 0),
+    value_names: &[],
+    parser: ValueParser::Bool,
+    default: &[],
+    missing: &[],
+    needs_equals: false,
+    undone: &[],
+};
 
-const MOST_OUTPUT: u64 = 1_000_000_000_000;
+/// An option that takes any text.
+pub const OPTION: Taken = Taken {
+    action: ArgAction::Set,
+    values: (1, 1),
+    parser: ValueParser::String,
+    ..FLAG
+};
 
-const UNEXPLAINED_HELP: &str = "Leaves that out";
+/// What is given to a command.
+const GIVEN: Taken = Taken {
+    is_option: false,
+    ..OPTION
+};
 
-const ROOT_HELP: &str = "The root class and its creation procedure";
+/// The option `--explain`, but for its text. Of it and of `--no-explain` the last is meant.
+pub const EXPLAIN: Taken = Taken {
+    name: "explain",
+    undone: &["no-explain"],
+    ..FLAG
+};
 
-const CODE_HELP: &str = "The code, as V6, or its name, in any letter case";
+/// The option `--no-explain`.
+pub const NO_EXPLAIN: Taken = Taken {
+    name: "no-explain",
+    help: "Leaves that out",
+    undone: &["explain"],
+    ..FLAG
+};
 
-const RECORD_HELP: &str = "The file of the record; `-` is standard input";
+/// The option `--record`, but for its text. Its value is a file to write to.
+pub const KEPT: Taken = Taken {
+    name: "record",
+    value_names: &["PATH"],
+    ..OPTION
+};
 
-const FILE_HELP: &str = "The files of the system's classes, in order; `-` is standard input";
+/// The option `--output-limit`.
+pub const OUTPUT_LIMIT: Taken = Taken {
+    name: "output-limit",
+    help: "Ends the run once all that is printed has more bytes than this, 0 to 1000000000000",
+    value_names: &["BYTES"],
+    parser: ValueParser::Unsigned(0, 1_000_000_000_000),
+    ..OPTION
+};
+
+/// The option `--trace`, whose value stands behind `=` if it has one.
+pub const TRACE: Taken = Taken {
+    name: "trace",
+    help: TRACE_HELP,
+    values: (0, 1),
+    value_names: &["WHAT"],
+    parser: ValueParser::Names(&TRACED),
+    missing: &["all"],
+    needs_equals: true,
+    ..OPTION
+};
+
+/// The option `--root`.
+pub const ROOT: Taken = Taken {
+    name: "root",
+    help: "The root class and its creation procedure",
+    value_names: &["CLASS.PROCEDURE"],
+    default: &["APPLICATION.make"],
+    ..OPTION
+};
+
+/// The option `--format`.
+pub const FORMAT: Taken = Taken {
+    name: "format",
+    help: FORMAT_HELP,
+    value_names: &["FORMAT"],
+    parser: ValueParser::Names(&FORMATS),
+    default: &["text"],
+    ..OPTION
+};
+
+/// A record.
+pub const RECORD: Taken = Taken {
+    name: "RECORD",
+    help: "The file of the record; `-` is standard input",
+    is_required: true,
+    ..GIVEN
+};
+
+/// Files.
+pub const FILES: Taken = Taken {
+    name: "FILE",
+    help: "The files of the system's classes, in order; `-` is standard input",
+    is_required: true,
+    action: ArgAction::Append,
+    values: (1, usize::MAX),
+    ..GIVEN
+};
+
+/// A code.
+pub const CODE: Taken = Taken {
+    name: "CODE",
+    help: "The code, as V6, or its name, in any letter case",
+    ..GIVEN
+};
 
 /// The argument for what a command takes.
-pub fn argument<'a>(alloc: Global, taken: Taken) -> Result<Arg<'a>, AllocError> {
-    match taken {
-        Taken::Explain(help) => flag(alloc, "explain", help).overrides_with("no-explain"),
-        Taken::NoExplain => flag(alloc, "no-explain", UNEXPLAINED_HELP).overrides_with("explain"),
-        Taken::Flag(name, help) => Ok(flag(alloc, name, help)),
-        Taken::Number(name, help, most, default) => Ok(
-            option(alloc, name, "N", help)
-                .value_parser(ValueParser::signed(1, most))
-                .default_value(default),
-        ),
-        Taken::Kept(help) => Ok(option(alloc, "record", "PATH", help)),
-        Taken::OutputLimit => Ok(option(
-            alloc,
-            "output-limit",
-            "BYTES",
-            OUTPUT_LIMIT_HELP,
-        ).value_parser(ValueParser::unsigned(0, MOST_OUTPUT))),
-        Taken::Trace => Ok(trace(alloc)),
-        Taken::Root => {
-            let root = option(alloc, "root", "CLASS.PROCEDURE", ROOT_HELP);
-            Ok(root.default_value("APPLICATION.make"))
-        }
-        Taken::Format => Ok(
-            option(alloc, "format", "FORMAT", FORMAT_HELP)
-                .value_parser(ValueParser::Names(&FORMATS))
-                .default_value("text"),
-        ),
-        Taken::Sought => Ok(
-            option(alloc, "for", "WHAT", SOUGHT_HELP)
-                .value_parser(ValueParser::Names(&SOUGHT))
-                .default_value("any"),
-        ),
-        Taken::Record => Ok(Arg::new(alloc, "RECORD").required(true).help(RECORD_HELP)),
-        Taken::Files => Ok(
-            Arg::new(alloc, "FILE")
-                .required(true)
-                .num_args(1..)
-                .action(ArgAction::Append)
-                .help(FILE_HELP),
-        ),
-        Taken::Code => Ok(Arg::new(alloc, "CODE").help(CODE_HELP)),
-    }
-}
-
-/// An option of this name that takes no value.
-fn flag<'a>(alloc: Global, name: &'a str, help: &'a str) -> Arg<'a> {
-    Arg::new(alloc, name)
-        .long(name)
-        .action(ArgAction::SetTrue)
-        .help(help)
-}
-
-/// An option of this name that takes a value.
-fn option<'a>(alloc: Global, name: &'a str, value_name: &'a str, help: &'a str) -> Arg<'a> {
-    Arg::new(alloc, name)
-        .long(name)
-        .value_name(value_name)
-        .help(help)
-}
-
-/// The option `--trace`.
-fn trace<'a>(alloc: Global) -> Arg<'a> {
-    option(alloc, "trace", "WHAT", TRACE_HELP)
-        .num_args(0..=1)
-        .require_equals(true)
-        .default_missing_value("all")
-        .value_parser(ValueParser::Names(&TRACED))
+pub fn argument<'a>(alloc: Global, taken: &Taken) -> Result<Arg<'a>, AllocError> {
+    let (least, most) = taken.values;
+    let argument = Arg::new(alloc, taken.name)
+        .help(taken.help)
+        .required(taken.is_required)
+        .action(taken.action)
+        .num_args(least..=most)
+        .value_names(taken.value_names)
+        .value_parser(taken.parser)
+        .default_values(taken.default)
+        .default_missing_values(taken.missing)
+        .require_equals(taken.needs_equals);
+    let argument = if taken.is_option {
+        argument.long(taken.name)
+    } else {
+        argument
+    };
+    argument.overrides_with_all(taken.undone)
 }

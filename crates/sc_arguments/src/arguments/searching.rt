@@ -1,12 +1,14 @@
 //! The command `search`: what is looked for in the orders of turns, and how far.
 
-use crate::arguments::explaining::is_explained;
-use crate::arguments::format::{Format, read_format};
-use crate::arguments::options::Taken;
-use crate::arguments::{UsageFault, command_of, read_root};
+use crate::arguments::format::Format;
+use crate::arguments::options::{
+    EXPLAIN, FILES, FLAG, FORMAT, KEPT, NO_EXPLAIN, OPTION, ROOT, Taken,
+};
+use crate::arguments::{Described, UsageFault, read_check};
 use clap::ArgMatches;
+use clap::builder::ValueParser;
 use sc_class::Root;
-use std::alloc::{AllocError, Global};
+use std::alloc::Global;
 
 #[derive(Drop)]
 pub struct SearchOptions<'a> {
@@ -37,7 +39,7 @@ pub enum Sought {
 
 const DEFAULT_STATES: u32 = 25_000;
 
-pub const SOUGHT: [&str; 3] = ["stuck", "fails", "any"];
+const SOUGHT: [&str; 3] = ["stuck", "fails", "any"];
 
 const SEARCH_ABOUT: &str = "Looks for an order of turns in which handlers are stuck, or one fails";
 
@@ -72,8 +74,6 @@ Exit status:
   5  memory ran out
   6  undecided: the states were used up";
 
-pub const SOUGHT_HELP: &str = "What ends the search";
-
 const STATES_HELP: &str = "The most states that are kept, 1 to 10000000";
 
 const FOUND_HELP: &str = "Writes the record of the order that is found to this file";
@@ -85,35 +85,64 @@ const SEARCH_EXPLAIN_HELP: &str =
 
 /// What `search` takes.
 const SEARCH_TAKES: [Taken; 9] = [
-    Taken::Sought,
-    Taken::Number("states", STATES_HELP, 10_000_000, "25000"),
-    Taken::Kept(FOUND_HELP),
-    Taken::Flag("outcomes", OUTCOMES_HELP),
-    Taken::Explain(SEARCH_EXPLAIN_HELP),
-    Taken::NoExplain,
-    Taken::Format,
-    Taken::Root,
-    Taken::Files,
+    Taken {
+        name: "for",
+        help: "What ends the search",
+        value_names: &["WHAT"],
+        parser: ValueParser::Names(&SOUGHT),
+        default: &["any"],
+        ..OPTION
+    },
+    Taken {
+        name: "states",
+        help: STATES_HELP,
+        value_names: &["N"],
+        parser: ValueParser::Signed(1, 10_000_000),
+        default: &["25000"],
+        ..OPTION
+    },
+    Taken {
+        help: FOUND_HELP,
+        ..KEPT
+    },
+    Taken {
+        name: "outcomes",
+        help: OUTCOMES_HELP,
+        ..FLAG
+    },
+    Taken {
+        help: SEARCH_EXPLAIN_HELP,
+        ..EXPLAIN
+    },
+    NO_EXPLAIN,
+    FORMAT,
+    ROOT,
+    FILES,
 ];
 
-pub fn search_command<'a>(alloc: Global) -> Result<clap::Command<'a>, AllocError> {
-    let texts = [SEARCH_ABOUT, SEARCH_LONG_ABOUT, SEARCH_AFTER_HELP];
-    command_of(alloc, "search", texts, &SEARCH_TAKES)
-}
+/// The command `search`.
+pub const SEARCH: Described = Described {
+    name: "search",
+    about: SEARCH_ABOUT,
+    long_about: SEARCH_LONG_ABOUT,
+    after_help: SEARCH_AFTER_HELP,
+    takes: &SEARCH_TAKES,
+};
 
 pub fn read_search<'a>(
     alloc: Global,
     options: &ArgMatches<'a>,
     explains: bool,
 ) -> Result<SearchOptions<'a>, UsageFault> {
+    let check = read_check(alloc, options, explains)?;
     Ok(SearchOptions {
-        root: read_root(alloc, options)?,
+        root: check.root,
         sought: read_sought(options),
         states: options.get_one("states").unwrap_or(DEFAULT_STATES),
         record: options.get_str("record"),
         lists_outcomes: options.get_flag("outcomes"),
-        is_explained: is_explained(options, explains),
-        format: read_format(options),
+        is_explained: check.is_explained,
+        format: check.format,
     })
 }
 
