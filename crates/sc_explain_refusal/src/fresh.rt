@@ -23,20 +23,15 @@ fn has_word(text: &[u8], word: &[u8]) -> bool {
     let mut start = 0;
     for index in 0..text.len().saturating_add(1) {
         if !is_part_of_name(text.get(index)) {
-            if is_word(text.get(start..index), word) {
+            if let Some(part) = text.get(start..index)
+                && part.eq_ignore_ascii_case(word)
+            {
                 return true;
             }
             start = index.saturating_add(1);
         }
     }
     false
-}
-
-fn is_word(part: Option<&[u8]>, word: &[u8]) -> bool {
-    match part {
-        None => false,
-        Some(part) => part.eq_ignore_ascii_case(word),
-    }
 }
 
 fn is_part_of_name(byte: Option<&u8>) -> bool {

@@ -25,12 +25,19 @@ impl<'s> Scope<'s> {
             None => " is a routine, and nothing is assigned to one\n",
         };
         self.push_said(lines, said);
-        if role.is_some() {
-            return self.push_local(lines, word_at(self.text, self.span));
+        if role.is_none() {
+            return lines.push(
+                "help: `Result` is what a function gives, and an attribute or a local keeps a value\n",
+            );
         }
-        lines.push(
-            "help: `Result` is what a function gives, and an attribute or a local keeps a value\n",
-        )
+        let local = fresh_name(self.text, 0);
+        lines.push_all(&[
+            "help: use a local: declare `",
+            local,
+            "` under `local`, and begin with `",
+        ]);
+        lines.push_all(&[local, " := "]);
+        lines.push_all(&[word_at(self.text, self.span), "`\n"])
     }
 
     /// Adds that the class has no feature of the name, and which was meant.
@@ -46,18 +53,6 @@ impl<'s> Scope<'s> {
         if !push_instead_of(lines, name) {
             self.push_near_feature(lines, class, name);
         }
-    }
-
-    /// Adds that a local takes what is to be assigned to this name.
-    fn push_local(&self, lines: &mut Lines, name: &str) {
-        let local = fresh_name(self.text, 0);
-        lines.push_all(&[
-            "help: use a local: declare `",
-            local,
-            "` under `local`, and begin with `",
-        ]);
-        lines.push_all(&[local, " := "]);
-        lines.push_all(&[name, "`\n"])
     }
 
     /// Adds that nothing is known of the name, and a name that is known there and near to it, or what is written in place of
@@ -117,20 +112,15 @@ impl<'s> Scope<'s> {
         let types = &passed.compared;
         self.push_compared(lines, types, ", and here the formal ", passed.formal);
         match (passed.missing, self.between(types.given, types.taken)) {
-            (Some(missing), Between::Tag) => self.push_missing(lines, passed.formal, missing),
+            (Some(missing), Between::Tag) => lines.push_all(&[
+                "help: there is no actual for `",
+                part_of(self.text, missing),
+                "`, on whose handler `",
+                part_of(self.text, passed.formal),
+                "` lies\n",
+            ]),
             _ => self.push_fitting(lines, types, passed.formal),
         }
-    }
-
-    /// Adds that there is no actual for the formal that another's tag names.
-    fn push_missing(&self, lines: &mut Lines, taker: Span, missing: Span) {
-        lines.push_all(&[
-            "help: there is no actual for `",
-            part_of(self.text, missing),
-            "`, on whose handler `",
-            part_of(self.text, taker),
-            "` lies\n",
-        ])
     }
 
     /// Adds how an entity of this type is declared to take objects of other handlers.
@@ -218,17 +208,12 @@ impl<'s> Scope<'s> {
         if !matches!(self.context, Context::Body | Context::Check) {
             return self.push_formal(lines, given);
         }
-        match self.place {
-            Place::Until => self.push_reserving_function(lines, given.class),
-            Place::Condition => {
-                let before = "help: reserve it, and ask inside: `separate ";
-                self.push_named(lines, before, " do .. end`\n")
-            }
-            Place::Instruction => {
-                let before = "help: reserve it: `separate ";
-                self.push_named(lines, before, " do .. end`\n")
-            }
-        }
+        let before = match self.place {
+            Place::Until => return self.push_reserving_function(lines, given.class),
+            Place::Condition => "help: reserve it, and ask inside: `separate ",
+            Place::Instruction => "help: reserve it: `separate ",
+        };
+        self.push_named(lines, before, " do .. end`\n")
     }
 
     /// Adds which function reserves an object of this class each time that it is called.
@@ -299,16 +284,17 @@ impl<'s> Scope<'s> {
 
     /// Adds how an object is made of a class that lists no procedure under `create`.
     fn push_no_creator(&self, lines: &mut Lines, class: ClassId) {
-        match class {
-            ClassId::Declared(_) => lines.push_all(&[
-                "help: `create` takes the variable alone, or the class lists it: `create ",
-                word_at(self.text, self.span),
-                "`\n",
-            ]),
-            ClassId::Integer => lines.push("help: an INTEGER begins as 0, and is assigned\n"),
-            ClassId::Boolean => lines.push("help: a BOOLEAN begins as False, and is assigned\n"),
-            _ => lines.push("help: make an object of a class of your own, and assign it\n"),
-        }
+        let help = match class {
+            ClassId::Declared(_) => {
+                let before =
+                    "help: `create` takes the variable alone, or the class lists it: `create ";
+                return lines.push_all(&[before, word_at(self.text, self.span), "`\n"]);
+            }
+            ClassId::Integer => "help: an INTEGER begins as 0, and is assigned\n",
+            ClassId::Boolean => "help: a BOOLEAN begins as False, and is assigned\n",
+            _ => "help: make an object of a class of your own, and assign it\n",
+        };
+        lines.push(help)
     }
 }
 

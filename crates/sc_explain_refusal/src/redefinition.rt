@@ -44,7 +44,7 @@ fn push_for_relatives(
 
 /// Adds how a class declares a feature again that it inherits.
 fn push_for_heir(lines: &mut Lines, text: &str, heir: &Class, inherited: &Feature, own: &Feature) {
-    if !is_routine(inherited) || !is_routine(own) {
+    if routine_of(inherited).is_none() || routine_of(own).is_none() {
         return lines.push(
             "help: give it another name: an attribute isn't redefined, and redefines nothing\n",
         );
@@ -65,17 +65,14 @@ fn push_for_heir(lines: &mut Lines, text: &str, heir: &Class, inherited: &Featur
 
 /// Adds what a redefinition at fault lacks, where it is known.
 pub fn push_unfit(lines: &mut Lines, system: &System, span: Span) {
-    if let Some((_, class)) = class_around(&system.classes, span) {
-        lines.push_all(&["help: ", lacking(system, class, span), "\n"])
-    }
-}
-
-/// What a redefinition at fault in this class lacks.
-fn lacking(system: &System, class: &Class, span: Span) -> &'static str {
-    match feature_around(class, span) {
+    let Some((_, class)) = class_around(&system.classes, span) else {
+        return;
+    };
+    let lacking = match feature_around(class, span) {
         Some(feature) if feature.name.span == span => lacking_in_feature(system, class, feature),
         _ => lacking_in_list(system, class, span),
-    }
+    };
+    lines.push_all(&["help: ", lacking, "\n"])
 }
 
 /// What is wrong with a name under `redefine`.
@@ -100,7 +97,7 @@ fn lacking_in_feature(system: &System, class: &Class, feature: &Feature) -> &'st
         return "an attribute redefines nothing: give it another name";
     };
     if let Some(known) = inherited(system, class, &feature.name)
-        && !is_routine(known)
+        && routine_of(known).is_none()
     {
         return "an attribute isn't redefined: give the routine another name";
     }
@@ -126,8 +123,4 @@ fn listed_at(class: &Class, span: Span) -> Option<&Name> {
 /// The feature of this name that a class inherits.
 fn inherited<'s>(system: &'s System, class: &Class, name: &Name) -> Option<&'s Feature> {
     feature_named(system, parent_of(system, class)?, &name.text)
-}
-
-fn is_routine(feature: &Feature) -> bool {
-    routine_of(feature).is_some()
 }

@@ -7,17 +7,17 @@ use sc_tree::{Class, Feature, Routine, System};
 
 /// Adds why the system of a text isn't run from this root, and what helps.
 pub fn explain_root(lines: &mut Lines, text: &str, system: &System, root: &Root) {
-    match class_named(system, &root.class) {
-        None => {
-            lines.push_all(&[
-                "no class is called `",
-                root.class.as_str(),
-                "`, in any letter case\n",
-            ]);
-            push_other_root(lines, text, system, root)
+    for class in system.classes.iter() {
+        if class.name.text.eq_ignore_ascii_case(&root.class) {
+            return push_unfit(lines, text, system, class, root);
         }
-        Some(class) => push_unfit(lines, text, system, class, root),
     }
+    lines.push_all(&[
+        "no class is called `",
+        root.class.as_str(),
+        "`, in any letter case\n",
+    ]);
+    push_other_root(lines, text, system, root)
 }
 
 /// Adds why this class isn't run from the root's procedure, and what helps.
@@ -124,13 +124,4 @@ fn is_root<'s>(system: &'s System, class: &'s Class, name: &str) -> bool {
             Some(procedure) => procedure.formals.is_empty(),
         },
     }
-}
-
-fn class_named<'s>(system: &'s System, name: &str) -> Option<&'s Class> {
-    for class in system.classes.iter() {
-        if class.name.text.eq_ignore_ascii_case(name) {
-            return Some(class);
-        }
-    }
-    None
 }

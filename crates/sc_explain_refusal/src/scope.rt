@@ -31,10 +31,11 @@ impl<'s> Scope<'s> {
     /// Adds a type in quotes, as it is declared, with the name of the formal or the block whose handler it is of, and what
     /// stands behind it.
     pub fn push_type(&self, lines: &mut Lines, given: EntityType, behind: &'static str) {
-        lines.push_all(&["`", mark_of(given)]);
+        let (mark, unknown) = marks_of(given);
+        lines.push_all(&["`", mark]);
         self.push_handler(lines, given.tag);
         lines.push(self.class_name(given.class));
-        lines.push_all(&["`", unknown_handler(given), behind])
+        lines.push_all(&["`", unknown, behind])
     }
 
     /// The name of a class, as its text has it.
@@ -74,21 +75,15 @@ impl<'s> Scope<'s> {
     }
 }
 
-/// What stands first in a type.
-fn mark_of(given: EntityType) -> &'static str {
-    if given.attached || given.class == ClassId::None {
-        ""
-    } else {
-        "detachable "
+/// What stands first in a type, and what is said behind it where its handler isn't known.
+fn marks_of(given: EntityType) -> (&'static str, &'static str) {
+    if given.class == ClassId::None {
+        return ("", "");
     }
-}
-
-/// What is said behind a type whose handler isn't known.
-fn unknown_handler(given: EntityType) -> &'static str {
-    if given.tag == Tag::None && given.class != ClassId::None {
-        " of a handler that isn't known here"
-    } else {
-        ""
+    let mark = if given.attached { "" } else { "detachable " };
+    match given.tag {
+        Tag::None => (mark, " of a handler that isn't known here"),
+        _ => (mark, ""),
     }
 }
 
@@ -121,23 +116,18 @@ pub fn part_of(text: &str, span: Span) -> &str {
 fn is_closed(part: &str) -> bool {
     let mut depth = 0_usize;
     for byte in part.as_bytes() {
-        let Some(behind) = depth_behind(depth, *byte) else {
+        let behind = match *byte {
+            b'(' => depth.checked_add(1),
+            b')' => depth.checked_sub(1),
+            b'\n' => None,
+            _ => Some(depth),
+        };
+        let Some(behind) = behind else {
             return false;
         };
         depth = behind;
     }
     depth == 0
-}
-
-/// How many parentheses are open behind a byte of a part, where so many are open before it; none where the part ends its
-/// line there or closes what it hasn't opened.
-fn depth_behind(depth: usize, byte: u8) -> Option<usize> {
-    match byte {
-        b'(' => depth.checked_add(1),
-        b')' => depth.checked_sub(1),
-        b'\n' => None,
-        _ => Some(depth),
-    }
 }
 
 /// Adds a part of the text in quotes, or `this` where there is none, between words.

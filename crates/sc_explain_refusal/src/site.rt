@@ -3,7 +3,7 @@
 use sc_rules::Context;
 use sc_text::Span;
 use sc_tree::{Call, Clause, CreationCall, Expr, Head, Instr, Variable};
-use sc_typing::{CheckFault, operand_context, variable_span};
+use sc_typing::{operand_context, variable_span};
 use std::alloc::AllocError;
 
 /// What is looked for: a part of this kind that stands there.
@@ -121,14 +121,6 @@ impl<'s> Search<'s> {
             self.found = Found::OutOfMemory;
         }
     }
-
-    /// Ends the search by what isn't found in a part that it has come to.
-    pub fn stop(&mut self, fault: CheckFault) {
-        self.found = match fault {
-            CheckFault::OutOfMemory => Found::OutOfMemory,
-            CheckFault::Refused(_) => Found::Faulty,
-        };
-    }
 }
 
 /// Passes an expression.
@@ -197,7 +189,12 @@ pub fn pass_condition<'s>(search: &mut Search<'s>, context: Context, e: &'s Expr
 /// Passes an instruction that has no others in it.
 pub fn pass_simple<'s>(search: &mut Search<'s>, instruction: &'s Instr) {
     match instruction {
-        Instr::Assign(_, variable, value) => pass_assignment(search, variable, value),
+        Instr::Assign(_, variable, value) => {
+            let part = Part::Assigned(variable, value);
+            search.pass(Kind::Assigned, value.span(), Context::Body, part);
+            pass_variable(search, variable);
+            pass_expression(search, Context::Body, value)
+        }
         Instr::Call(call) => pass_call(search, Context::Body, call),
         Instr::Create(_, variable, None) => pass_variable(search, variable),
         Instr::Create(_, variable, Some(call)) => {
@@ -207,13 +204,6 @@ pub fn pass_simple<'s>(search: &mut Search<'s>, instruction: &'s Instr) {
         Instr::Check(_, clauses) => pass_clauses(search, Context::Check, clauses),
         _ => {}
     }
-}
-
-fn pass_assignment<'s>(search: &mut Search<'s>, variable: &'s Variable, value: &'s Expr) {
-    let part = Part::Assigned(variable, value);
-    search.pass(Kind::Assigned, value.span(), Context::Body, part);
-    pass_variable(search, variable);
-    pass_expression(search, Context::Body, value)
 }
 
 /// Passes the entity that is assigned or created.

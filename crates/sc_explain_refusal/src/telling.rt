@@ -3,42 +3,42 @@
 
 use crate::scope::{Scope, part_of, push_quoted};
 use crate::site::{Part, Site};
-use crate::types::{Compared, pass_over, type_found, type_of_actual};
+use crate::types::{Compared, type_found, type_judged, type_of_actual};
 use sc_explain_text::{Lines, binary_spelling};
 use sc_rules::entity_types::{EntityType, Tag};
 use sc_rules::{Context, Position, Role, Rule};
 use sc_text::Span;
 use sc_tree::{BinaryOperator, Call, CreationCall, Expr, UnaryOperator, Variable};
 use sc_typing::{
-    Formals, JudgedActual, Meaning, Signature, Typing, is_boolean, judge_binary, judge_unary,
-    operand_context, operand_position, variable_span,
+    Formals, JudgedActual, Meaning, Signature, is_boolean, judge_binary, judge_unary,
+    operand_context, operand_position, simple_typing, variable_span,
 };
 
 impl<'s> Scope<'s> {
     /// Adds what is told of what stands there, and whether there is something.
-    pub fn tell(&mut self, lines: &mut Lines, site: Site<'s>) -> bool {
+    pub fn tell(&mut self, lines: &mut Lines, site: &Site<'s>) -> bool {
         self.context = site.context;
         self.place = site.place;
-        match site.part {
-            Part::Condition(e) => self.tell_condition(lines, e),
+        match &site.part {
+            Part::Condition(e) => self.tell_condition(lines, *e),
             Part::Operation(_) if matches!(self.rule, Rule::OldPlace) => self.tell_old(lines),
-            Part::Operation(e) => self.tell_operation(lines, e),
+            Part::Operation(e) => self.tell_operation(lines, *e),
             part => self.tell_part(lines, part),
         }
     }
 
     /// The same of a part that gives no names.
-    fn tell_part(&self, lines: &mut Lines, part: Part<'s>) -> bool {
+    fn tell_part(&self, lines: &mut Lines, part: &Part<'s>) -> bool {
         match part {
-            Part::Assigned(variable, value) => self.tell_assigned(lines, variable, value),
-            Part::Head(value) => self.tell_head(lines, value),
-            Part::Target(target) => self.tell_target(lines, target),
-            Part::Assignee(variable) => self.tell_assignee(lines, variable),
-            Part::CallName(call) => self.tell_call(lines, call, None),
-            Part::Actual(call, number) => self.tell_call(lines, call, Some(number)),
-            Part::CreationName(created, call) => self.tell_creation(lines, created, call, None),
+            Part::Assigned(variable, value) => self.tell_assigned(lines, *variable, *value),
+            Part::Head(value) => self.tell_head(lines, *value),
+            Part::Target(target) => self.tell_target(lines, *target),
+            Part::Assignee(variable) => self.tell_assignee(lines, *variable),
+            Part::CallName(call) => self.tell_call(lines, *call, None),
+            Part::Actual(call, number) => self.tell_call(lines, *call, Some(*number)),
+            Part::CreationName(created, call) => self.tell_creation(lines, *created, *call, None),
             Part::CreationActual(created, call, number) => {
-                self.tell_creation(lines, created, call, Some(number))
+                self.tell_creation(lines, *created, *call, Some(*number))
             }
             Part::Condition(_) | Part::Operation(_) => false,
         }
@@ -94,15 +94,28 @@ impl<'s> Scope<'s> {
 
     /// Of an `old`.
     fn tell_old(&self, lines: &mut Lines) -> bool {
-        let said = match self.context {
-            Context::Ensure => {
-                " asks an object of another handler, whose state of before isn't kept\n"
-            }
-            Context::Old => " stands in another `old`, and one is enough\n",
-            _ => " stands outside of a postcondition\n",
+        let outside = " stands outside of a postcondition\n";
+        let (said, help) = match self.context {
+            Context::Ensure => (
+                " asks an object of another handler, whose state of before isn't kept\n",
+                "help: ask before in the body, keep the answer in a local, and compare in a `check`\n",
+            ),
+            Context::Old => (
+                " stands in another `old`, and one is enough\n",
+                "help: leave this one out\n",
+            ),
+            Context::Require => (
+                outside,
+                "help: leave it out: a precondition is asked before the body\n",
+            ),
+            Context::Invariant => (
+                outside,
+                "help: leave it out: an invariant speaks of one state\n",
+            ),
+            _ => (outside, "help: keep the value in a local before\n"),
         };
         self.push_said(lines, said);
-        lines.push(help_of_old(self.context));
+        lines.push(help);
         true
     }
 
@@ -136,7 +149,8 @@ impl<'s> Scope<'s> {
         operator: UnaryOperator,
         given: EntityType,
     ) -> bool {
-        let is_wrong = judge_unary(self.context, span, operator, typing_of(given)).is_err();
+        let judged = judge_unary(self.context, span, operator, simple_typing(given));
+        let is_wrong = !matches!(type_judged(judged), Ok(Ok(_)));
         if is_wrong {
             lines.push(taken_by_unary(operator));
             lines.push(", and its operand is of type ");
@@ -154,7 +168,8 @@ impl<'s> Scope<'s> {
         left: EntityType,
         right: EntityType,
     ) -> bool {
-        let is_wrong = judge_binary(span, operator, typing_of(left), typing_of(right)).is_err();
+        let judged = judge_binary(span, operator, simple_typing(left), simple_typing(right));
+        let is_wrong = !matches!(type_judged(judged), Ok(Ok(_)));
         if is_wrong {
             push_operator(lines, operator);
             self.push_type(lines, left, " and of type ");
@@ -262,7 +277,7 @@ impl<'s> Scope<'s> {
         true
     }
 
-    /// Of the name of a call with so many actuals, behind a target of this type, if it has one.
+    /// By the rule that fails, of the name of a call with so many actuals, behind a target of this type, if it has one.
     fn tell_name(
         &self,
         lines: &mut Lines,
@@ -270,10 +285,20 @@ impl<'s> Scope<'s> {
         target: Option<EntityType>,
         actuals: usize,
     ) -> bool {
-        match meaning {
-            Meaning::Unknown => self.tell_unknown(lines, target),
-            Meaning::TargetUntyped => false,
-            Meaning::Named(signature) => self.tell_called(lines, signature, actuals),
+        match (self.rule, meaning) {
+            (_, Meaning::Unknown) => self.tell_unknown(lines, target),
+            (Rule::WrongArity, Meaning::Named(called)) => {
+                self.tell_arity(lines, called.formals, actuals)
+            }
+            (Rule::ResultType, Meaning::Named(called)) => {
+                let said = match called.gives {
+                    Some(_) => " gives a value, and an instruction has none\n",
+                    None => " is a procedure, and gives no value\n",
+                };
+                self.push_said(lines, said);
+                true
+            }
+            _ => false,
         }
     }
 
@@ -289,24 +314,12 @@ impl<'s> Scope<'s> {
         true
     }
 
-    /// By the rule that fails, of the name of a call with so many actuals.
-    fn tell_called(&self, lines: &mut Lines, called: &Signature<'s>, actuals: usize) -> bool {
-        match self.rule {
-            Rule::WrongArity => self.tell_arity(lines, taken_by(called.formals), actuals),
-            Rule::ResultType => {
-                let said = match called.gives {
-                    Some(_) => " gives a value, and an instruction has none\n",
-                    None => " is a procedure, and gives no value\n",
-                };
-                self.push_said(lines, said);
-                true
-            }
-            _ => false,
-        }
-    }
-
-    /// Of how many actuals are taken, and how many are given.
-    fn tell_arity(&self, lines: &mut Lines, taken: usize, given: usize) -> bool {
+    /// Of how many actuals are taken for these formals, and how many are given.
+    fn tell_arity(&self, lines: &mut Lines, formals: Formals<'_>, given: usize) -> bool {
+        let taken = match formals {
+            Formals::Declared(formals) => formals.len(),
+            Formals::Printed => 1,
+        };
         let is_wrong = taken != given;
         if is_wrong {
             self.push_said(lines, " takes ");
@@ -332,7 +345,7 @@ impl<'s> Scope<'s> {
         {
             Ok(found) => self.tell_found(lines, called, &found, number),
             Err(fault) => {
-                pass_over(lines, fault);
+                type_found(lines, Err(fault));
                 false
             }
         }
@@ -391,22 +404,6 @@ impl<'s> Scope<'s> {
     }
 }
 
-/// What is found of an operand of this type.
-fn typing_of(entity_type: EntityType) -> Typing {
-    Typing {
-        entity_type: Some(entity_type),
-        is_separate: false,
-    }
-}
-
-/// How many actuals these formals take.
-fn taken_by(formals: Formals<'_>) -> usize {
-    match formals {
-        Formals::Declared(formals) => formals.len(),
-        Formals::Printed => 1,
-    }
-}
-
 /// Adds how many actuals are taken, and how many are given.
 fn push_arity(lines: &mut Lines, taken: usize, given: usize) {
     match taken {
@@ -447,17 +444,5 @@ fn taken_by_unary(operator: UnaryOperator) -> &'static str {
         UnaryOperator::Old => "`old` takes a value",
         UnaryOperator::Plus => "`+` takes an INTEGER",
         UnaryOperator::Minus => "`-` takes an INTEGER",
-    }
-}
-
-/// What helps with an `old` in this part of a class's text.
-fn help_of_old(context: Context) -> &'static str {
-    match context {
-        Context::Ensure =>
-            "help: ask before in the body, keep the answer in a local, and compare in a `check`\n",
-        Context::Old => "help: leave this one out\n",
-        Context::Require => "help: leave it out: a precondition is asked before the body\n",
-        Context::Invariant => "help: leave it out: an invariant speaks of one state\n",
-        _ => "help: keep the value in a local before\n",
     }
 }

@@ -9,7 +9,7 @@ use sc_class::{ClassId, Root, Tables};
 use sc_explain_text::Lines;
 use sc_rules::{Context, Rule};
 use sc_text::Span;
-use sc_tree::{Class, Name, Routine, System};
+use sc_tree::{Class, Declaration, Name, Routine, System};
 use sc_typing::{Purity, RoutineContext, result_type};
 use std::alloc::Global;
 
@@ -28,24 +28,17 @@ pub fn aim_of(text: &str, rule: Rule, span: Span) -> Option<Aim> {
     if is_name && part_of(text, span).eq_ignore_ascii_case("print") {
         return None;
     }
-    match kind_of(rule) {
-        None => None,
-        Some(kind) => Some(Aim { kind, span }),
-    }
-}
-
-/// The kind of the parts that a rule fails at, where more can be said of it.
-fn kind_of(rule: Rule) -> Option<Kind> {
-    match rule {
-        Rule::UnknownName | Rule::WrongArity | Rule::ResultType => Some(Kind::Name),
-        Rule::NotAssignable | Rule::NotCreation => Some(Kind::Name),
-        Rule::ArgumentType => Some(Kind::Actual),
-        Rule::AssignType => Some(Kind::Assigned),
-        Rule::TargetDetachable | Rule::TargetUncontrolled => Some(Kind::Target),
-        Rule::NotBoolean => Some(Kind::Condition),
-        Rule::OperatorType | Rule::OldPlace => Some(Kind::Operation),
-        _ => None,
-    }
+    let kind = match rule {
+        Rule::UnknownName | Rule::WrongArity | Rule::ResultType => Kind::Name,
+        Rule::NotAssignable | Rule::NotCreation => Kind::Name,
+        Rule::ArgumentType => Kind::Actual,
+        Rule::AssignType => Kind::Assigned,
+        Rule::TargetDetachable | Rule::TargetUncontrolled => Kind::Target,
+        Rule::NotBoolean => Kind::Condition,
+        Rule::OperatorType | Rule::OldPlace => Kind::Operation,
+        _ => return None,
+    };
+    Some(Aim { kind, span })
 }
 
 impl<'s> RuleFault<'s> {
@@ -65,67 +58,46 @@ impl<'s> RuleFault<'s> {
         }
     }
 
-    /// Adds what is told of the part that is aimed at, where it is found.
+    /// Adds what is told of the part that is aimed at, where it is found: in the routine around it, or else beside the routines
+    /// of the class.
     fn push_found(self, alloc: Global, lines: &mut Lines, tables: &Tables<'_>) -> bool {
-        match class_around(tables.classes(), self.aim.span) {
-            None => false,
-            Some((number, class)) => {
-                let purity = Purity::NotAsked;
-                let around = around_class(alloc, tables, number, &purity);
-                self.push_in_class(lines, &around, class)
-            }
-        }
-    }
-
-    /// Adds what is told of the part that is aimed at, where it stands in this class.
-    fn push_in_class(
-        self,
-        lines: &mut Lines,
-        around: &'s RoutineContext<'s, 's>,
-        class: &'s Class,
-    ) -> bool {
-        if let Some(text) = routine_around(class, self.aim.span)
-            && self.push_in_routine(lines, around, text)
+        let span = self.aim.span;
+        let Some((number, class)) = class_around(tables.classes(), span) else {
+            return false;
+        };
+        if let Some(feature) = feature_around(class, span)
+            && let Some(text) = routine_of(feature)
+            && self.push_in(alloc, lines, &*tables, number, class, Some(text))
         {
             return true;
         }
-        self.push_beside_routines(lines, around, class)
+        self.push_in(alloc, lines, &*tables, number, class, None)
     }
 
-    /// Adds what is told of the part that is aimed at, where it stands in this routine of the class.
-    fn push_in_routine(
+    /// Adds what is told of the part that is aimed at, where a walk comes to it through this routine of the class at a number,
+    /// or else where it stands in the invariant of the class or in its list of creators.
+    fn push_in(
         self,
+        alloc: Global,
         lines: &mut Lines,
-        class: &'s RoutineContext<'s, 's>,
-        text: &'s Routine,
-    ) -> bool {
-        let routine = routine_in(class, text);
-        self.push_passed(lines, &routine, text)
-    }
-
-    /// Adds what is told of the part that is aimed at, where a walk through this text of a routine comes to it.
-    fn push_passed(
-        self,
-        lines: &mut Lines,
-        routine: &'s RoutineContext<'s, 's>,
-        text: &'s Routine,
-    ) -> bool {
-        let mut walk = self.walk(routine);
-        walk.pass_routine(text);
-        walk.push_found(lines)
-    }
-
-    /// Adds what is told of the part that is aimed at, where it stands in the invariant of the class or in its list of
-    /// creators.
-    fn push_beside_routines(
-        self,
-        lines: &mut Lines,
-        around: &'s RoutineContext<'s, 's>,
+        tables: &'s Tables<'s>,
+        number: usize,
         class: &'s Class,
+        routine: Option<&'s Routine>,
     ) -> bool {
-        let mut walk = self.walk(around);
-        pass_clauses(&mut walk.search, Context::Invariant, &class.invariant);
-        walk.push_found(lines) || walk.scope.push_creator(lines, &class.creators)
+        let purity = Purity::NotAsked;
+        let context = context_of(alloc, tables, number, routine, &purity);
+        let mut walk = self.walk(&context);
+        match routine {
+            Some(routine) => {
+                walk.pass_routine(routine);
+                walk.push_found(lines)
+            }
+            None => {
+                pass_clauses(&mut walk.search, Context::Invariant, &class.invariant);
+                walk.push_found(lines) || walk.scope.push_creator(lines, &class.creators)
+            }
+        }
     }
 
     /// A walk through a text of this routine, in which no names are known as yet.
@@ -152,7 +124,7 @@ impl<'s> RuleFault<'s> {
 impl<'s> Walk<'s> {
     /// Adds what is told of what was looked for, where it was found, and whether there is something.
     fn push_found(&mut self, lines: &mut Lines) -> bool {
-        match self.search.found {
+        match &self.search.found {
             Found::Nothing | Found::Faulty => false,
             Found::At(site) => self.scope.tell(lines, site),
             Found::OutOfMemory => {
@@ -166,59 +138,43 @@ impl<'s> Walk<'s> {
 impl<'s> Scope<'s> {
     /// Adds what is told of a name that the class lists under `create`, and whether it is one.
     fn push_creator(&self, lines: &mut Lines, creators: &[Name]) -> bool {
-        let is_creator = is_among(self.span, creators);
-        if is_creator {
-            match self.rule {
-                Rule::UnknownName => {
-                    self.push_lacking(lines, ClassId::Declared(self.routine.class))
+        for creator in creators {
+            if creator.span == self.span {
+                match self.rule {
+                    Rule::UnknownName => {
+                        self.push_lacking(lines, ClassId::Declared(self.routine.class))
+                    }
+                    _ => self.push_said(lines, " gives a value, and a procedure creates\n"),
                 }
-                _ => self.push_said(lines, " gives a value, and a procedure creates\n"),
+                return true;
             }
         }
-        is_creator
+        false
     }
 }
 
-/// What is outside of the routines of the class at a number: its invariant.
-fn around_class<'t, 's>(
+/// What is judged in this routine of the class at a number, or else outside of its routines: in its invariant.
+fn context_of<'t, 's>(
     alloc: Global,
     tables: &'t Tables<'s>,
     class: usize,
+    routine: Option<&'s Routine>,
     purity: &'t Purity<'t, 's>,
 ) -> RoutineContext<'t, 's> {
+    let formals: &[Declaration] = match routine {
+        None => &[],
+        Some(routine) => &routine.formals,
+    };
+    let result = match routine {
+        None => None,
+        Some(routine) => result_type(tables, &routine.result_type),
+    };
     RoutineContext {
         alloc,
         tables,
         class,
-        formals: &[],
-        result: None,
+        formals,
+        result,
         purity,
     }
-}
-
-/// A routine of this text in a class.
-fn routine_in<'s>(class: &RoutineContext<'s, 's>, text: &'s Routine) -> RoutineContext<'s, 's> {
-    RoutineContext {
-        alloc: class.alloc,
-        tables: class.tables,
-        class: class.class,
-        formals: &text.formals,
-        result: result_type(class.tables, &text.result_type),
-        purity: class.purity,
-    }
-}
-
-/// The routine that is the feature around a part of the text, if it is one.
-fn routine_around(class: &Class, span: Span) -> Option<&Routine> {
-    routine_of(feature_around(class, span)?)
-}
-
-/// Whether one of the names stands there.
-fn is_among(span: Span, names: &[Name]) -> bool {
-    for name in names {
-        if name.span == span {
-            return true;
-        }
-    }
-    false
 }

@@ -9,11 +9,11 @@ use crate::scope::Scope;
 use sc_class::{ClassId, Tables};
 use sc_explain_text::Lines;
 use sc_rules::entity_types::{EntityType, Known, Reserved, Tag, combine_argument, conforms};
-use sc_rules::{Context, Position};
+use sc_rules::{Context, Fault, Position};
 use sc_text::Span;
 use sc_tree::{Call, Declaration, Expr, Variable};
 use sc_typing::{Assignee, CheckFault, JudgedActual, Typing, declared_type, judged_type};
-use std::alloc::Global;
+use std::alloc::{AllocError, Global};
 
 /// What is given, and what would be taken.
 #[derive(Clone, Copy)]
@@ -42,23 +42,26 @@ fn mismatch(tables: &Tables, given: EntityType, taken: EntityType) -> Option<Com
     Some(Compared { given, taken })
 }
 
-/// What is known of the handlers of the actuals of a call. The lines lack something where memory runs out.
-fn known_handlers(alloc: Global, lines: &mut Lines, found: &[JudgedActual]) -> Vec<Known> {
+/// The type that a formal of this declared type takes among these actuals, behind a target of this type. The lines lack
+/// something where memory runs out.
+fn type_taken(
+    alloc: Global,
+    lines: &mut Lines,
+    found: &[JudgedActual],
+    target: EntityType,
+    declared: EntityType,
+) -> EntityType {
     let mut known = Vec::new(alloc);
     for actual in found {
-        if known.push(known_handler(actual)).is_err() {
+        let handler = match judged_type(actual.judged) {
+            Some(actual) => Known::of(actual.tag),
+            None => Known::Neither,
+        };
+        if known.push(handler).is_err() {
             lines.lack();
         }
     }
-    known
-}
-
-/// What is known of the handler of an actual.
-fn known_handler(actual: &JudgedActual) -> Known {
-    match judged_type(actual.judged) {
-        Some(actual) => Known::of(actual.tag),
-        None => Known::Neither,
-    }
+    combine_argument(target, declared, &known)
 }
 
 /// The place of the name of the formal that the tag of this type names, where it is none of so many first ones.
@@ -73,19 +76,25 @@ fn missing_formal(formals: &[Declaration], declared: EntityType, actuals: usize)
 
 /// The type of what was judged, if it has one. The lines lack something where memory ran out.
 pub fn type_found(lines: &mut Lines, judged: Result<Typing, CheckFault>) -> Option<EntityType> {
-    match judged {
-        Ok(typing) => typing.entity_type,
-        Err(fault) => {
-            pass_over(lines, fault);
+    match type_judged(judged) {
+        Ok(Ok(found)) => found,
+        Ok(Err(_)) => None,
+        Err(_) => {
+            lines.lack();
             None
         }
     }
 }
 
-/// Nothing is said of what has a fault. The lines lack something where memory ran out.
-pub fn pass_over(lines: &mut Lines, fault: CheckFault) {
-    if let CheckFault::OutOfMemory = fault {
-        lines.lack()
+/// The type of what was judged, or the rule that fails there. Faults of a check go here alone: each function in which one goes
+/// proves once more that it may.
+pub fn type_judged(
+    judged: Result<Typing, CheckFault>,
+) -> Result<Result<Option<EntityType>, Fault>, AllocError> {
+    match judged {
+        Ok(typing) => Ok(Ok(typing.entity_type)),
+        Err(CheckFault::Refused(fault)) => Ok(Err(fault)),
+        Err(CheckFault::OutOfMemory) => Err(AllocError),
     }
 }
 
@@ -137,24 +146,12 @@ impl<'s> Scope<'s> {
         let formal = formals.get(number)?;
         let tables = self.routine.tables;
         let declared = declared_type(tables, formals, &formal.declared_type)?;
-        let taken = self.type_taken(lines, found, target, declared);
+        let taken = type_taken(self.routine.alloc, lines, found, target, declared);
         Some(Passed {
             compared: mismatch(tables, given, taken)?,
             formal: formal.name.span,
             missing: missing_formal(formals, declared, found.len()),
         })
-    }
-
-    /// The type that a formal of this declared type takes among these actuals, behind a target of this type.
-    fn type_taken(
-        &self,
-        lines: &mut Lines,
-        found: &[JudgedActual],
-        target: EntityType,
-        declared: EntityType,
-    ) -> EntityType {
-        let known = known_handlers(self.routine.alloc, lines, found);
-        combine_argument(target, declared, &known)
     }
 
     /// The type of an expression at this position, which is no condition's, if it has one.

@@ -2,13 +2,14 @@
 
 use crate::scope::Scope;
 use crate::site::{
-    Kind, Part, Place, Search, pass_clauses, pass_condition, pass_expression, pass_heads,
+    Found, Kind, Part, Place, Search, pass_clauses, pass_condition, pass_expression, pass_heads,
     pass_simple,
 };
+use crate::types::type_judged;
 use sc_rules::entity_types::EntityType;
 use sc_rules::{Context, Position, Role};
 use sc_tree::{Branch, Declaration, Expr, Head, Instr, Routine};
-use sc_typing::{CheckFault, Entity, add_formals, add_locals, block_type, blocks};
+use sc_typing::{Entity, add_formals, add_locals, block_type, blocks};
 
 /// A walk: what is looked for, and what is known at the part that it has come to, or at that which was found.
 #[derive(Drop)]
@@ -20,19 +21,15 @@ pub struct Walk<'s> {
 impl<'s> Walk<'s> {
     /// Passes a routine: its precondition, its body and its postcondition.
     pub fn pass_routine(&mut self, text: &'s Routine) {
-        self.add_formals();
+        let routine = self.scope.routine;
+        let added = add_formals(routine.tables, routine.formals, &mut self.scope.names);
+        self.search.keep(added);
         pass_clauses(&mut self.search, Context::Require, &text.precondition);
         let known = self.scope.names.len();
         self.add_locals(&text.locals);
         self.pass_instructions(&text.body);
         self.forget(known);
         pass_clauses(&mut self.search, Context::Ensure, &text.postcondition)
-    }
-
-    fn add_formals(&mut self) {
-        let routine = self.scope.routine;
-        let added = add_formals(routine.tables, routine.formals, &mut self.scope.names);
-        self.search.keep(added)
     }
 
     fn add_locals(&mut self, locals: &'s [Declaration]) {
@@ -124,9 +121,11 @@ impl<'s> Walk<'s> {
         if self.search.is_open() {
             let outer = self.scope.names.get(..known).unwrap_or(&[]);
             let routine = self.scope.routine;
-            match routine.expression(Context::Body, Position::Plain, outer, &head.value) {
-                Ok(typing) => self.push_block_name(head, typing.entity_type),
-                Err(fault) => self.search.stop(fault),
+            let judged = routine.expression(Context::Body, Position::Plain, outer, &head.value);
+            match type_judged(judged) {
+                Ok(Ok(given)) => self.push_block_name(head, given),
+                Ok(Err(_)) => self.search.found = Found::Faulty,
+                Err(_) => self.search.found = Found::OutOfMemory,
             }
         }
     }
@@ -139,7 +138,7 @@ impl<'s> Walk<'s> {
             role: Role::Block,
         });
         if added.is_err() {
-            self.search.stop(CheckFault::OutOfMemory)
+            self.search.found = Found::OutOfMemory
         }
     }
 
@@ -176,8 +175,10 @@ impl<'s> Walk<'s> {
     fn learn(&mut self, e: &'s Expr) {
         if self.search.is_open() {
             let routine = self.scope.routine;
-            if let Err(fault) = routine.condition(Context::Body, &mut self.scope.names, e) {
-                self.search.stop(fault)
+            match type_judged(routine.condition(Context::Body, &mut self.scope.names, e)) {
+                Ok(Ok(_)) => {}
+                Ok(Err(_)) => self.search.found = Found::Faulty,
+                Err(_) => self.search.found = Found::OutOfMemory,
             }
         }
     }
