@@ -54,7 +54,7 @@ pub fn push_operation_values(
     };
     let goal = Goal::Place(place);
     if let Some(reached) = Evaluation::of(origin, lines, world, handler, start, goal) {
-        let is_told = origin.push_values(lines, "where ", whole, &reached);
+        let is_told = reached.is_reached && origin.push_values(lines, "where ", whole, &reached);
         lines.push(if is_told { "\n" } else { "" })
     }
 }
@@ -71,20 +71,17 @@ pub fn push_attributes(
     let text = origin.written(part);
     let mut start = 0;
     for at in 0..text.len().saturating_add(1) {
-        if !is_in_name(text.as_bytes().get(at)) {
+        let is_in_name = match text.as_bytes().get(at) {
+            Some(byte) => byte.is_ascii_alphanumeric() || *byte == b'_',
+            None => false,
+        };
+        if !is_in_name {
             let word = text.get(start..at).unwrap_or("");
             origin.push_attribute(lines, world, object, word, &mut told);
             start = at.saturating_add(1);
         }
     }
     lines.push(if told.is_empty() { "" } else { "\n" })
-}
-
-fn is_in_name(byte: Option<&u8>) -> bool {
-    match byte {
-        Some(byte) => byte.is_ascii_alphanumeric() || *byte == b'_',
-        None => false,
-    }
 }
 
 impl<'r> RunSource<'r> {
@@ -97,7 +94,13 @@ impl<'r> RunSource<'r> {
         name: &'r str,
         told: &mut Vec<&'r str>,
     ) {
-        if let Some(value) = self.attribute_of(world, object, name)
+        if let Some(number) = self.number_of(name)
+            && let Some(FeatureCode::Attribute(attribute)) = version_in(
+                self.program,
+                object,
+                number,
+            )
+            && let Some(value) = stored(world, object, attribute)
             && !matches!(value, Value::Attached(_))
             && !is_listed(told.as_slice(), name)
         {
@@ -106,15 +109,6 @@ impl<'r> RunSource<'r> {
             if told.push(name).is_err() {
                 lines.lack()
             }
-        }
-    }
-
-    /// The attribute of this name of an object.
-    fn attribute_of(&self, world: &World<'_>, object: Reference, name: &str) -> Option<Value> {
-        let number = self.number_of(name)?;
-        match version_in(self.program, object, number)? {
-            FeatureCode::Attribute(attribute) => stored(world, object, attribute),
-            FeatureCode::Routine(_) => None,
         }
     }
 
@@ -131,9 +125,10 @@ impl<'r> RunSource<'r> {
         None
     }
 
-    /// Adds the clause that a routine has come to, and that it is false.
+    /// Adds the clause that a routine has come to, if it has, and that it is false.
     fn push_false(&self, lines: &mut Lines, reached: &Evaluation<'_>) {
-        if let Some(span) = self.span_at(reached.frame.routine, reached.frame.place)
+        if reached.is_reached
+            && let Some(span) = self.span_at(reached.frame.routine, reached.frame.place)
             && push_place(self, lines, "", span)
         {
             lines.push(": `");
@@ -168,9 +163,8 @@ impl<'r> RunSource<'r> {
         let routine = reached.frame.routine;
         let first = self.first_place(routine, reached.frame.place, whole);
         let mut told = Vec::new(self.alloc);
-        for number in 0..reached.seen.len() {
-            if let Some(seen) = reached.seen.get(number)
-                && let Some(part) = self.part_at(routine, whole, *seen)
+        for seen in reached.seen.iter() {
+            if let Some(part) = self.part_at(routine, whole, *seen)
                 && first <= seen.place
                 && told.len() < MOST_VALUES
                 && !is_listed(told.as_slice(), part)

@@ -2,12 +2,11 @@
 
 use crate::frame::{Frame, Values};
 use crate::origin::RunSource;
-use sc_code::{CallSite, FeatureCode, NameNumber, Operation, Program};
+use sc_code::{FeatureCode, NameNumber, Operation, Program};
 use sc_explain_text::Lines;
 use sc_lockpass::HandlerNumber;
 use sc_region::{Reference, Value};
 use sc_world::World;
-use std::alloc::Global;
 
 /// How many operations are gone through at most.
 const MOST_OPERATIONS: usize = 100_000;
@@ -61,13 +60,15 @@ pub struct Evaluation<'r> {
     /// What the outermost routine has read and called.
     pub seen: Vec<Seen>,
     writes: Vec<Write>,
+    /// Whether it was gone through so far.
+    pub is_reached: bool,
     /// Whether memory was refused on the way.
     is_lacking: bool,
 }
 
 impl<'r> Evaluation<'r> {
-    /// The topmost routine of a handler, gone through so far: None where it doesn't come from a place of it to another one
-    /// without asking anything of others. Where memory is refused on the way, the lines lack something.
+    /// The topmost routine of a handler, gone through so far, where it comes from a place of it to another one without asking
+    /// anything of others: None where the handler has none. Where memory is refused on the way, the lines lack something.
     pub fn of(
         origin: &RunSource<'_>,
         lines: &mut Lines,
@@ -76,26 +77,10 @@ impl<'r> Evaluation<'r> {
         start: Start,
         goal: Goal,
     ) -> Option<Evaluation<'r>> {
-        let mut evaluation = Evaluation::standing(origin.alloc, world, handler)?;
-        evaluation.begin(start);
-        let is_reached = evaluation.reaches(goal);
-        if evaluation.is_lacking || evaluation.values.is_lacking {
-            lines.lack()
-        }
-        if is_reached { Some(evaluation) } else { None }
-    }
-
-    /// The topmost routine of a handler, as it stands.
-    fn standing(
-        alloc: Global,
-        world: &'r World<'r>,
-        handler: HandlerNumber,
-    ) -> Option<Evaluation<'r>> {
         let store = world.region(handler)?.store();
         let top = store.top()?;
         let current = store.current()?;
-        let values = Values::of(alloc, top);
-        Some(Evaluation {
+        let mut evaluation = Evaluation {
             world,
             program: store.program(),
             frame: Frame {
@@ -108,12 +93,19 @@ impl<'r> Evaluation<'r> {
                 olds: 0,
                 result: top.result,
             },
-            callers: Vec::new(alloc),
-            values,
-            seen: Vec::new(alloc),
-            writes: Vec::new(alloc),
+            callers: Vec::new(origin.alloc),
+            values: Values::of(origin.alloc, top),
+            seen: Vec::new(origin.alloc),
+            writes: Vec::new(origin.alloc),
+            is_reached: false,
             is_lacking: false,
-        })
+        };
+        evaluation.begin(start);
+        evaluation.is_reached = evaluation.reaches(goal);
+        if evaluation.is_lacking || evaluation.values.is_lacking {
+            lines.lack()
+        }
+        Some(evaluation)
     }
 
     /// The outermost routine stands where it starts. Where it stands behind a call, the last operand is what that has given.
@@ -142,7 +134,7 @@ impl<'r> Evaluation<'r> {
     /// Goes through the outermost routine so far: whether it comes to there.
     fn reaches(&mut self, goal: Goal) -> bool {
         for _operation in 0..MOST_OPERATIONS {
-            if self.is_reached(goal) {
+            if self.callers.is_empty() && self.is_at(goal) {
                 return true;
             }
             if self.is_lacking || !self.advance() {
@@ -152,11 +144,8 @@ impl<'r> Evaluation<'r> {
         false
     }
 
-    /// Whether the routine stands where the outermost one is to come to.
-    fn is_reached(&self, goal: Goal) -> bool {
-        if !self.callers.is_empty() {
-            return false;
-        }
+    /// Whether the routine that runs stands there.
+    fn is_at(&self, goal: Goal) -> bool {
         match goal {
             Goal::Place(place) => self.frame.place == place,
             Goal::FalseClause => {
@@ -180,7 +169,11 @@ impl<'r> Evaluation<'r> {
                     name,
                 },
             ) => {
-                let value = self.own_attribute(name);
+                let current = self.frame.current;
+                let value = match version_in(self.program, current, name) {
+                    Some(FeatureCode::Attribute(number)) => self.attribute(current, number),
+                    _ => None,
+                };
                 self.read(value)
             }
             Some(Operation::StoreAttribute(name)) => self.store_attribute(name),
@@ -235,7 +228,7 @@ impl<'r> Evaluation<'r> {
         match self.callers.pop() {
             Some(caller) => {
                 self.values.cut(ended.floor);
-                self.values.cut_olds(ended.olds);
+                self.values.olds.truncate(ended.olds);
                 self.frame = caller;
                 self.read(ended.result)
             }
@@ -264,7 +257,8 @@ impl<'r> Evaluation<'r> {
         self.pass(0)
     }
 
-    /// A feature is called, of a target or of Current: whether it can be gone on.
+    /// A feature is called, of a target or of Current, with the values from a place on: whether it can be gone on. Behind the call
+    /// those are left in front of the floor.
     fn call(&mut self, number: usize, has_target: bool) -> bool {
         let Some(site) = self.program.pool().calls.get(number).copied() else {
             return false;
@@ -273,20 +267,14 @@ impl<'r> Evaluation<'r> {
         let Some(floor) = self.values.first_of(&self.frame, taken) else {
             return false;
         };
-        if !has_target {
-            let current = self.frame.current;
-            return self.call_of(current, site, floor, floor);
-        }
-        match self.values.at(floor) {
-            Some(Value::Attached(object)) => {
-                self.call_of(object, site, floor.saturating_add(1), floor)
+        let (object, slots) = if has_target {
+            match self.values.at(floor) {
+                Some(Value::Attached(object)) => (object, floor.saturating_add(1)),
+                _ => return false,
             }
-            _ => false,
-        }
-    }
-
-    /// A feature of an object is called with the values from a place on. Behind the call those are left in front of the floor.
-    fn call_of(&mut self, object: Reference, site: CallSite, slots: usize, floor: usize) -> bool {
+        } else {
+            (self.frame.current, floor)
+        };
         match version_in(self.program, object, site.name) {
             Some(FeatureCode::Attribute(number)) => {
                 self.values.cut(floor);
@@ -306,6 +294,10 @@ impl<'r> Evaluation<'r> {
         if self.callers.push(self.frame).is_err() {
             self.is_lacking = true
         }
+        let result = match code.result {
+            Some((default, _)) => Some(Value::of_default(default)),
+            None => None,
+        };
         self.values.fill(slots.saturating_add(code.slots));
         self.frame = Frame {
             routine,
@@ -314,18 +306,10 @@ impl<'r> Evaluation<'r> {
             floor,
             slots,
             operands: self.values.len(),
-            olds: self.values.olds_len(),
-            result: code.result.map(|(default, _)| Value::of_default(default)),
+            olds: self.values.olds.len(),
+            result,
         };
         self.callers.len() < MOST_FRAMES
-    }
-
-    fn own_attribute(&self, name: NameNumber) -> Option<Value> {
-        let current = self.frame.current;
-        match version_in(self.program, current, name)? {
-            FeatureCode::Attribute(number) => self.attribute(current, number),
-            FeatureCode::Routine(_) => None,
-        }
     }
 
     /// The attribute of this number of an object, with what it got on the way.

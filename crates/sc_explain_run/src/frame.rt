@@ -25,7 +25,8 @@ pub struct Frame {
 #[derive(Drop)]
 pub struct Values {
     values: Vec<Value>,
-    olds: Vec<Value>,
+    /// Those that routines keep for their postconditions.
+    pub olds: Vec<Value>,
     /// Whether memory was refused to some.
     pub is_lacking: bool,
 }
@@ -61,11 +62,6 @@ impl Values {
         self.values.len()
     }
 
-    /// How many are kept.
-    pub fn olds_len(&self) -> usize {
-        self.olds.len()
-    }
-
     /// Adds an operand.
     pub fn push(&mut self, value: Value) {
         if self.values.push(value).is_err() {
@@ -90,11 +86,6 @@ impl Values {
     /// Leaves so many at most.
     pub fn cut(&mut self, count: usize) {
         self.values.truncate(count)
-    }
-
-    /// Keeps so many at most.
-    pub fn cut_olds(&mut self, count: usize) {
-        self.olds.truncate(count)
     }
 
     /// The value at a place.

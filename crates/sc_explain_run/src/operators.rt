@@ -1,6 +1,6 @@
 //! What operators give.
 
-use sc_formula::{Connective, arithmetic};
+use sc_formula::{ArithmeticOperator, Connective, arithmetic};
 use sc_region::Value;
 use sc_tree::{BinaryOperator, UnaryOperator};
 
@@ -18,19 +18,23 @@ pub fn unary_value(operator: UnaryOperator, operand: Value) -> Option<Value> {
 
 /// The value of a binary operator, if it has one.
 pub fn binary_value(operator: BinaryOperator, left: Value, right: Value) -> Option<Value> {
-    match (left, right) {
-        (Value::Integer(left), Value::Integer(right)) => of_integers(operator, left, right),
+    let is_same = match (left, right) {
+        (Value::Integer(left), Value::Integer(right)) => {
+            return of_integers(operator, left, right);
+        }
         (Value::Boolean(left), Value::Boolean(right)) => {
-            Some(Value::Boolean(connective_of(operator)?.apply(left, right)))
+            return Some(Value::Boolean(connective_of(operator)?.apply(left, right)));
         }
         (Value::Attached(left), Value::Attached(right)) => {
-            let is_same = left.handler == right.handler && left.number == right.number;
-            of_identity(operator, is_same)
+            left.handler == right.handler && left.number == right.number
         }
-        (Value::Attached(_), Value::Void) | (Value::Void, Value::Attached(_)) => {
-            of_identity(operator, false)
-        }
-        (Value::Void, Value::Void) => of_identity(operator, true),
+        (Value::Attached(_), Value::Void) | (Value::Void, Value::Attached(_)) => false,
+        (Value::Void, Value::Void) => true,
+        _ => return None,
+    };
+    match operator {
+        BinaryOperator::Equal => Some(Value::Boolean(is_same)),
+        BinaryOperator::NotEqual => Some(Value::Boolean(!is_same)),
         _ => None,
     }
 }
@@ -44,28 +48,21 @@ pub fn decided_by(operator: BinaryOperator, left: Value) -> Option<bool> {
 }
 
 fn of_integers(operator: BinaryOperator, left: i64, right: i64) -> Option<Value> {
-    Some(match operator {
-        BinaryOperator::Times => Value::Integer(arithmetic::product(left, right).ok()?),
-        BinaryOperator::Quotient => Value::Integer(arithmetic::quotient(left, right).ok()?),
-        BinaryOperator::Remainder => Value::Integer(arithmetic::remainder(left, right).ok()?),
-        BinaryOperator::Plus => Value::Integer(arithmetic::sum(left, right).ok()?),
-        BinaryOperator::Minus => Value::Integer(arithmetic::difference(left, right).ok()?),
-        BinaryOperator::Equal => Value::Boolean(left == right),
-        BinaryOperator::NotEqual => Value::Boolean(left != right),
-        BinaryOperator::Less => Value::Boolean(left < right),
-        BinaryOperator::Greater => Value::Boolean(left > right),
-        BinaryOperator::LessEqual => Value::Boolean(left <= right),
-        BinaryOperator::GreaterEqual => Value::Boolean(left >= right),
+    let operator = match operator {
+        BinaryOperator::Times => ArithmeticOperator::Times,
+        BinaryOperator::Quotient => ArithmeticOperator::Quotient,
+        BinaryOperator::Remainder => ArithmeticOperator::Remainder,
+        BinaryOperator::Plus => ArithmeticOperator::Plus,
+        BinaryOperator::Minus => ArithmeticOperator::Minus,
+        BinaryOperator::Equal => return Some(Value::Boolean(left == right)),
+        BinaryOperator::NotEqual => return Some(Value::Boolean(left != right)),
+        BinaryOperator::Less => return Some(Value::Boolean(left < right)),
+        BinaryOperator::Greater => return Some(Value::Boolean(left > right)),
+        BinaryOperator::LessEqual => return Some(Value::Boolean(left <= right)),
+        BinaryOperator::GreaterEqual => return Some(Value::Boolean(left >= right)),
         _ => return None,
-    })
-}
-
-fn of_identity(operator: BinaryOperator, is_same: bool) -> Option<Value> {
-    match operator {
-        BinaryOperator::Equal => Some(Value::Boolean(is_same)),
-        BinaryOperator::NotEqual => Some(Value::Boolean(!is_same)),
-        _ => None,
-    }
+    };
+    Some(Value::Integer(operator.apply(left, right).ok()?))
 }
 
 fn connective_of(operator: BinaryOperator) -> Option<Connective> {

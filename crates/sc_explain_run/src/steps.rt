@@ -9,82 +9,81 @@ use sc_tree::BinaryOperator;
 impl<'r> Evaluation<'r> {
     /// The routine does an operation that looks at itself alone, whose operands it takes: whether it can be gone on.
     pub fn step(&mut self, operation: Operation) -> bool {
-        match operation {
-            Operation::PushInteger(value) => self.give(Value::Integer(value)),
-            Operation::PushBoolean(value) => self.give(Value::Boolean(value)),
-            Operation::PushVoid => self.give(Value::Void),
-            Operation::PushCurrent => {
-                let current = self.frame.current;
-                self.give(Value::Attached(current))
-            }
-            Operation::PushResult { is_attached: _ } => {
-                let value = self.frame.result;
-                self.read(value)
-            }
-            Operation::PushOld(number) => {
-                let value = self.values.old(&self.frame, number);
-                self.read(value)
-            }
+        let value = match operation {
+            Operation::PushResult { is_attached: _ } => self.frame.result,
+            Operation::PushOld(number) => self.values.old(&self.frame, number),
             Operation::PushSlot {
                 is_attached: _,
                 slot,
-            } => {
-                let value = self.values.slot(&self.frame, slot);
-                self.read(value)
-            }
-            operation => self.apply(operation),
+            } => self.values.slot(&self.frame, slot),
+            operation => return self.apply(operation),
+        };
+        self.read(value)
+    }
+
+    /// The routine gets a value that wasn't read, or does what `flow` does: whether it can be gone on.
+    fn apply(&mut self, operation: Operation) -> bool {
+        let value = match operation {
+            Operation::PushInteger(value) => Some(Value::Integer(value)),
+            Operation::PushBoolean(value) => Some(Value::Boolean(value)),
+            Operation::PushVoid => Some(Value::Void),
+            Operation::PushCurrent => Some(Value::Attached(self.frame.current)),
+            Operation::ApplyUnary(operator) => match self.pop() {
+                Some(operand) => unary_value(operator, operand),
+                None => None,
+            },
+            Operation::ApplyBinary(operator) => self.binary(operator),
+            operation => return self.flow(operation),
+        };
+        match value {
+            Some(value) => self.give(value),
+            None => false,
         }
     }
 
-    /// The routine applies an operator, or stores an operand, or does what `flow` does.
-    fn apply(&mut self, operation: Operation) -> bool {
-        match operation {
-            Operation::ApplyUnary(operator) => {
-                let operand = self.pop();
-                self.give_if(operand.and_then(|operand| unary_value(operator, operand)))
-            }
-            Operation::ApplyBinary(operator) => {
-                let value = self.binary(operator);
-                self.give_if(value)
-            }
-            Operation::Decide { operator, passed } => self.decide(operator, passed),
+    /// The routine stores a value, or does an operation that chooses the next one: whether it can be gone on.
+    fn flow(&mut self, operation: Operation) -> bool {
+        let is_done = match operation {
+            Operation::Conclude => true,
             Operation::StoreSlot(slot) => match self.pop() {
-                Some(value) => self.put(slot, value),
+                Some(value) => self.values.put(&self.frame, slot, value),
                 None => false,
             },
-            Operation::Initialize { value, slot } => self.put(slot, Value::of_default(value)),
-            operation => self.flow(operation),
-        }
-    }
-
-    /// The routine does an operation that chooses the next one: whether it can be gone on.
-    fn flow(&mut self, operation: Operation) -> bool {
-        match operation {
-            Operation::Conclude => self.pass(0),
-            Operation::KeepOld => {
-                if let Some(value) = self.pop() {
-                    self.values.keep(value)
-                }
-                self.pass(0)
+            Operation::Initialize { value, slot } => {
+                self.values.put(&self.frame, slot, Value::of_default(value))
             }
             Operation::StoreResult => {
                 let value = self.pop();
                 self.frame.result = value;
-                self.pass(0)
+                true
             }
-            Operation::Jump(passed) => self.pass(passed),
-            Operation::SkipIfFalse(passed) => match self.condition() {
-                Some(holds) => self.pass(if holds { 0 } else { passed }),
-                None => false,
-            },
-            Operation::EndLoop(back) => match self.condition() {
-                Some(true) => self.pass(0),
-                Some(false) => self.turn_back(back),
-                None => false,
-            },
-            Operation::Demand(_) | Operation::Expect(_) => {
-                matches!(self.condition(), Some(true)) && self.pass(0)
+            Operation::KeepOld => {
+                if let Some(value) = self.pop() {
+                    self.values.keep(value)
+                }
+                true
             }
+            Operation::Jump(passed) => return self.pass(passed),
+            Operation::Decide { operator, passed } => return self.decide(operator, passed),
+            operation => return self.branch(operation),
+        };
+        is_done && self.pass(0)
+    }
+
+    /// The routine does an operation that takes a truth value: whether it can be gone on.
+    fn branch(&mut self, operation: Operation) -> bool {
+        let holds = match self.pop() {
+            Some(Value::Boolean(value)) => value,
+            _ => return false,
+        };
+        match operation {
+            Operation::SkipIfFalse(passed) => self.pass(if holds { 0 } else { passed }),
+            Operation::EndLoop(back) if !holds => {
+                self.frame.place = self.frame.place.saturating_sub(back);
+                true
+            }
+            Operation::EndLoop(_) => self.pass(0),
+            Operation::Demand(_) | Operation::Expect(_) => holds && self.pass(0),
             _ => false,
         }
     }
@@ -94,31 +93,10 @@ impl<'r> Evaluation<'r> {
         self.values.pop(&self.frame)
     }
 
-    /// Takes the last operand, where it is a truth value.
-    fn condition(&mut self) -> Option<bool> {
-        match self.pop() {
-            Some(Value::Boolean(value)) => Some(value),
-            _ => None,
-        }
-    }
-
     /// The routine gets a value as an operand.
     fn give(&mut self, value: Value) -> bool {
         self.values.push(value);
         self.pass(0)
-    }
-
-    fn give_if(&mut self, value: Option<Value>) -> bool {
-        match value {
-            Some(value) => self.give(value),
-            None => false,
-        }
-    }
-
-    /// The routine goes on so many operations before.
-    fn turn_back(&mut self, back: usize) -> bool {
-        self.frame.place = self.frame.place.saturating_sub(back);
-        true
     }
 
     fn binary(&mut self, operator: BinaryOperator) -> Option<Value> {
@@ -150,10 +128,5 @@ impl<'r> Evaluation<'r> {
                 self.values.put(&self.frame, slot, value) && self.give(Value::Boolean(true))
             }
         }
-    }
-
-    /// A value goes into a slot.
-    fn put(&mut self, slot: usize, value: Value) -> bool {
-        self.values.put(&self.frame, slot, value) && self.pass(0)
     }
 }
