@@ -60,24 +60,20 @@ impl Chains {
             is_any_busy: false,
         };
         for handler in 0..count_of(world) {
-            chains.add(lines, wait_of(world, handler));
+            let wait = wait_of(world, handler);
+            let member = Member {
+                wait,
+                next: None,
+                is_stuck: wait.is_waiting(),
+                is_told: false,
+            };
+            if chains.members.push(member).is_err() {
+                lines.lack()
+            }
+            chains.is_any_busy = chains.is_any_busy || matches!(wait, Wait::Busy);
         }
         chains.link(world.core());
         chains
-    }
-
-    /// Adds the next handler, which waits for this.
-    fn add(&mut self, lines: &mut Lines, wait: Wait) {
-        self.is_any_busy = self.is_any_busy || matches!(wait, Wait::Busy);
-        let member = Member {
-            wait,
-            next: None,
-            is_stuck: wait.is_waiting(),
-            is_told: false,
-        };
-        if self.members.push(member).is_err() {
-            lines.lack()
-        }
     }
 
     /// Sets for each handler the one that keeps it waiting.

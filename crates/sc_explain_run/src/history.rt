@@ -78,14 +78,7 @@ impl Turn {
 /// The turn at a place of a log in which each is settled by itself.
 pub fn turn_at(log: &Log, place: usize) -> Option<Turn> {
     let settlement = log.get(place)?;
-    Some(Turn {
-        begun: begun_by(&settlement.job, place),
-        ended: ended_by(&settlement.want),
-    })
-}
-
-fn begun_by(job: &Job, place: usize) -> Begun {
-    match job {
+    let begun = match &settlement.job {
         Job::Take(request) => Begun::Takes(Served {
             asked: asked_by(request),
             is_waited: request.is_waited,
@@ -95,11 +88,8 @@ fn begun_by(job: &Job, place: usize) -> Begun {
         Job::Go | Job::Granted(_) => Begun::GoesOn(None),
         Job::Made(_) => Begun::HasCreated,
         Job::Failed | Job::Refused => Begun::Fails,
-    }
-}
-
-fn ended_by(want: &Want) -> Ended {
-    match want {
+    };
+    let ended = match &settlement.want {
         Want::Post(request) => asks_by(request, false),
         Want::Ask { request, .. } => asks_by(request, true),
         Want::Create { class, .. } => Ended::Creates(*class),
@@ -112,7 +102,8 @@ fn ended_by(want: &Want) -> Ended {
         },
         Want::Fail(cause) => Ended::Fails(*cause),
         _ => Ended::GoesOn,
-    }
+    };
+    Some(Turn { begun, ended })
 }
 
 fn asks_by(request: &Request, is_waited: bool) -> Ended {

@@ -5,7 +5,7 @@ use crate::naming::{Asked, push_place, stand_of};
 use crate::origin::RunSource;
 use crate::printed::push_printed;
 use crate::waiting::Waiting;
-use crate::waits::{MOST_NEEDED, keeper_of, needed_at};
+use crate::waits::{MOST_NEEDED, count_of, keeper_of, needed_at};
 use sc_explain_text::{Lines, find};
 use sc_lockpass::HandlerNumber;
 use sc_model::{Cause, Status};
@@ -35,7 +35,7 @@ impl Earlier {
                 None => 0,
             },
             handlers: world.handler_count(),
-            has_failed: failure_in(world, handler).is_some(),
+            has_failed: matches!(world.status(handler), Some(Status::Failed(_))),
             stand: stand_in(origin, world, handler),
             routine: routine_in(origin, world, handler),
         }
@@ -76,22 +76,17 @@ impl<'o> MadeTurn<'o> {
                 waiting.set(self.handler, false);
                 self.tell_kept(lines, place, waiting)
             }
-            self.tell_asked(lines, turn.ended, waiting);
+            self.tell_asked(lines, &turn, waiting);
             self.tell_failed(lines, &turn)
         }
     }
 
     /// Adds what its reserve step had got for it.
     fn tell_reserved(&self, lines: &mut Lines, place: usize) {
-        let mut before = " reserves ";
+        self.begin(lines, self.handler, " reserves ");
         for number in 0..MOST_NEEDED {
             if let Some(one) = granted_at(self.world.log(), place, number) {
-                if number == 0 {
-                    self.begin(lines, self.handler, before)
-                } else {
-                    lines.push(before)
-                }
-                before = " and ";
+                lines.push(if number == 0 { "" } else { " and " });
                 self.push_handler(lines, one, None)
             }
         }
@@ -100,8 +95,7 @@ impl<'o> MadeTurn<'o> {
 
     /// Adds who has to wait now for what its reserve step had got for it.
     fn tell_kept(&self, lines: &mut Lines, place: usize, waiting: &mut Waiting) {
-        for other in 0..self.world.handler_count().min(HandlerNumber::MAX as usize) {
-            let other = other as HandlerNumber;
+        for other in 0..count_of(self.world) {
             if other != self.handler && !waiting.is_told(other) && self.needs_some(other, place) {
                 self.tell_wait(lines, other, waiting)
             }
@@ -131,8 +125,9 @@ impl<'o> MadeTurn<'o> {
         false
     }
 
-    fn tell_asked(&self, lines: &mut Lines, ended: Ended, waiting: &mut Waiting) {
-        match ended {
+    /// Adds what the turn came to, as far as it concerns others.
+    fn tell_asked(&self, lines: &mut Lines, turn: &Turn, waiting: &mut Waiting) {
+        match turn.ended {
             Ended::Asks {
                 supplier,
                 asked,
@@ -170,7 +165,13 @@ impl<'o> MadeTurn<'o> {
             self.handler,
             if is_waited { " asks for " } else { " posts " },
         );
-        self.push_feature(lines, asked);
+        match asked.errand {
+            Errand::Makes(_) => lines.push("its creation"),
+            Errand::Calls(name) => match self.origin.program.pool().names.get(name as usize) {
+                Some(name) => lines.push_all(&["`", name.as_str(), "`"]),
+                None => lines.push("a feature"),
+            },
+        }
         lines.push(if is_waited { " of " } else { " to " });
         self.push_handler(lines, supplier, Some(asked.class));
         self.end(lines, self.asked_at())
@@ -210,11 +211,15 @@ impl<'o> MadeTurn<'o> {
 
     /// Adds by what it has failed, if it has.
     fn tell_failed(&self, lines: &mut Lines, turn: &Turn) {
-        if let Some(cause) = failure_in(self.world, self.handler)
+        if let Some(Status::Failed(cause)) = self.world.status(self.handler)
             && !self.earlier.has_failed
         {
             self.begin(lines, self.handler, " fails by ");
-            lines.push(heading_of(code_of(cause)));
+            let code = code_of(cause);
+            lines.push(match find(code) {
+                Some(page) => page.lines().next().unwrap_or(page),
+                None => code,
+            });
             let is_behind = turn.is_behind() || matches!(cause, Cause::StackFull);
             self.end(lines, self.failed_at(is_behind))
         }
@@ -239,34 +244,22 @@ impl<'o> MadeTurn<'o> {
     /// Adds the class of the root object of a handler and the handler's number. One that has no object yet is named by the class
     /// of what is asked of it.
     fn push_handler(&self, lines: &mut Lines, handler: HandlerNumber, asked: Option<usize>) {
-        match self.class_of(handler, asked) {
-            Some(name) => lines.push_all(&[name, " "]),
-            None => lines.push("handler "),
-        }
-        lines.push_number(u64::from(handler))
-    }
-
-    fn class_of(&self, handler: HandlerNumber, asked: Option<usize>) -> Option<&'o str> {
         let root = match self.world.region(handler) {
             Some(region) => region.store().class_of(1),
             None => None,
         };
         let class = match root {
-            Some(class) => class as usize,
-            None => asked?,
+            Some(class) => Some(class as usize),
+            None => asked,
         };
-        self.origin.class_name(class)
-    }
-
-    /// Adds the feature that is asked for, or that it is a creation.
-    fn push_feature(&self, lines: &mut Lines, asked: &Asked) {
-        match asked.errand {
-            Errand::Makes(_) => lines.push("its creation"),
-            Errand::Calls(name) => match self.origin.program.pool().names.get(name as usize) {
-                Some(name) => lines.push_all(&["`", name.as_str(), "`"]),
-                None => lines.push("a feature"),
-            },
+        if let Some(class) = class
+            && let Some(name) = self.origin.class_name(class)
+        {
+            lines.push_all(&[name, " "])
+        } else {
+            lines.push("handler ")
         }
+        lines.push_number(u64::from(handler))
     }
 
     /// Where it has asked another handler for something: it waits there, or has gone on.
@@ -295,14 +288,6 @@ impl<'o> MadeTurn<'o> {
     }
 }
 
-/// By what a handler has failed, if it has.
-fn failure_in(world: &World<'_>, handler: HandlerNumber) -> Option<Cause> {
-    match world.status(handler) {
-        Some(Status::Failed(cause)) => Some(cause),
-        _ => None,
-    }
-}
-
 /// Where a handler stands, if a routine of it runs.
 fn stand_in(origin: &RunSource<'_>, world: &World<'_>, handler: HandlerNumber) -> Option<Span> {
     Some(stand_of(origin, world, handler)?.span)
@@ -312,12 +297,4 @@ fn stand_in(origin: &RunSource<'_>, world: &World<'_>, handler: HandlerNumber) -
 fn routine_in(origin: &RunSource<'_>, world: &World<'_>, handler: HandlerNumber) -> Option<Span> {
     let top = world.region(handler)?.store().top()?;
     Some(origin.text_of(top.routine)?.name)
-}
-
-/// The first line of the page of a code, or the code where it has no page.
-fn heading_of(code: &'static str) -> &'static str {
-    match find(code) {
-        Some(page) => page.lines().next().unwrap_or(page),
-        None => code,
-    }
 }

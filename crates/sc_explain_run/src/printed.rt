@@ -10,20 +10,17 @@ const MOST_BYTES: usize = 256;
 pub fn push_printed(lines: &mut Lines, printed: &[u8]) {
     lines.push("\"");
     if let Ok(text) = str::from_utf8(printed) {
-        push_characters(lines, text);
+        let mut room = MOST_BYTES;
+        for character in text.chars() {
+            if room == 0 {
+                lines.push(" ..");
+                break;
+            }
+            room = room.saturating_sub(character.len_utf8());
+            push_character(lines, character)
+        }
     }
     lines.push("\"")
-}
-
-fn push_characters(lines: &mut Lines, text: &str) {
-    let mut room = MOST_BYTES;
-    for character in text.chars() {
-        if room == 0 {
-            return lines.push(" ..");
-        }
-        room = room.saturating_sub(character.len_utf8());
-        push_character(lines, character)
-    }
 }
 
 fn push_character(lines: &mut Lines, character: char) {
@@ -44,15 +41,14 @@ fn mark_of(character: char) -> Option<&'static str> {
         '\t' => Some("%T"),
         '"' => Some("%\""),
         '%' => Some("%%"),
-        _ if is_hidden(character as u32) => Some("?"),
-        _ => None,
+        _ => match character as u32 {
+            0x00..=0x1f
+            | 0x7f..=0x9f
+            | 0x200b..=0x200f
+            | 0x2028..=0x202e
+            | 0x2066..=0x2069
+            | 0xfeff => Some("?"),
+            _ => None,
+        },
     }
-}
-
-/// Whether the character of a number isn't shown by itself.
-fn is_hidden(code: u32) -> bool {
-    matches!(
-        code,
-        0x00..=0x1f | 0x7f..=0x9f | 0x200b..=0x200f | 0x2028..=0x202e | 0x2066..=0x2069 | 0xfeff
-    )
 }

@@ -67,8 +67,13 @@ impl<'r> Tracer<'r> {
         let mut lines = Lines::new(self.origin.alloc);
         for _turn in 0..line.turns {
             let earlier = Earlier::of(&self.origin, &self.world, line.handler);
-            if let Turned::Nothing = self.world.turn(line.handler)? {
-                break;
+            match self.world.turn(line.handler) {
+                Ok(Turned::Moved) => {}
+                Ok(Turned::Nothing) => break,
+                Err(_) => {
+                    lines.lack();
+                    break;
+                }
             }
             self.turns = self.turns.saturating_add(1);
             let made = MadeTurn {

@@ -53,19 +53,15 @@ pub fn needed_at(core: &Core, handler: HandlerNumber, place: usize) -> Option<Ha
 
 /// What a handler waits for.
 pub fn wait_of(world: &World<'_>, handler: HandlerNumber) -> Wait {
+    let core = world.core();
     match world.status(handler) {
         Some(Status::Busy) => Wait::Busy,
-        Some(Status::Waiting) => wait_in(world.core(), handler),
+        Some(Status::Waiting) => match core.awaits(handler) {
+            Some(supplier) => Wait::Answer(supplier),
+            None if core.is_put_off(handler) && is_unkept(core, handler) => Wait::Condition,
+            None => Wait::Reservation,
+        },
         _ => Wait::Nothing,
-    }
-}
-
-/// What a handler waits for that has nothing to do and isn't free.
-fn wait_in(core: &Core, handler: HandlerNumber) -> Wait {
-    match core.awaits(handler) {
-        Some(supplier) => Wait::Answer(supplier),
-        None if core.is_put_off(handler) && is_unkept(core, handler) => Wait::Condition,
-        None => Wait::Reservation,
     }
 }
 
