@@ -5,7 +5,7 @@ use crate::moments::Moment;
 use crate::naming::{Asked, asked_feature, push_feature, push_place};
 use crate::origin::RunSource;
 use crate::supplier::supplier_of;
-use crate::words::{class_name, push_clause, push_false, push_routine, push_site};
+use crate::words::{class_name, push_between, push_clause, push_false, push_routine, push_site};
 use sc_code::{RoutineText, SiteKind, TextSite};
 use sc_explain_text::Lines;
 use sc_lockpass::HandlerNumber;
@@ -30,7 +30,10 @@ pub fn push_failing(
         && let Some(place) = last_before(log, handler, log.len())
         && let Some(turn) = turn_at(log, place)
     {
-        let asked = asked_of(ended, handler);
+        let asked = match served_before(log, handler, log.len()) {
+            Some(served) => Some(served.asked),
+            None => None,
+        };
         push_stood(origin, lines, &breakdown, &turn, asked.as_ref(), cause);
         if let Some(moment) = moment {
             lines.push_lines(&moment.values);
@@ -45,12 +48,6 @@ pub fn push_failing(
             lines.push_lines(&moment.behind);
         }
     }
-}
-
-/// What the handler was asked for that it serves in the end.
-fn asked_of(ended: &World<'_>, handler: HandlerNumber) -> Option<Asked> {
-    let log = ended.log();
-    Some(served_before(log, handler, log.len())?.asked)
 }
 
 /// Adds where a routine stood, or what was asked for where none ran, and which invariant was broken.
@@ -135,8 +132,8 @@ fn push_at_once(origin: &RunSource<'_>, lines: &mut Lines, asked: &Asked, cause:
         && let Some(class) = origin.class_around(name)
         && begin_place(origin, lines, name)
     {
-        lines.push_all(&["`", origin.written(name), "` of "]);
-        lines.push_all(&[class_name(origin, class), " is read"]);
+        let class = class_name(origin, class);
+        lines.push_all(&["`", origin.written(name), "` of ", class, " is read"]);
         end_place(origin, lines, name)
     }
 }
@@ -146,16 +143,14 @@ fn push_served(origin: &RunSource<'_>, lines: &mut Lines, asked: &Asked) {
     let Some(poster) = asked.poster else {
         return lines.push("it was creating the root object\n");
     };
-    lines.push("it served handler ");
-    lines.push_number(u64::from(poster));
-    lines.push(", which asked for ");
-    match asked.errand {
-        Errand::Calls(_) => push_feature(origin, lines, asked),
-        Errand::Makes(None) => lines.push("its creation"),
-        Errand::Makes(Some(_)) => {
-            lines.push("its creation by ");
-            push_feature(origin, lines, asked)
-        }
+    let (words, is_named) = match asked.errand {
+        Errand::Calls(_) => (", which asked for ", true),
+        Errand::Makes(None) => (", which asked for its creation", false),
+        Errand::Makes(Some(_)) => (", which asked for its creation by ", true),
+    };
+    push_between(lines, "it served handler ", u64::from(poster), words);
+    if is_named {
+        push_feature(origin, lines, asked)
     }
     lines.push("\n")
 }
@@ -184,8 +179,6 @@ fn push_needed(lines: &mut Lines, ended: &World<'_>, handler: HandlerNumber, cau
         _ => return,
     };
     if let Some(supplier) = supplier_of(ended, handler) {
-        lines.push("it needed handler ");
-        lines.push_number(u64::from(supplier));
-        lines.push(what)
+        push_between(lines, "it needed handler ", u64::from(supplier), what)
     }
 }

@@ -6,6 +6,8 @@ use crate::moments::{Kind, Moment, moments_of};
 use crate::origin::RunSource;
 use crate::replay::Replay;
 use crate::telling::push_waits;
+use crate::waits::count_of;
+use crate::words::push_between;
 use sc_audit::RecordLine;
 use sc_code::Program;
 use sc_explain_text::{Lines, find};
@@ -39,20 +41,14 @@ pub fn run_note(
     played: Played<'_>,
     statuses: &[Status],
 ) -> Result<Vec<u8>, AllocError> {
-    if are_free(statuses) && !played.may_refuse {
+    let mut are_free = true;
+    for status in statuses {
+        are_free = are_free && matches!(*status, Status::Free)
+    }
+    if are_free && !played.may_refuse {
         return Ok(Vec::new(alloc));
     }
     order_note(alloc, played)
-}
-
-/// Whether no handler waits, is busy or has failed.
-fn are_free(statuses: &[Status]) -> bool {
-    for number in 0..statuses.len() {
-        if !matches!(statuses.get(number), Some(Status::Free)) {
-            return false;
-        }
-    }
-    true
 }
 
 /// The same of a run in which a handler isn't free, or may have refused a request.
@@ -81,25 +77,19 @@ fn push_note(alloc: Global, lines: &mut Lines, played: &Played<'_>) {
             {
                 lines.lack()
             }
-            push_note_of(&origin, lines, played, &world);
+            let moments = moments_of(&origin, lines, &world, played);
+            push_failures(&origin, lines, &world, &moments);
+            push_refusals(lines, &moments);
+            push_limit(lines, played, &world);
+            push_waits(&origin, lines, &world)
         }
         Err(_) => lines.lack(),
     }
 }
 
-/// Adds the same, where the run has ended like this.
-fn push_note_of(origin: &RunSource<'_>, lines: &mut Lines, played: &Played<'_>, ended: &World<'_>) {
-    let moments = moments_of(origin, lines, ended, played);
-    push_failures(origin, lines, ended, &moments);
-    push_refusals(lines, &moments);
-    push_limit(lines, played, ended);
-    push_waits(origin, lines, ended)
-}
-
 /// Adds what the failure of each handler is, where it was, and where more is said of it.
 fn push_failures(origin: &RunSource<'_>, lines: &mut Lines, ended: &World<'_>, moments: &[Moment]) {
-    for number in 0..ended.handler_count().min(HandlerNumber::MAX as usize) {
-        let handler = number as HandlerNumber;
+    for handler in 0..count_of(ended) {
         if let Some(Status::Failed(cause)) = ended.status(handler) {
             push_cause(lines, handler, cause);
             let moment = failure_of(moments, handler);
@@ -111,10 +101,8 @@ fn push_failures(origin: &RunSource<'_>, lines: &mut Lines, ended: &World<'_>, m
 
 /// Adds which requests were refused for which nobody waited.
 fn push_refusals(lines: &mut Lines, moments: &[Moment]) {
-    for index in 0..moments.len() {
-        if let Some(moment) = moments.get(index)
-            && matches!(moment.kind, Kind::Refusal)
-        {
+    for moment in moments {
+        if let Kind::Refusal = moment.kind {
             lines.push_lines(&moment.behind)
         }
     }
@@ -122,11 +110,8 @@ fn push_refusals(lines: &mut Lines, moments: &[Moment]) {
 
 /// What there was in front of the failure of a handler.
 fn failure_of(moments: &[Moment], handler: HandlerNumber) -> Option<&Moment> {
-    for index in 0..moments.len() {
-        if let Some(moment) = moments.get(index)
-            && matches!(moment.kind, Kind::Failure)
-            && moment.handler == handler
-        {
+    for moment in moments {
+        if matches!(moment.kind, Kind::Failure) && moment.handler == handler {
             return Some(moment);
         }
     }
@@ -138,9 +123,7 @@ fn push_cause(lines: &mut Lines, handler: HandlerNumber, cause: Cause) {
     let Some(page) = find(code_of(cause)) else {
         return;
     };
-    lines.push("handler ");
-    lines.push_number(u64::from(handler));
-    lines.push(" has failed by ");
+    push_between(lines, "handler ", u64::from(handler), " has failed by ");
     let mut number = 0_usize;
     for line in page.lines() {
         if number > 2 && line.is_empty() {

@@ -1,9 +1,9 @@
 //! What is said of a run that didn't come to its end.
 
 use crate::failure::Played;
-use sc_audit::RecordLine;
+use crate::waits::count_of;
+use crate::words::push_between;
 use sc_explain_text::Lines;
-use sc_lockpass::HandlerNumber;
 use sc_model::Status;
 use sc_world::World;
 
@@ -23,27 +23,30 @@ pub enum Limit {
 
 /// Adds how many turns were made, where a handler still has something to do, and what helps.
 pub fn push_limit(lines: &mut Lines, played: &Played<'_>, ended: &World<'_>) {
+    let (before, most) = match played.limit {
+        Limit::Turns(limit) => ("stopped limit: ", Some(limit)),
+        Limit::Output => return,
+        Limit::Record => ("stopped limit: the record ends behind ", None),
+    };
     if !is_any_busy(ended) {
         return;
     }
-    let made = turns_in(played.lines);
-    match played.limit {
-        Limit::Turns(limit) => {
-            push_turns(lines, "stopped limit: ", made);
-            push_used_up(lines, limit, made)
-        }
-        Limit::Output => {}
-        Limit::Record => {
-            push_turns(lines, "stopped limit: the record ends behind ", made);
-            lines.push("\n")
-        }
+    let mut made = 0_u64;
+    for line in played.lines {
+        made = made.saturating_add(u64::from(line.turns))
+    }
+    let behind = if made == 1 { " turn" } else { " turns" };
+    push_between(lines, before, made, behind);
+    match most {
+        Some(limit) => push_used_up(lines, limit, made),
+        None => lines.push("\n"),
     }
 }
 
 /// Whether a handler has something to do.
 fn is_any_busy(world: &World<'_>) -> bool {
-    for handler in 0..world.handler_count().min(HandlerNumber::MAX as usize) {
-        if let Some(Status::Busy) = world.status(handler as HandlerNumber) {
+    for handler in 0..count_of(world) {
+        if let Some(Status::Busy) = world.status(handler) {
             return true;
         }
     }
@@ -57,26 +60,7 @@ fn push_used_up(lines: &mut Lines, limit: u32, made: u64) {
     } else if limit >= MOST_TURNS {
         lines.push(" were made, which is the most that `--turns` takes\n")
     } else {
-        lines.push(" were made; `--turns` takes up to ");
-        lines.push_number(u64::from(MOST_TURNS));
-        lines.push("\n")
+        let before = " were made; `--turns` takes up to ";
+        push_between(lines, before, u64::from(MOST_TURNS), "\n")
     }
-}
-
-/// Adds so many turns behind these words.
-fn push_turns(lines: &mut Lines, before: &str, made: u64) {
-    lines.push(before);
-    lines.push_number(made);
-    lines.push(if made == 1 { " turn" } else { " turns" })
-}
-
-/// How many turns these lines have.
-fn turns_in(lines: &[RecordLine]) -> u64 {
-    let mut turns = 0_u64;
-    for place in 0..lines.len() {
-        if let Some(line) = lines.get(place) {
-            turns = turns.saturating_add(u64::from(line.turns))
-        }
-    }
-    turns
 }

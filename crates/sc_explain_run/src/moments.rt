@@ -9,9 +9,9 @@ use crate::naming::{asked_by, push_callers, push_name, push_request, push_stand}
 use crate::origin::RunSource;
 use crate::replay::Replay;
 use crate::supplier::supplier_of;
+use crate::waits::count_of;
 use sc_audit::RecordLine;
 use sc_explain_text::Lines;
-use sc_handler::Log;
 use sc_lockpass::HandlerNumber;
 use sc_model::{Cause, Status};
 use sc_region::BrokenInvariant;
@@ -59,18 +59,23 @@ pub fn moments_of(
     played: &Played<'_>,
 ) -> Vec<Moment> {
     let mut moments = Vec::new(origin.alloc);
-    for number in 0..ended.handler_count().min(HandlerNumber::MAX as usize) {
-        let handler = number as HandlerNumber;
-        add_failure(origin.alloc, lines, &mut moments, ended, handler);
-        add_refusals(origin.alloc, lines, &mut moments, ended, handler);
+    for handler in 0..count_of(ended) {
+        add_of(origin.alloc, lines, &mut moments, ended, handler);
     }
     if !moments.is_empty() {
-        tell_of(origin, lines, ended, played, &mut moments)
+        match World::open(origin.alloc, played.program, played.version) {
+            Ok(mut world) => {
+                tell_each(origin, lines, ended, &mut world, played.lines, &mut moments)
+            }
+            Err(_) => lines.lack(),
+        }
     }
     moments
 }
 
-fn add_failure(
+/// Adds the failure of a handler, and the refusal of what it had asked for, if it has failed by that; and each of its refusals
+/// for which nobody waits.
+fn add_of(
     alloc: Global,
     lines: &mut Lines,
     moments: &mut Vec<Moment>,
@@ -82,44 +87,25 @@ fn add_failure(
         && let Some(place) = last_before(log, handler, log.len())
     {
         add(alloc, lines, moments, handler, Kind::Failure, place);
-        if let Cause::Precondition = cause {
-            add_needed_refusal(alloc, lines, moments, ended, handler, place)
+        if let Cause::Precondition = cause
+            && let Some(turn) = turn_at(log, place)
+            && turn.is_behind()
+            && let Some(supplier) = supplier_of(ended, handler)
+            && let Some(refused) = refused_before(log, supplier, place)
+        {
+            add(alloc, lines, moments, supplier, Kind::Refusal, refused)
         }
     }
-}
-
-/// Adds the refusal of what a handler had asked for, by which it has failed at a place.
-fn add_needed_refusal(
-    alloc: Global,
-    lines: &mut Lines,
-    moments: &mut Vec<Moment>,
-    ended: &World<'_>,
-    handler: HandlerNumber,
-    place: usize,
-) {
-    let log = ended.log();
-    if let Some(turn) = turn_at(log, place)
-        && turn.is_behind()
-        && let Some(supplier) = supplier_of(ended, handler)
-        && let Some(refused) = refused_before(log, supplier, place)
-    {
-        add(alloc, lines, moments, supplier, Kind::Refusal, refused)
-    }
-}
-
-fn add_refusals(
-    alloc: Global,
-    lines: &mut Lines,
-    moments: &mut Vec<Moment>,
-    ended: &World<'_>,
-    handler: HandlerNumber,
-) {
     if ended.core().refused(handler).unwrap_or(0) == 0 {
         return;
     }
-    let log = ended.log();
     for place in 0..log.len() {
-        if log.handler_at(place) == Some(handler) && is_refusal(log, handler, place) {
+        if log.handler_at(place) == Some(handler)
+            && let Some(turn) = turn_at(log, place)
+            && let Ended::Done { is_refused: true } = turn.ended
+            && let Some(served) = served_before(log, handler, place)
+            && !served.is_waited
+        {
             add(alloc, lines, moments, handler, Kind::Refusal, place)
         }
     }
@@ -150,35 +136,7 @@ fn add(
     }
 }
 
-/// Whether a handler refuses a request by the turn at a place for which nobody waits.
-fn is_refusal(log: &Log, handler: HandlerNumber, place: usize) -> bool {
-    if let Some(turn) = turn_at(log, place)
-        && let Ended::Done { is_refused: true } = turn.ended
-        && let Some(served) = served_before(log, handler, place)
-    {
-        !served.is_waited
-    } else {
-        false
-    }
-}
-
-/// Tells of each moment, where the run is played once more.
-fn tell_of<'o>(
-    origin: &'o RunSource<'o>,
-    lines: &mut Lines,
-    ended: &'o World<'o>,
-    played: &Played<'_>,
-    moments: &mut [Moment],
-) {
-    match World::open(origin.alloc, played.program, played.version) {
-        Ok(mut world) => {
-            tell_each(origin, lines, ended, &mut world, played.lines, moments);
-        }
-        Err(_) => lines.lack(),
-    }
-}
-
-/// The same, the earliest first.
+/// Tells of each moment where the run is played once more, of the earliest first.
 fn tell_each<'o>(
     origin: &'o RunSource<'o>,
     lines: &mut Lines,
@@ -256,8 +214,7 @@ impl<'o> Before<'o> {
     fn tell_refusal(&self, served: &Served, moment: &mut Moment) {
         let handler = moment.handler;
         let lines = &mut moment.behind;
-        lines.push("handler ");
-        push_name(self.origin, lines, self.world, handler);
+        push_name(self.origin, lines, "handler ", self.world, handler);
         lines.push(" refused ");
         push_request(self.origin, lines, self.world, &served.asked);
         lines.push(if served.is_waited {
@@ -273,9 +230,19 @@ impl<'o> Before<'o> {
         if let Begun::GoesOn(answer) = turn.begun
             && let Some(breakdown) = self.ended.breakdown(moment.handler)
         {
+            let is_of_values = matches!(
+                turn.ended,
+                Ended::Fails(
+                    Cause::Postcondition
+                        | Cause::Check
+                        | Cause::Precondition
+                        | Cause::Overflow
+                        | Cause::DivideByZero,
+                )
+            );
             match (breakdown.invariant, breakdown.point) {
                 (Some(broken), _) => self.tell_attributes(broken, moment),
-                (None, Some(point)) if is_of_values(turn) => push_operation_values(
+                (None, Some(point)) if is_of_values => push_operation_values(
                     self.origin,
                     &mut moment.values,
                     self.world,
@@ -318,8 +285,7 @@ impl<'o> Before<'o> {
             let Some(client) = client else {
                 return;
             };
-            lines.push("handler ");
-            push_name(self.origin, lines, self.world, client);
+            push_name(self.origin, lines, "handler ", self.world, client);
             lines.push(" waited for it");
             if self.world.core().awaits(client) == Some(handler) {
                 push_stand(self.origin, lines, self.world, client);
@@ -344,7 +310,12 @@ impl<'o> Before<'o> {
             return;
         }
         let lines = &mut moment.behind;
-        push_count(lines, count);
+        lines.push_number(count as u64);
+        lines.push(if count == 1 {
+            " request that stood behind it was dropped"
+        } else {
+            " requests that stood behind it were dropped"
+        });
         for place in 0..count.min(MOST_DROPPED) {
             if let Some(request) = core.asked_at(handler, place.saturating_add(first)) {
                 lines.push(if place == 0 { ": " } else { ", " });
@@ -356,28 +327,4 @@ impl<'o> Before<'o> {
         }
         lines.push("\n")
     }
-}
-
-/// Adds how many requests were dropped.
-fn push_count(lines: &mut Lines, count: usize) {
-    lines.push_number(count as u64);
-    lines.push(if count == 1 {
-        " request that stood behind it was dropped"
-    } else {
-        " requests that stood behind it were dropped"
-    })
-}
-
-/// Whether the turn fails by values.
-fn is_of_values(turn: &Turn) -> bool {
-    matches!(
-        turn.ended,
-        Ended::Fails(
-            Cause::Postcondition
-                | Cause::Check
-                | Cause::Precondition
-                | Cause::Overflow
-                | Cause::DivideByZero,
-        )
-    )
 }

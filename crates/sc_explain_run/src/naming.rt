@@ -2,6 +2,7 @@
 
 use crate::origin::RunSource;
 use crate::waits::standing_of;
+use crate::words::push_between;
 use sc_explain_text::Lines;
 use sc_lockpass::HandlerNumber;
 use sc_region::{Activation, Errand, Request, Stage};
@@ -17,16 +18,6 @@ const MOST_CALLERS: usize = 16;
 pub struct Stand<'r> {
     pub span: Span,
     pub routine: &'r str,
-}
-
-/// The class of the root object of a handler, if there is one.
-fn root_class<'r>(
-    origin: &RunSource<'r>,
-    world: &World<'_>,
-    handler: HandlerNumber,
-) -> Option<&'r str> {
-    let class = world.region(handler)?.store().class_of(1)?;
-    origin.class_name(class as usize)
 }
 
 /// Where a handler stands, if it has frames.
@@ -76,16 +67,21 @@ pub fn asked_feature(origin: &RunSource<'_>, asked: &Asked) -> Option<Span> {
     origin.feature_name(asked.class, name)
 }
 
-/// Adds the number of a handler, and the class of its root object.
+/// Adds the number of a handler behind these words, and the class of its root object.
 pub fn push_name(
     origin: &RunSource<'_>,
     lines: &mut Lines,
+    before: &str,
     world: &World<'_>,
     handler: HandlerNumber,
 ) {
+    lines.push(before);
     lines.push_number(u64::from(handler));
-    if let Some(class) = root_class(origin, world, handler) {
-        lines.push_all(&[" (", class, ")"]);
+    if let Some(region) = world.region(handler)
+        && let Some(class) = region.store().class_of(1)
+        && let Some(name) = origin.class_name(class as usize)
+    {
+        lines.push_all(&[" (", name, ")"]);
     }
 }
 
@@ -105,8 +101,7 @@ pub fn push_request(origin: &RunSource<'_>, lines: &mut Lines, world: &World<'_>
         push_feature(origin, lines, asked)
     }
     if let Some(poster) = asked.poster {
-        lines.push(" for ");
-        push_name(origin, lines, world, poster);
+        push_name(origin, lines, " for ", world, poster);
     }
 }
 
@@ -132,25 +127,19 @@ pub fn push_callers(
     world: &World<'_>,
     handler: HandlerNumber,
 ) {
+    let Some(region) = world.region(handler) else {
+        return;
+    };
     for count in 0..MOST_CALLERS + 1 {
-        match caller_in(world, handler, count) {
-            None => return,
-            Some(_) if count == MOST_CALLERS => lines.push("and so on\n"),
-            Some(caller) => push_caller(origin, lines, caller),
+        match region.store().under(count.saturating_add(1)) {
+            Some(caller) if matches!(caller.stage, Stage::InCall { .. }) => {
+                if count == MOST_CALLERS {
+                    return lines.push("and so on\n");
+                }
+                push_caller(origin, lines, caller)
+            }
+            _ => return,
         }
-    }
-}
-
-/// The caller of a handler's topmost routine from which so many others lead to that one, as far as they serve the same request.
-fn caller_in<'w>(
-    world: &'w World<'_>,
-    handler: HandlerNumber,
-    count: usize,
-) -> Option<&'w Activation> {
-    let store = world.region(handler)?.store();
-    match store.under(count.saturating_add(1)) {
-        Some(caller) if matches!(caller.stage, Stage::InCall { .. }) => Some(caller),
-        _ => None,
     }
 }
 
@@ -170,10 +159,8 @@ pub fn push_place(origin: &RunSource<'_>, lines: &mut Lines, before: &str, part:
     let Some(Place { file, line, column }) = origin.source.place_of(part.start) else {
         return false;
     };
-    lines.push(before);
-    lines.push_all(&[file, ":"]);
-    lines.push_number(line as u64);
-    lines.push(":");
+    lines.push_all(&[before, file]);
+    push_between(lines, ":", line as u64, ":");
     lines.push_number(column as u64);
     true
 }

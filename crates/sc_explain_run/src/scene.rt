@@ -22,8 +22,7 @@ pub struct Scene<'o, 'r> {
 impl<'o, 'r> Scene<'o, 'r> {
     /// Adds a handler: what it holds, what it waits for, and where it stands.
     pub fn push_handler(&self, lines: &mut Lines, handler: HandlerNumber, wait: Wait) {
-        lines.push("handler ");
-        self.push_name(lines, handler);
+        self.push_name(lines, "handler ", handler);
         self.push_held(lines, handler);
         self.push_wait(lines, handler, wait);
         push_stand(self.origin, lines, self.world, handler);
@@ -37,21 +36,28 @@ impl<'o, 'r> Scene<'o, 'r> {
     fn push_wait(&self, lines: &mut Lines, handler: HandlerNumber, wait: Wait) {
         match wait {
             Wait::Nothing => {}
-            Wait::Busy => self.push_busy(lines, handler),
+            Wait::Busy => {
+                lines.push(" is busy");
+                if let Some(request) = self.world.core().asked_at(handler, 0)
+                    && stand_of(self.origin, self.world, handler).is_none()
+                {
+                    lines.push(": it is to take ");
+                    push_request(self.origin, lines, self.world, &asked_by(request))
+                }
+            }
             Wait::Reservation => self.push_wanted(lines, handler),
             Wait::Condition => {
                 self.push_wanted(lines, handler);
                 lines.push(" until the precondition holds")
             }
             Wait::Answer(supplier) => {
-                lines.push(" waits for the answer of ");
-                self.push_name(lines, supplier)
+                self.push_name(lines, " waits for the answer of ", supplier)
             }
         }
     }
 
-    fn push_name(&self, lines: &mut Lines, handler: HandlerNumber) {
-        push_name(self.origin, lines, self.world, handler)
+    fn push_name(&self, lines: &mut Lines, before: &str, handler: HandlerNumber) {
+        push_name(self.origin, lines, before, self.world, handler)
     }
 
     /// Adds the handlers that this one holds.
@@ -60,8 +66,8 @@ impl<'o, 'r> Scene<'o, 'r> {
         for handler in 0..count_of(self.world) {
             if self.world.core().holder(handler) == Some(holder) {
                 if count < MOST_LISTED {
-                    lines.push(if count == 0 { " holds " } else { ", " });
-                    self.push_name(lines, handler);
+                    let before = if count == 0 { " holds " } else { ", " };
+                    self.push_name(lines, before, handler);
                 }
                 count = count.saturating_add(1);
             }
@@ -76,12 +82,12 @@ impl<'o, 'r> Scene<'o, 'r> {
     fn push_wanted(&self, lines: &mut Lines, handler: HandlerNumber) {
         for place in 0..MOST_NEEDED {
             if let Some(one) = needed_at(self.world.core(), handler, place) {
-                lines.push(if place == 0 {
+                let before = if place == 0 {
                     " waits for "
                 } else {
                     ", and for "
-                });
-                self.push_name(lines, one);
+                };
+                self.push_name(lines, before, one);
                 self.push_keeper(lines, one)
             }
         }
@@ -102,17 +108,6 @@ impl<'o, 'r> Scene<'o, 'r> {
         }
     }
 
-    /// Adds what a handler has to do.
-    fn push_busy(&self, lines: &mut Lines, handler: HandlerNumber) {
-        lines.push(" is busy");
-        if let Some(request) = self.world.core().asked_at(handler, 0)
-            && stand_of(self.origin, self.world, handler).is_none()
-        {
-            lines.push(": it is to take ");
-            push_request(self.origin, lines, self.world, &asked_by(request))
-        }
-    }
-
     /// Adds which requests stand at a handler that waits, if any do: whether some do.
     pub fn push_requests(&self, lines: &mut Lines, handler: HandlerNumber) -> bool {
         let count = self.world.core().queue_len(handler);
@@ -128,8 +123,7 @@ impl<'o, 'r> Scene<'o, 'r> {
             )
         };
         lines.push_number(count as u64);
-        lines.push(stand);
-        self.push_name(lines, handler);
+        self.push_name(lines, stand, handler);
         lines.push(before);
         push_request(self.origin, lines, self.world, &asked_by(request));
         lines.push("\n");

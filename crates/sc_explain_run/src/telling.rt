@@ -4,6 +4,7 @@ use crate::chains::{Chains, Cycle};
 use crate::origin::RunSource;
 use crate::scene::Scene;
 use crate::waits::{Wait, count_of};
+use crate::words::push_between;
 use sc_explain_text::Lines;
 use sc_lockpass::HandlerNumber;
 use sc_world::World;
@@ -29,7 +30,15 @@ pub fn push_waits(origin: &RunSource<'_>, lines: &mut Lines, world: &World<'_>) 
         left_out: 0,
         room_of_requests: MOST_TOLD,
     };
-    note.tell_all(lines)
+    note.tell_each(lines, Part::Cycles);
+    note.tell_each(lines, Part::Conditions);
+    note.tell_each(lines, Part::Chains);
+    note.tell_each(lines, Part::Others);
+    if note.left_out > 0 {
+        let behind = " more, which wait or are busy\n";
+        push_between(lines, "and ", note.left_out as u64, behind)
+    }
+    note.tell_each(lines, Part::Requests)
 }
 
 /// What is told of the handlers, one after the other.
@@ -63,19 +72,6 @@ struct Note<'o, 'r> {
 }
 
 impl<'o, 'r> Note<'o, 'r> {
-    fn tell_all(&mut self, lines: &mut Lines) {
-        self.tell_each(lines, Part::Cycles);
-        self.tell_each(lines, Part::Conditions);
-        self.tell_each(lines, Part::Chains);
-        self.tell_each(lines, Part::Others);
-        if self.left_out > 0 {
-            lines.push("and ");
-            lines.push_number(self.left_out as u64);
-            lines.push(" more, which wait or are busy\n")
-        }
-        self.tell_each(lines, Part::Requests)
-    }
-
     fn tell_each(&mut self, lines: &mut Lines, part: Part) {
         for handler in 0..count_of(self.scene.world) {
             self.tell_part(lines, part, handler)
@@ -112,9 +108,7 @@ impl<'o, 'r> Note<'o, 'r> {
         let cycle = self.chains.cycle_of(first);
         if cycle.length > 0 {
             self.push_path(lines, "deadlock: ", first, cycle.length);
-            lines.push(" -> ");
-            lines.push_number(u64::from(first));
-            lines.push(kind_of(cycle));
+            push_between(lines, " -> ", u64::from(first), kind_of(cycle));
             // None of a cycle takes the room of others.
             let room = self.room;
             self.room = usize::MAX;

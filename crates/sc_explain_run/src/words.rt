@@ -9,8 +9,8 @@ use sc_tree::UnaryOperator;
 
 /// Adds the name of a routine and that of the class in which it stands.
 pub fn push_routine(origin: &RunSource<'_>, lines: &mut Lines, text: &RoutineText) {
-    lines.push_all(&["in `", origin.written(text.name), "` of "]);
-    lines.push_all(&[class_name(origin, text.class), ", "])
+    let class = class_name(origin, text.class);
+    lines.push_all(&["in `", origin.written(text.name), "` of ", class, ", "])
 }
 
 /// Adds what stands at a place of a routine where a handler failed by this cause.
@@ -29,20 +29,36 @@ pub fn push_site(
                 Some(tag) => Some(tag.span()),
             };
             push_clause(origin, lines, tag);
-            lines.push(of_assertion(assertion));
+            lines.push(match assertion {
+                Assertion::Precondition => " of the precondition",
+                Assertion::Check => " of the `check`",
+                Assertion::Postcondition => " of the postcondition",
+            });
             push_false(origin, lines, text.contract_class, is_own)
         }
         SiteKind::Name(name) | SiteKind::Call(name) => {
-            push_use(lines, origin.written(name.span()), cause)
+            let (before, behind) = match cause {
+                Cause::UnsetEntity => ("`", "` is read"),
+                Cause::VoidTarget => ("the call of `", "`, whose target is Void"),
+                _ => ("the call of `", "`"),
+            };
+            lines.push_all(&[before, origin.written(name.span()), behind])
         }
         SiteKind::Unary(operator) => {
-            push_quoted(lines, "the operator `", unary_spelling(operator))
+            lines.push_all(&["the operator `", unary_spelling(operator), "`"])
         }
         SiteKind::Binary(operator) => {
-            push_quoted(lines, "the operator `", binary_spelling(operator))
+            lines.push_all(&["the operator `", binary_spelling(operator), "`"])
         }
         kind => lines.push(of_kind(kind, cause)),
     }
+}
+
+/// Adds a number between these words.
+pub fn push_between(lines: &mut Lines, before: &str, number: u64, behind: &str) {
+    lines.push(before);
+    lines.push_number(number);
+    lines.push(behind)
 }
 
 /// The name of the class at a number.
@@ -50,18 +66,11 @@ pub fn class_name<'r>(origin: &RunSource<'r>, class: usize) -> &'r str {
     origin.class_name(class).unwrap_or("..")
 }
 
-/// Adds a name or a sign of the text behind these words.
-fn push_quoted(lines: &mut Lines, before: &str, quoted: &str) {
-    lines.push(before);
-    lines.push(quoted);
-    lines.push("`")
-}
-
 /// Adds the clause of this tag, or of none.
 pub fn push_clause(origin: &RunSource<'_>, lines: &mut Lines, tag: Option<Span>) {
     match tag {
         None => lines.push("a clause"),
-        Some(tag) => push_quoted(lines, "the clause `", origin.written(tag)),
+        Some(tag) => lines.push_all(&["the clause `", origin.written(tag), "`"]),
     }
 }
 
@@ -71,25 +80,6 @@ pub fn push_false(origin: &RunSource<'_>, lines: &mut Lines, class: usize, is_to
         lines.push_all(&[" from ", class_name(origin, class)]);
     }
     lines.push(" is false")
-}
-
-/// Adds what is done with a name: it is read, or called.
-fn push_use(lines: &mut Lines, name: &str, cause: Cause) {
-    let (before, behind) = match cause {
-        Cause::UnsetEntity => ("`", " is read"),
-        Cause::VoidTarget => ("the call of `", ", whose target is Void"),
-        _ => ("the call of `", ""),
-    };
-    push_quoted(lines, before, name);
-    lines.push(behind)
-}
-
-fn of_assertion(assertion: Assertion) -> &'static str {
-    match assertion {
-        Assertion::Precondition => " of the precondition",
-        Assertion::Check => " of the `check`",
-        Assertion::Postcondition => " of the postcondition",
-    }
 }
 
 fn of_kind(kind: SiteKind, cause: Cause) -> &'static str {
