@@ -3,7 +3,9 @@
     python3 .ci/seconds.py FOLDER
 
 FOLDER gets two files: `last`, the last line, and `seconds`, a table of processor seconds: crate by crate those of its
-proof, of its tests (they are proved with the crate once more, and run) and of its must-fail edits, the dearest first.
+proof, of its tests (they are proved with the crate once more, and run) and of its must-fail edits, the dearest first. Where
+processors share what they work with, among themselves or with other machines, the same work takes more of their seconds. So
+a loop that is the same each time runs every ten seconds, and a last line says how long it took at its fastest and in the mean.
 The status is that of `rt ci`. It says nothing of the kind itself, so its checks are looked at twice a second in /proc.
 Told to stop, this ends the checks that run, and waits until `rt ci` has put back what it had set aside.
 """
@@ -18,6 +20,22 @@ import time
 
 TICKS = os.sysconf("SC_CLK_TCK")
 PARTS = ("proof", "tests", "edits")
+LOOKS = 20  # so many looks, of half a second, from one loop that is measured to the next
+
+
+def loop_milliseconds():
+    """Returns the processor milliseconds of a loop that is the same each time."""
+    begun, table = time.thread_time(), {}
+    for number in range(30_000):
+        table[number * 7919 % 65_521] = number
+    return (time.thread_time() - begun) * 1000
+
+
+def speed(loops, seconds):
+    """Returns the line that says how fast the processors were, and what these seconds would be at their fastest."""
+    fastest, mean = min(loops), sum(loops) / len(loops)
+    at_fastest = f"{seconds:.0f} seconds would be {seconds * fastest / mean:.0f} where it always took as long as at its fastest"
+    return f"a loop took {fastest:.1f} ms at its fastest and {mean:.1f} in the mean of {len(loops)}: {at_fastest}"
 
 
 class Process:
@@ -129,11 +147,15 @@ def main(folder):
         signal.signal(it, told_to_stop)
     how = {"stdin": subprocess.DEVNULL, "stdout": subprocess.PIPE, "stderr": subprocess.STDOUT, "start_new_session": True}
     running = subprocess.Popen(["rt", "ci"], text=True, errors="replace", **how)
-    stop, costs, last = threading.Event(), Costs(running.pid), ""
+    stop, costs, last, loops = threading.Event(), Costs(running.pid), "", [loop_milliseconds()]
 
     def look():
+        looks = 0
         while not stop.wait(0.5):
             costs.look()
+            looks += 1
+            if looks % LOOKS == 0:
+                loops.append(loop_milliseconds())
 
     looking = threading.Thread(target=look, daemon=True)
     looking.start()
@@ -151,6 +173,7 @@ def main(folder):
         it.write(last)
     with open(f"{folder}/seconds", "w", encoding="utf-8") as it:
         it.writelines(line + "\n" for line in costs.table())
+        it.write(speed(loops, sum(costs.of_process.values())) + "\n")
     return status if status >= 0 else 128 - status
 
 
