@@ -25,6 +25,7 @@ pub fn copy_handlers(handlers: &ArrayVec<HandlerNumber, 16>) -> ArrayVec<Handler
 }
 
 /// Whether the Result is of an attached type, and still Void.
+#[inline(always)]
 pub fn is_unset(program: &Program, activation: &Activation) -> bool
     ensures { result ≡ is_unset program.now.image (activation_of activation.now) }
 {
@@ -41,6 +42,7 @@ pub fn is_unset(program: &Program, activation: &Activation) -> bool
 }
 
 /// Whether the object of the number is there, and meets its class invariant.
+#[inline(always)]
 pub fn meets(store: &Store<'_>, object: ObjectNumber) -> bool
     ensures { result ≡ object_meets store.now.program (object_numbered object store.now.objects) }
 {
@@ -60,6 +62,7 @@ fn may_end(store: &Store<'_>, origin: Origin, object: ObjectNumber) -> bool
 }
 
 /// A routine that is in a call goes on, with the value, where the call gives one and there is one.
+#[inline(always)]
 pub fn hand_to(activation: &mut Activation, value: Option<Value>)
     ensures { activation_of activation.new ≡ handed value (activation_of activation.old) }
 {
@@ -74,7 +77,8 @@ pub fn hand_to(activation: &mut Activation, value: Option<Value>)
 }
 
 /// The same of the topmost routine.
-fn hand_over(store: &mut Store<'_>, value: Option<Value>)
+#[inline(always)]
+pub fn hand_over(store: &mut Store<'_>, value: Option<Value>)
     ensures { store.new ≡ on_top (handed value) store.old }
 {
     match store.top_mut() {
@@ -84,8 +88,7 @@ fn hand_over(store: &mut Store<'_>, value: Option<Value>)
 }
 
 /// The topmost frame goes, and what called its routine goes on.
-#[inline(always)]
-pub fn give_back(store: &mut Store<'_>, origin: Origin, value: Option<Value>)
+fn give_back(store: &mut Store<'_>, origin: Origin, value: Option<Value>)
     ensures { store.new ≡ returned origin value store.old }
 {
     store.pop();

@@ -26,7 +26,7 @@ mod versions;
 pub use act::{Act, Calling, RemoteCall, RemoteCreation};
 pub use acting::act_on;
 pub use beginning::ask_beginning;
-pub use exiting::{copy_handlers, give_back, hand_to, is_unset, meets};
+pub use exiting::{copy_handlers, hand_over, hand_to, is_unset, meets};
 pub use going_on::{go_past, misfit};
 pub use leaving::leave;
 pub use steps::{end_round_on, unless_failed};

@@ -6,6 +6,7 @@ ghost use Rattle.sc_acts.specs.Tables.{version_in};
 use sc_code::{ClassNumber, FeatureCode, NameNumber, Program};
 
 /// What the name of a number is in the class of a number.
+#[inline(always)]
 pub fn version_in(program: &Program, class: ClassNumber, name: NameNumber) -> Option<FeatureCode>
     ensures { result ≡ version_in program.now.image class name }
 {
@@ -14,6 +15,7 @@ pub fn version_in(program: &Program, class: ClassNumber, name: NameNumber) -> Op
 }
 
 /// The number of the routine of the name in the class, if it is one there.
+#[inline(always)]
 pub fn routine_of(program: &Program, class: ClassNumber, name: NameNumber) -> Option<usize>
     ensures { result ≡ routine_in (version_in program.now.image class name) }
 {

@@ -31,7 +31,7 @@ pub enum FoundFeature {
 
 /// What the feature of this name of an object of this handler is, if there are both.
 #[inline(always)]
-pub fn feature_of(store: &Store<'_>, object: Reference, name: NameNumber) -> Option<FoundFeature>
+fn feature_of(store: &Store<'_>, object: Reference, name: NameNumber) -> Option<FoundFeature>
     ensures { IsFeature store.now object name result }
 {
     match store.class_of(object.number) {

@@ -64,3 +64,8 @@ pub test_tells : (p : Image) (found : Option PlainObject) (b : Bool) → b ≡ o
 test_tells p None b e = ((λ t. let wrong : true ≡ false = sym t ∙ e in cc), (λ m. absurd m))
 test_tells p (Some o) b e =
     ((λ t. tested_meets p o (sym e ∙ t)), (λ m. e ∙ all_tested (invariant_of p o.class) (atoms_of o.attributes) m))
+
+-- an object that meets its invariant doesn't break it
+pub meets_unbroken : (p : Image) (found : Option PlainObject) → MeetsAt p found → object_breaks p found ≡ false
+meets_unbroken p None m = absurd m
+meets_unbroken p (Some o) m = ap not (all_tested (invariant_of p o.class) (atoms_of o.attributes) m)

@@ -1,8 +1,8 @@
 -- What a store's calls do keeps that each settled object meets its class invariant.
-use Rattle.std.proofs.Common.{◌≡◌, ◌≢◌, ◌⊎◌, ⊎_elim, inl, inr, ℕ, zero, suc, ◌+◌, List, [], ◌∷◌, Option, Some, None, Bool, true, false, not, length, refl, sym, ap, ◌∙◌, subst, arith}
+use Rattle.std.proofs.Common.{◌≡◌, ◌≢◌, ◌⊎◌, ⊎_elim, inl, inr, ℕ, zero, suc, ◌+◌, List, [], ◌∷◌, Option, Some, None, Bool, true, false, not, drop, length, refl, sym, ap, ◌∙◌, subst, arith}
 use Rattle.std.proofs.lemmas.Bool.Decides.{nat_tests}
 use Rattle.std.specs.Prelude.{◌&&◌, ◌||◌, ◌==◌, nat_lt, slice_set, Result, Ok, Err, OnOk, OnErr, if◌then◌else◌}
-use Rattle.std.specs.Option.{is_none}
+use Rattle.std.specs.Option.{is_none, option_and_then}
 use Rattle.sc_model.specs.declared.cause.Cause.{Cause}
 use Rattle.sc_model.specs.declared.cause.Cause.TheVariants as cause
 use Rattle.sc_region.specs.declared.value.Value.{Value}
@@ -15,13 +15,13 @@ use Rattle.sc_region.specs.Objects.{PlainObject, object_numbered}
 use Rattle.sc_region.specs.Frames.{PlainActivation, PlainFrame, is_current, top_current}
 use Rattle.sc_region.specs.Calls.{calls, in_call, last_values, on_top, top_frame, top_operands}
 use Rattle.sc_region.specs.declared.frame.OwnCall.{OwnCall}
-use Rattle.sc_region.specs.Classes.{routine_at, fresh_object, MeetsInvariant, object_breaks}
+use Rattle.sc_region.specs.Classes.{routine_at, fresh_object, MeetsAt, MeetsInvariant, object_breaks}
 use Rattle.sc_region.specs.Stores.{PlainStore, max_objects, max_frames, new_store, is_settled, SettledObjectsMeet, failed, settled, written_to, written, entry, entered_at, entered, left_to, left, with_new, born, born_for, next_reference, made, made_for, printed}
 use Rattle.sc_region.specs.declared.frame.Activation.{Activation}
 use Rattle.sc_region.specs.declared.state.State.{State}
 use Rattle.sc_region.specs.States.{state_of}
-use Rattle.sc_region.specs.Lending.{with_object_there, with_top_activation}
-use Rattle.sc_region.proofs.InvariantTests.{and_left, and_right, unbroken_meets}
+use Rattle.sc_region.specs.Lending.{current_object, with_object_there, with_top_activation}
+use Rattle.sc_region.proofs.InvariantTests.{and_left, and_right, meets_unbroken, unbroken_meets}
 use Rattle.sc_region.proofs.Numbered.{get_set_other, numbered_suc, numbered_other, numbered_push}
 use Rattle.sc_region.proofs.Placed.{there_suc}
 
@@ -184,6 +184,23 @@ left_to_keeps (f ∷ below) x e m =
 
 pub left_keeps : (x : PlainStore) → SettledObjectsMeet x → SettledObjectsMeet (left x)
 left_keeps x m = left_to_keeps x.frames x refl m
+
+and_false : (b : Bool) → b && false ≡ false
+and_false true = refl
+and_false false = refl
+
+in_order_to : (fs : List PlainFrame) (x : PlainStore) → MeetsAt x.program (option_and_then (λ (me : Reference). object_numbered me.number x.objects) (top_current fs)) →
+    left_to fs x ≡ record x { frames = drop 1 fs }
+in_order_to [] x m = absurd m
+in_order_to (f ∷ below) x m =
+    let y : PlainStore = record x { frames = below } in
+    let n = f.current.number in
+    ap (λ b. if is_settled n y && b then failed cause.Invariant y else y) (meets_unbroken x.program (object_numbered n x.objects) m)
+    ∙ ap (λ b. if b then failed cause.Invariant y else y) (and_false (is_settled n y))
+
+-- where Current meets its invariant, nothing but its frame goes
+pub left_in_order : (x : PlainStore) → MeetsAt x.program (current_object x) → left x ≡ record x { frames = drop 1 x.frames }
+left_in_order x m = in_order_to x.frames x m
 
 -- ---- new objects
 

@@ -96,6 +96,7 @@ impl Objects {
     }
 
     /// The object of the number.
+    #[inline(always)]
     pub fn get(&self, number: usize) -> Option<&Object>
         ensures { option_map (λ object. object_of object.now) result ≡ object_numbered number self.now }
     {
@@ -124,6 +125,7 @@ impl Objects {
     }
 
     /// The attribute of the object at these numbers.
+    #[inline(always)]
     pub fn read(&self, number: usize, slot: usize) -> Option<Value>
         ensures { result ≡ attribute_of number slot self.now }
     {

@@ -1,10 +1,10 @@
 //! What a store is made of, and what its calls do, whatever its objects meet.
-ghost use Rattle.std.specs.Prelude.{◌≡◌, ◌<◌, ◌≤◌, ◌+◌, ◌^◌, ◌++◌, [], ◌∷◌, OnOk, OnErr, IsTrue, false, length, map, take};
+ghost use Rattle.std.specs.Prelude.{◌≡◌, ◌<◌, ◌≤◌, ◌+◌, ◌^◌, ◌++◌, [], ◌∷◌, OnOk, OnErr, IsTrue, Some, false, length, map, take};
 ghost use Rattle.sc_formula.specs.Plain.{plain_formula};
 ghost use Rattle.sc_region.specs.Objects.{object_of, object_numbered};
-ghost use Rattle.sc_region.specs.Classes.{meets_invariant, all_hold, object_meets, object_breaks};
+ghost use Rattle.sc_region.specs.Classes.{meets_invariant, all_hold, object_meets, object_breaks, routine_at};
 ghost use Rattle.sc_region.specs.Calls.{calls, top_operands};
-ghost use Rattle.sc_region.specs.Stores.{failed, is_settled, settled, written, entered, left, with_new, born, born_for, made, made_for, printed};
+ghost use Rattle.sc_region.specs.Stores.{failed, is_settled, settled, written, entered, left, with_new, born, born_for, made, made_for, max_frames, printed};
 ghost use Rattle.sc_region.specs.States.{state_of};
 ghost use Rattle.sc_region.specs.Values.{atoms_of};
 ghost use Rattle.sc_model.specs.declared.cause.Cause.TheVariants as cause;
@@ -15,7 +15,7 @@ use crate::object::{Object, Objects};
 use crate::program::{class_at, routine_at};
 use crate::stack::Stack;
 use crate::value::{ObjectNumber, Reference, Value};
-use sc_code::{ClassNumber, Program};
+use sc_code::{ClassNumber, Program, RoutineCode};
 use sc_formula::{Atom, Formula};
 use sc_lockpass::HandlerNumber;
 use sc_model::Cause;
@@ -91,6 +91,7 @@ pub fn is_settled(state: &State<'_>, number: usize) -> bool
 }
 
 /// Whether there is an object of the number, and it meets its class invariant.
+#[inline(always)]
 pub fn object_meets(state: &State<'_>, number: usize) -> bool
     ensures { result ≡ object_meets state.now.program.now.image (object_numbered number state.now.objects) }
 {
@@ -110,6 +111,7 @@ fn object_breaks(state: &State<'_>, number: usize) -> bool
     }
 }
 
+#[inline(always)]
 fn meets_invariant(program: &Program, object: &Object) -> bool
     ensures { result ≡ meets_invariant program.now.image (object_of object.now) }
 {
@@ -120,6 +122,7 @@ fn meets_invariant(program: &Program, object: &Object) -> bool
 }
 
 /// Whether each clause is true of the attributes, of which there are at most 256.
+#[inline(always)]
 fn meets_clauses(clauses: &[Formula], attributes: &[Value]) -> bool
     requires { length attributes.now ≤ 256 }
     ensures { result ≡ all_hold (map plain_formula clauses.now) (atoms_of attributes.now) }
@@ -252,6 +255,26 @@ pub fn call(
         overflow(state, call);
         return Ok(());
     }
+    call_code(state, current, routine, code, call)
+}
+
+/// The same of a routine whose code is at hand and takes so many actuals, where the stack isn't full.
+#[inline(always)]
+pub fn call_code(
+    state: &mut State<'_>,
+    current: Reference,
+    routine: usize,
+    code: &RoutineCode,
+    call: OwnCall,
+) -> Result<(), AllocError>
+    requires caller { 0 < length state.old.stack }
+    requires actuals { call.actuals ≤ length (top_operands state.old.stack) }
+    requires code { routine_at state.old.program.now.image routine ≡ Some code.now }
+    requires formals { call.actuals ≡ code.now.formals }
+    requires room { length state.old.stack < max_frames }
+    ensures ok { OnOk result (state_of state.new ≡ calls current routine call (state_of state.old)) }
+    ensures err { OnErr result (state_of state.new ≡ state_of state.old) }
+{
     state.stack.call(state.alloc, current, routine, code, call)
 }
 

@@ -1,8 +1,8 @@
 //! The store of a handler.
-ghost use Rattle.std.specs.Prelude.{◌≡◌, ◌<◌, ◌≤◌, ◌↔◌, ◌&&◌, IfNone, IfSome, OnOk, OnErr, IsTrue, is_some, length, nat_lt, not};
+ghost use Rattle.std.specs.Prelude.{◌≡◌, ◌<◌, ◌≤◌, ◌↔◌, ◌&&◌, IfNone, IfSome, OnOk, OnErr, IsTrue, Some, is_some, length, nat_lt, not};
 ghost use Rattle.sc_region.specs.Calls.{calls, top_operands};
 ghost use Rattle.sc_region.specs.Objects.{PlainObject, object_numbered, attribute_of};
-ghost use Rattle.sc_region.specs.Classes.{MeetsAt};
+ghost use Rattle.sc_region.specs.Classes.{MeetsAt, routine_at};
 ghost use Rattle.sc_region.specs.Stores.{AreSame, SettledObjectsMeet, new_store, is_settled, failed, written, entered, left, born, born_for, made, made_for, max_frames, printed};
 ghost use Rattle.sc_region.specs.declared.frame.Origin.TheVariants as origin;
 
@@ -12,7 +12,7 @@ use crate::object::Objects;
 use crate::stack::Stack;
 use crate::state::{self, MAX_FRAMES, State};
 use crate::value::{ObjectNumber, Reference, Value};
-use sc_code::{ClassNumber, Program};
+use sc_code::{ClassNumber, Program, RoutineCode};
 use sc_lockpass::HandlerNumber;
 use sc_model::Cause;
 use std::alloc::{AllocError, Global};
@@ -100,6 +100,7 @@ impl<'p> Store<'p> {
     }
 
     /// The attribute of the number `slot` of an object, or None where there is none. It takes constant time.
+    #[inline(always)]
     pub fn read(&self, number: ObjectNumber, slot: usize) -> Option<Value>
         ensures { result ≡ attribute_of number slot self.now.objects }
     {
@@ -204,6 +205,26 @@ impl<'p> Store<'p> {
         state::call(&mut self.state, current, routine, call)
     }
 
+    /// The same of a routine whose code is at hand and takes so many actuals, where the stack isn't full.
+    #[inline(always)]
+    pub fn call_code(
+        &mut self,
+        current: Reference,
+        routine: usize,
+        code: &RoutineCode,
+        call: OwnCall,
+    ) -> Result<(), AllocError>
+        requires caller { 0 < length self.old.frames }
+        requires actuals { call.actuals ≤ length (top_operands self.old.frames) }
+        requires code { routine_at self.old.program routine ≡ Some code.now }
+        requires formals { call.actuals ≡ code.now.formals }
+        requires room { length self.old.frames < max_frames }
+        ensures ok { OnOk result (self.new ≡ calls current routine call self.old) }
+        ensures err { OnErr result (self.new ≡ self.old) }
+    {
+        state::call_code(&mut self.state, current, routine, code, call)
+    }
+
     /// Whether there are as many frames as there may be.
     #[inline(always)]
     pub fn is_full(&self) -> bool
@@ -218,6 +239,15 @@ impl<'p> Store<'p> {
         ensures { self.new ≡ left self.old }
     {
         state::leave(&mut self.state);
+    }
+
+    /// The same of a frame whose object meets its class invariant, which isn't tested again.
+    #[inline(always)]
+    pub fn pop_in_order(&mut self)
+        requires { MeetsAt self.old.program (current_object self.old) }
+        ensures { self.new ≡ left self.old }
+    {
+        self.state.stack.pop();
     }
 
     /// Bytes are added to the output. Err where there is no memory; nothing has changed then.
@@ -253,6 +283,7 @@ impl<'p> Store<'p> {
     }
 
     /// Whether there is an object of the number, and it meets its class invariant.
+    #[inline(always)]
     pub fn test_invariant(&self, number: ObjectNumber) -> bool
         ensures { IsTrue result ↔ MeetsAt self.now.program (object_numbered number self.now.objects) }
     {
