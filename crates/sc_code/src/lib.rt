@@ -24,5 +24,7 @@ pub use program::{
     RoutineText,
 };
 pub use site::{CallSite, CreationSite, Heads, ObjectTest, Residence, TestedType};
-pub use superinstruction::{IntegerPair, Source, Superinstruction, Target, superinstructions_of};
+pub use superinstruction::{
+    IntegerPair, Load, Source, Superinstruction, Target, superinstructions_of,
+};
 pub use text_site::{Assertion, NameSpan, SiteKind, TextSite};

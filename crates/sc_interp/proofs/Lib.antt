@@ -28,3 +28,4 @@ pub mod OneObject
 pub mod Loads
 pub mod Away
 pub mod Forms
+pub mod LastOperands
