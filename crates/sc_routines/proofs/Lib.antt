@@ -11,5 +11,6 @@ pub mod HeadNames
 pub mod InstructionCalls
 pub mod KeptOlds
 pub mod JumpTargets
+pub mod Sequences
 pub mod Shapes
 pub mod Whole

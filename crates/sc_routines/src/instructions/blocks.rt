@@ -27,7 +27,7 @@ pub struct LoweredHeads {
 }
 
 /// Lowers the heads of a block, whose values stay among the operands.
-#[tactic(auto, using(crate::proofs::HeadNames::typed_rest), unfolding(sc_tree::specs::View::head_of))]
+#[tactic(auto, unfolding(sc_tree::specs::View::head_of))]
 pub fn lower_heads<'s>(
     setting: &Setting<'_, 's>,
     names: &mut Vec<Entity<'s>>,

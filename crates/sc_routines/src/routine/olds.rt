@@ -34,7 +34,6 @@ pub fn olds_of_clauses<'s>(
 
 /// Lowers the operands of `old`, whose values are kept, and gives how many operands they need. Their types join those of
 /// the setting.
-#[tactic(auto, using(crate::proofs::KeptOlds::with_old_is, crate::proofs::HeadNames::typed_rest))]
 pub fn lower_olds<'s>(
     setting: &mut Setting<'_, 's>,
     names: &mut Vec<Entity<'s>>,

@@ -1,19 +1,25 @@
-use Rattle.std.proofs.Common.{◌≡◌, ◌<◌, ◌+◌, ◌-◌, ◌++◌, ◌∷◌, [], ℕ, List, OnOk, IfOk, map, length, sym, ap, subst, ◌∙◌, arith}
+use Rattle.std.proofs.Common.{◌≡◌, ◌<◌, ◌+◌, ◌-◌, ◌++◌, ◌∷◌, [], ℕ, List, OnOk, IfOk, drop, map, max, length, sym, ap, subst, ◌∙◌, arith}
 use Rattle.std.specs.Prelude.{slice_set}
 use Rattle.std.specs.List.{All}
+use Rattle.std.proofs.lemmas.List.{at_drop_more, length-map}
+use Rattle.sc_tree.specs.declared.instruction.Branch.{Branch}
+use Rattle.sc_rules.specs.declared.entity_types.entity_type.EntityType.{EntityType}
+use Rattle.sc_tree.specs.declared.instruction.Instr.{Instr}
 use Rattle.sc_tree.specs.Plain as plain
 use Rattle.sc_tree.specs.View.{clause_of, expr_of, head_of, instr_of, instrs_of, branches_of}
 use Rattle.sc_tree.specs.declared.instruction.Clause.{Clause}
 use Rattle.sc_tree.proofs.ViewLemmas.{instr_of-assign, instr_of-call, instr_of-check, instr_of-create}
 use Rattle.sc_rules.specs.Names.{Entities}
 use Rattle.sc_typing.specs.Views.{entity_of}
-use Rattle.sc_routines.specs.Jumps.{jump_of, landed}
+use Rattle.sc_routines.specs.Jumps.{branch_opened, jump_behind, jump_of, jumps_of, landed, open_branches}
+use Rattle.sc_routines.specs.Told.{branch_depth, branch_slots}
 use Rattle.sc_code.specs.Operations.{EndLoop, Jump}
 use Rattle.sc_code.specs.Places.{names_given, with_heads}
 use Rattle.sc_code.specs.Emitted.{expr_code, expr_depth, names_of, instr_code, instr_depth, instr_slots, instrs_code, instrs_depth, instrs_slots, branches_depth, branches_slots}
-use Rattle.sc_code.specs.Room.{instr_blocks}
+use Rattle.sc_code.specs.Room.{branches_blocks, instr_blocks, instrs_blocks}
 use Rattle.sc_routines.specs.Settings.{setting_in}
 use Rattle.sc_routines.proofs.JumpTargets.{skip_set, loop_set, if_landed, if_jumps}
+use Rattle.sc_routines.proofs.Sequences.{block_closed, next_branch, next_instruction, next_jump}
 use Rattle.sc_routines.proofs.Shapes.{if_is, loop_is, block_is}
 use Rattle.sc_routines.proofs.HeadNames.{block_left, part_left}
 use Rattle.sc_routines.proofs.instructions.+instructions.Goals as goal
@@ -210,3 +216,74 @@ lower_instruction-returns-in-Call t c =
       slots = subst (λ (p : plain.Instr). IfOk r (λ l. l.slots ≡ instr_slots h n p)) q found.slots;
       blocks = subst (λ (p : plain.Instr). IfOk r (λ l. l.blocks ≡ instr_blocks p)) q found.blocks;
     }
+
+pub lower_instructions-loop-instruction-preserved : goal.lower_instructions-loop-instruction-preserved
+lower_instructions-loop-instruction-preserved t c =
+    let h = setting_in c.args.setting.now in
+    let n = map entity_of c.args.names.now.items in
+    let place = c.loop-instruction.instruction-index in
+    let d = c.instruction-item.result in
+    let i = instr_of d in
+    let lowered = c.in_ok-lower_instruction.ensures in
+    let before = c.loop-instruction.invariant in
+    let needs = c.then-needs.ensures in
+    let rest = instrs_of (drop (place + 1) c.args.instructions.now) in
+    let step : plain.instr_then i rest ≡ instrs_of (drop place c.args.instructions.now) =
+    sym (at_drop_more instrs_of c.args.instructions.now place d (omega (arith, c.loop-instruction-test.true))
+    ∙ ap (λ (d : Instr). plain.instr_then (instr_of d) rest) (sym c.instruction-item.is)) in
+    record {
+      names = lowered.names ∙ before.names;
+      code = next_instruction h n (map entity_of c.loop-instruction.names.items) i rest c.loop-instruction.code c.lower_instruction.new.code _ before.names lowered.code
+          (ap (λ (is : plain.Instrs). c.loop-instruction.code ++ instrs_code h n is) step ∙ before.code);
+      depth = omega (arith, needs.depth, lowered.depth ∙ ap (λ (m : Entities). instr_depth h m i) before.names,
+          ap (λ (is : plain.Instrs). max c.loop-instruction.needs.depth (instrs_depth h n is)) step ∙ before.depth);
+      slots = omega (arith, needs.slots, lowered.slots ∙ ap (λ (m : Entities). instr_slots h m i) before.names,
+          ap (λ (is : plain.Instrs). max c.loop-instruction.needs.slots (instrs_slots h n is)) step ∙ before.slots);
+      blocks = omega (arith, needs.blocks, lowered.blocks, ap (λ (is : plain.Instrs). max c.loop-instruction.needs.blocks (instrs_blocks is)) step ∙ before.blocks);
+    }
+
+pub lower_branches-loop-branch-preserved : goal.lower_branches-loop-branch-preserved
+lower_branches-loop-branch-preserved t c =
+    let h = setting_in c.args.setting.now in
+    let n = map entity_of c.args.names.now.items in
+    let m = map entity_of c.loop-branch.names.items in
+    let place = c.loop-branch.branch-index in
+    let d = c.branch-item.result in
+    let e = expr_of d.condition in
+    let body = instrs_of d.body.items in
+    let lowered = c.in_ok-lower_branch.ensures in
+    let before = c.loop-branch.invariant in
+    let needs = c.then-needs.ensures in
+    let rest = branches_of (drop (place + 1) c.args.branches.now) in
+    let step : plain.branch_then e body rest ≡ branches_of (drop place c.args.branches.now) =
+    sym (at_drop_more branches_of c.args.branches.now place d (omega (arith, c.loop-branch-test.true))
+    ∙ ap (λ (d : Branch). plain.branch_then (expr_of d.condition) (instrs_of d.body.items) rest) (sym c.branch-item.is)) in
+    let under = c.deref.ensures.value in
+    let c0 = c.loop-branch.code in
+    let added = lowered.code ∙ ap (λ (is : List Instr). c0 ++ branch_opened h m e (instrs_of is)) under in
+    record {
+      names = lowered.names ∙ before.names;
+      code = next_branch h n m e body rest c0 c.lower_branch.new.code before.names added _ (ap (λ (bs : plain.Branches). c0 ++ open_branches h n bs) step ∙ before.code);
+      jumps = next_jump h n m e body rest c0 c.lower_branch.new.code before.names added c.loop-branch.jumps.items c.lower_branch.new.jumps.items _
+          (lowered.jumps ∙ ap (λ (is : List Instr). c.loop-branch.jumps.items ++ jump_behind h m (length c0) e (instrs_of is) ∷ []) under)
+          (ap (λ (bs : plain.Branches). c.loop-branch.jumps.items ++ jumps_of h n (length c0) bs) step ∙ before.jumps);
+      depth = omega (arith, needs.depth, lowered.depth ∙ ap (λ (is : List Instr). branch_depth h m e (instrs_of is)) under ∙ ap (λ (m : Entities). branch_depth h m e body) before.names,
+          ap (λ (bs : plain.Branches). max c.loop-branch.needs.depth (branches_depth h n bs)) step ∙ before.depth);
+      slots = omega (arith, needs.slots, lowered.slots ∙ ap (λ (is : List Instr). branch_slots h m e (instrs_of is)) under ∙ ap (λ (m : Entities). branch_slots h m e body) before.names,
+          ap (λ (bs : plain.Branches). max c.loop-branch.needs.slots (branches_slots h n bs)) step ∙ before.slots);
+      blocks = omega (arith, needs.blocks, lowered.blocks ∙ ap (λ (is : List Instr). instrs_blocks (instrs_of is)) under,
+          ap (λ (bs : plain.Branches). max c.loop-branch.needs.blocks (branches_blocks bs)) step ∙ before.blocks);
+    }
+
+pub lower_block-returns-clause-code : goal.lower_block-returns-clause-code
+lower_block-returns-clause-code t c =
+    let h = setting_in c.args.setting.now in
+    let n = map entity_of c.args.names.now.items in
+    let ds = map head_of c.args.heads.now in
+    let opened = c.in_ok-opened.ensures in
+    let types = c.deref.ensures.value ∙ opened.types in
+    block_closed h n (map entity_of c.add_heads.new.names.items) ds (instrs_of c.args.body.now) c.args.code.now c.lower_heads.new.code c.push.new.self c.lower_instructions.new.code
+    c.push-2.new.self c.len-outer.result (length c.args.heads.now) opened.code c.in_ok-push.ensures
+    (c.len-outer.ensures ∙ c.args.names.now.ok.0 ∙ sym (length-map c.args.names.now.items entity_of)) (sym (length-map c.args.heads.now head_of))
+    (c.in_ok-add_heads.ensures ∙ ap (with_heads (names_of ds) c.deref.result.now) opened.names ∙ ap (λ (ts : List EntityType). with_heads (names_of ds) ts n) types)
+    c.in_ok-inner.ensures.code c.in_ok-push-2.ensures
