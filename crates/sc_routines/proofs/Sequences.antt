@@ -1,5 +1,5 @@
 -- Code that is written part by part: instructions, the parts of a conditional, clauses, a separate block and a loop's end.
-use Rattle.std.proofs.Common.{◌≡◌, ◌<◌, ℕ, ◌+◌, ◌-◌, List, [], ◌∷◌, ◌++◌, length, refl, sym, ap, ◌∙◌, arith, append_assoc, length-append}
+use Rattle.std.proofs.Common.{◌≡◌, ◌<◌, ℕ, ◌+◌, ◌-◌, List, [], ◌∷◌, ◌++◌, length, sym, ap, ◌∙◌, arith, append_assoc, length-append}
 use Rattle.std.specs.Prelude.{slice_set}
 use Rattle.sc_tree.specs.Plain.{Expr, Head, Instr, Instrs, Branches, instr_then, branch_then}
 use Rattle.sc_rules.specs.Names.{Entities}

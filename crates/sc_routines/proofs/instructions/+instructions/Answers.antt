@@ -235,10 +235,18 @@ lower_instructions-loop-instruction-preserved t c =
       names = lowered.names ∙ before.names;
       code = next_instruction h n (map entity_of c.loop-instruction.names.items) i rest c.loop-instruction.code c.lower_instruction.new.code _ before.names lowered.code
           (ap (λ (is : plain.Instrs). c.loop-instruction.code ++ instrs_code h n is) step ∙ before.code);
-      depth = omega (arith, needs.depth, lowered.depth ∙ ap (λ (m : Entities). instr_depth h m i) before.names,
-          ap (λ (is : plain.Instrs). max c.loop-instruction.needs.depth (instrs_depth h n is)) step ∙ before.depth);
-      slots = omega (arith, needs.slots, lowered.slots ∙ ap (λ (m : Entities). instr_slots h m i) before.names,
-          ap (λ (is : plain.Instrs). max c.loop-instruction.needs.slots (instrs_slots h n is)) step ∙ before.slots);
+      depth = omega (
+        arith,
+        needs.depth,
+        lowered.depth ∙ ap (λ (m : Entities). instr_depth h m i) before.names,
+        ap (λ (is : plain.Instrs). max c.loop-instruction.needs.depth (instrs_depth h n is)) step ∙ before.depth,
+      );
+      slots = omega (
+        arith,
+        needs.slots,
+        lowered.slots ∙ ap (λ (m : Entities). instr_slots h m i) before.names,
+        ap (λ (is : plain.Instrs). max c.loop-instruction.needs.slots (instrs_slots h n is)) step ∙ before.slots,
+      );
       blocks = omega (arith, needs.blocks, lowered.blocks, ap (λ (is : plain.Instrs). max c.loop-instruction.needs.blocks (instrs_blocks is)) step ∙ before.blocks);
     }
 
@@ -267,12 +275,24 @@ lower_branches-loop-branch-preserved t c =
       jumps = next_jump h n m e body rest c0 c.lower_branch.new.code before.names added c.loop-branch.jumps.items c.lower_branch.new.jumps.items _
           (lowered.jumps ∙ ap (λ (is : List Instr). c.loop-branch.jumps.items ++ jump_behind h m (length c0) e (instrs_of is) ∷ []) under)
           (ap (λ (bs : plain.Branches). c.loop-branch.jumps.items ++ jumps_of h n (length c0) bs) step ∙ before.jumps);
-      depth = omega (arith, needs.depth, lowered.depth ∙ ap (λ (is : List Instr). branch_depth h m e (instrs_of is)) under ∙ ap (λ (m : Entities). branch_depth h m e body) before.names,
-          ap (λ (bs : plain.Branches). max c.loop-branch.needs.depth (branches_depth h n bs)) step ∙ before.depth);
-      slots = omega (arith, needs.slots, lowered.slots ∙ ap (λ (is : List Instr). branch_slots h m e (instrs_of is)) under ∙ ap (λ (m : Entities). branch_slots h m e body) before.names,
-          ap (λ (bs : plain.Branches). max c.loop-branch.needs.slots (branches_slots h n bs)) step ∙ before.slots);
-      blocks = omega (arith, needs.blocks, lowered.blocks ∙ ap (λ (is : List Instr). instrs_blocks (instrs_of is)) under,
-          ap (λ (bs : plain.Branches). max c.loop-branch.needs.blocks (branches_blocks bs)) step ∙ before.blocks);
+      depth = omega (
+        arith,
+        needs.depth,
+        lowered.depth ∙ ap (λ (is : List Instr). branch_depth h m e (instrs_of is)) under ∙ ap (λ (m : Entities). branch_depth h m e body) before.names,
+        ap (λ (bs : plain.Branches). max c.loop-branch.needs.depth (branches_depth h n bs)) step ∙ before.depth,
+      );
+      slots = omega (
+        arith,
+        needs.slots,
+        lowered.slots ∙ ap (λ (is : List Instr). branch_slots h m e (instrs_of is)) under ∙ ap (λ (m : Entities). branch_slots h m e body) before.names,
+        ap (λ (bs : plain.Branches). max c.loop-branch.needs.slots (branches_slots h n bs)) step ∙ before.slots,
+      );
+      blocks = omega (
+        arith,
+        needs.blocks,
+        lowered.blocks ∙ ap (λ (is : List Instr). instrs_blocks (instrs_of is)) under,
+        ap (λ (bs : plain.Branches). max c.loop-branch.needs.blocks (branches_blocks bs)) step ∙ before.blocks,
+      );
     }
 
 pub lower_block-returns-clause-code : goal.lower_block-returns-clause-code
