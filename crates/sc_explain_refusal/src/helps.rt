@@ -18,7 +18,7 @@ impl<'s> Scope<'s> {
     }
 
     /// Adds that what is assigned isn't assignable, where it stands for this, or for a routine, and what helps.
-    pub fn push_fixed(&self, lines: &mut Lines, role: Option<Role>) {
+    pub(crate) fn push_fixed(&self, lines: &mut Lines, role: Option<Role>) {
         let said = match role {
             Some(Role::Formal) => " is a formal, and nothing is assigned to one\n",
             Some(_) => " names an object here, and nothing is assigned to it\n",
@@ -41,7 +41,7 @@ impl<'s> Scope<'s> {
     }
 
     /// Adds that the class has no feature of the name, and which was meant.
-    pub fn push_lacking(&self, lines: &mut Lines, class: ClassId) {
+    pub(crate) fn push_lacking(&self, lines: &mut Lines, class: ClassId) {
         let name = word_at(self.text, self.span);
         lines.push_all(&["the class `", self.class_name(class)]);
         push_quoted(
@@ -57,7 +57,7 @@ impl<'s> Scope<'s> {
 
     /// Adds that nothing is known of the name, and a name that is known there and near to it, or what is written in place of
     /// what it shows.
-    pub fn push_unknown(&self, lines: &mut Lines) {
+    pub(crate) fn push_unknown(&self, lines: &mut Lines) {
         let before = "nothing that is known here has the name ";
         push_quoted(lines, before, part_of(self.text, self.span), "\n");
         let name = word_at(self.text, self.span);
@@ -93,7 +93,7 @@ impl<'s> Scope<'s> {
     }
 
     /// Adds what helps where a value of one type doesn't fit the other, by what alone is between them.
-    pub fn push_fitting(&self, lines: &mut Lines, types: &Compared, taker: Span) {
+    pub(crate) fn push_fitting(&self, lines: &mut Lines, types: &Compared, taker: Span) {
         let taker = part_of(self.text, taker);
         match self.between(types.given, types.taken) {
             Between::More => {}
@@ -108,7 +108,7 @@ impl<'s> Scope<'s> {
 
     /// Adds that an actual doesn't fit its formal, and what helps. Where the handler alone is between them, that may be the one
     /// of an actual that is missing.
-    pub fn push_passed(&self, lines: &mut Lines, passed: &Passed) {
+    pub(crate) fn push_passed(&self, lines: &mut Lines, passed: &Passed) {
         let types = &passed.compared;
         self.push_compared(lines, types, ", and here the formal ", passed.formal);
         match (passed.missing, self.between(types.given, types.taken)) {
@@ -157,7 +157,7 @@ impl<'s> Scope<'s> {
 
     /// Adds how it is asked whether the part at fault is Void, which is of this type, where that is enough, and else how it is
     /// reserved too.
-    pub fn push_question(&self, lines: &mut Lines, given: EntityType, is_enough: bool) {
+    pub(crate) fn push_question(&self, lines: &mut Lines, given: EntityType, is_enough: bool) {
         let is_own = matches!(given.tag, Tag::Own);
         match self.context {
             Context::Invariant => {
@@ -204,7 +204,7 @@ impl<'s> Scope<'s> {
     }
 
     /// Adds how the handler of the part at fault is reserved, where that is of this type.
-    pub fn push_reservation(&self, lines: &mut Lines, given: EntityType) {
+    pub(crate) fn push_reservation(&self, lines: &mut Lines, given: EntityType) {
         if !matches!(self.context, Context::Body | Context::Check) {
             return self.push_formal(lines, given);
         }
@@ -242,7 +242,7 @@ impl<'s> Scope<'s> {
     }
 
     /// Adds that no object of this class is made without a procedure, and how one is made.
-    pub fn push_unmade(&self, lines: &mut Lines, class: ClassId) {
+    pub(crate) fn push_unmade(&self, lines: &mut Lines, class: ClassId) {
         let said = match class {
             ClassId::Declared(_) => "` has a `create` list\n",
             _ => "` is no class of which objects are created\n",
@@ -259,7 +259,7 @@ impl<'s> Scope<'s> {
     }
 
     /// Adds that no object of this class is made by what is named, and how one is made.
-    pub fn push_unlisted(&self, lines: &mut Lines, class: ClassId) {
+    pub(crate) fn push_unlisted(&self, lines: &mut Lines, class: ClassId) {
         self.push_said(lines, " isn't in the `create` list of the class `");
         lines.push_all(&[self.class_name(class), "`\n"]);
         match self.first_creator(class) {

@@ -11,7 +11,7 @@ use sc_typing::{Entity, RoutineContext};
 /// A part of a routine at which a rule fails: the text of the system, the routine, and the names that are
 /// known there.
 #[derive(Drop)]
-pub struct Scope<'s> {
+pub(crate) struct Scope<'s> {
     pub text: &'s str,
     pub rule: Rule,
     pub span: Span,
@@ -24,13 +24,13 @@ pub struct Scope<'s> {
 
 impl<'s> Scope<'s> {
     /// Adds the part of the text that is at fault, in quotes, and what is said of it behind.
-    pub fn push_said(&self, lines: &mut Lines, behind: &str) {
+    pub(crate) fn push_said(&self, lines: &mut Lines, behind: &str) {
         push_quoted(lines, "", part_of(self.text, self.span), behind)
     }
 
     /// Adds a type in quotes, as it is declared, with the name of the formal or the block whose handler it is of, and what
     /// stands behind it.
-    pub fn push_type(&self, lines: &mut Lines, given: EntityType, behind: &'static str) {
+    pub(crate) fn push_type(&self, lines: &mut Lines, given: EntityType, behind: &'static str) {
         let (mark, unknown) = marks_of(given);
         lines.push_all(&["`", mark]);
         self.push_handler(lines, given.tag);
@@ -39,7 +39,7 @@ impl<'s> Scope<'s> {
     }
 
     /// The name of a class, as its text has it.
-    pub fn class_name(&self, class: ClassId) -> &str {
+    pub(crate) fn class_name(&self, class: ClassId) -> &str {
         match class {
             ClassId::Any => "ANY",
             ClassId::None => "NONE",
@@ -116,16 +116,13 @@ pub fn part_of(text: &str, span: Span) -> &str {
 fn is_closed(part: &str) -> bool {
     let mut depth = 0_usize;
     for byte in part.as_bytes() {
-        let behind = match *byte {
-            b'(' => depth.checked_add(1),
-            b')' => depth.checked_sub(1),
-            b'\n' => None,
-            _ => Some(depth),
-        };
-        let Some(behind) = behind else {
-            return false;
-        };
-        depth = behind;
+        match *byte {
+            b'(' => depth = depth.saturating_add(1),
+            b')' if depth == 0 => return false,
+            b')' => depth -= 1,
+            b'\n' => return false,
+            _ => {}
+        }
     }
     depth == 0
 }

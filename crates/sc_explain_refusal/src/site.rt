@@ -1,21 +1,23 @@
 //! What stands at the part of a text that a rule fails at.
 
+use crate::types::type_judged;
 use sc_rules::Context;
+use sc_rules::entity_types::EntityType;
 use sc_text::Span;
 use sc_tree::{Call, Clause, CreationCall, Expr, Head, Instr, Variable};
-use sc_typing::{operand_context, variable_span};
+use sc_typing::{CheckFault, Typing, operand_context, variable_span};
 use std::alloc::AllocError;
 
 /// What is looked for: a part of this kind that stands there.
 #[derive(Clone, Copy)]
-pub struct Aim {
+pub(crate) struct Aim {
     pub kind: Kind,
     pub span: Span,
 }
 
 /// A kind of parts.
 #[derive(Clone, Copy, PartialEq, Eq)]
-pub enum Kind {
+pub(crate) enum Kind {
     /// The name of what is called or assigned.
     Name,
     /// An actual of a call, or the head of a separate block.
@@ -32,7 +34,7 @@ pub enum Kind {
 
 /// Where in a body something stands.
 #[derive(Clone, Copy)]
-pub enum Place {
+pub(crate) enum Place {
     /// In an instruction, outside of the conditions of ifs and loops.
     Instruction,
     /// In the condition of an `if` or an `elseif`.
@@ -43,7 +45,7 @@ pub enum Place {
 
 /// What stands at a part that was looked for.
 #[derive(Clone, Copy)]
-pub enum Part<'s> {
+pub(crate) enum Part<'s> {
     /// The name of a call.
     CallName(&'s Call),
     /// The name of the call that this entity is created by.
@@ -66,7 +68,7 @@ pub enum Part<'s> {
 
 /// What stands at a part that was looked for, and in which part of a class's text.
 #[derive(Clone, Copy)]
-pub struct Site<'s> {
+pub(crate) struct Site<'s> {
     pub context: Context,
     pub place: Place,
     pub part: Part<'s>,
@@ -74,7 +76,7 @@ pub struct Site<'s> {
 
 /// What a search has come to.
 #[derive(Clone, Copy)]
-pub enum Found<'s> {
+pub(crate) enum Found<'s> {
     /// Nothing as yet.
     Nothing,
     /// What was looked for stands here.
@@ -87,7 +89,7 @@ pub enum Found<'s> {
 
 /// A search for the first part that is aimed at, through parts that are passed in the order of the text.
 #[derive(Drop)]
-pub struct Search<'s> {
+pub(crate) struct Search<'s> {
     pub aim: Aim,
     pub found: Found<'s>,
     /// Where what is passed next stands.
@@ -96,7 +98,7 @@ pub struct Search<'s> {
 
 impl<'s> Search<'s> {
     /// Whether nothing is found as yet.
-    pub fn is_open(&self) -> bool {
+    pub(crate) fn is_open(&self) -> bool {
         match self.found {
             Found::Nothing => true,
             _ => false,
@@ -104,7 +106,7 @@ impl<'s> Search<'s> {
     }
 
     /// Passes a part: it is found where it is one of this kind and stands where this is aimed at.
-    pub fn pass(&mut self, kind: Kind, span: Span, context: Context, part: Part<'s>) {
+    pub(crate) fn pass(&mut self, kind: Kind, span: Span, context: Context, part: Part<'s>) {
         if self.is_open() && self.aim.kind == kind && self.aim.span == span {
             let place = self.place;
             self.found = Found::At(Site {
@@ -116,10 +118,23 @@ impl<'s> Search<'s> {
     }
 
     /// Keeps that memory ran out, if it did.
-    pub fn keep(&mut self, added: Result<(), AllocError>) {
+    pub(crate) fn keep(&mut self, added: Result<(), AllocError>) {
         if added.is_err() {
             self.found = Found::OutOfMemory;
         }
+    }
+
+    /// The type of what was judged in front of what is looked for, if it isn't faulty. Keeps that it is, or that memory ran out.
+    pub(crate) fn type_passed(
+        &mut self,
+        judged: Result<Typing, CheckFault>,
+    ) -> Option<Option<EntityType>> {
+        match type_judged(judged) {
+            Ok(Ok(given)) => return Some(given),
+            Ok(Err(_)) => self.found = Found::Faulty,
+            Err(_) => self.found = Found::OutOfMemory,
+        }
+        None
     }
 }
 

@@ -16,7 +16,7 @@ use sc_typing::{
 
 impl<'s> Scope<'s> {
     /// Adds what is told of what stands there, and whether there is something.
-    pub fn tell(&mut self, lines: &mut Lines, site: &Site<'s>) -> bool {
+    pub(crate) fn tell(&mut self, lines: &mut Lines, site: &Site<'s>) -> bool {
         self.context = site.context;
         self.place = site.place;
         match &site.part {
@@ -385,7 +385,7 @@ impl<'s> Scope<'s> {
     }
 
     /// Adds a line on the part of the text that is at fault: it is of one type, and what stands there takes another.
-    pub fn push_compared(
+    pub(crate) fn push_compared(
         &self,
         lines: &mut Lines,
         types: &Compared,

@@ -15,7 +15,7 @@ use std::alloc::Global;
 
 /// A part of a text at which a rule fails, by what is looked for there.
 #[derive(Clone, Copy)]
-pub struct RuleFault<'s> {
+pub(crate) struct RuleFault<'s> {
     pub text: &'s str,
     pub rule: Rule,
     pub aim: Aim,
@@ -43,7 +43,13 @@ pub fn aim_of(text: &str, rule: Rule, span: Span) -> Option<Aim> {
 
 impl<'s> RuleFault<'s> {
     /// Adds a sentence on this very fault, in a system that is run from this root, and what helps, and whether there is one.
-    pub fn push_told(self, alloc: Global, lines: &mut Lines, system: &System, root: &Root) -> bool {
+    pub(crate) fn push_told(
+        self,
+        alloc: Global,
+        lines: &mut Lines,
+        system: &System,
+        root: &Root,
+    ) -> bool {
         match tables_of(alloc, system, root) {
             Ok(None) => false,
             Ok(Some(tables)) => {

@@ -24,7 +24,7 @@ pub struct Compared {
 
 /// An actual's type, and the type that it has to conform to, with the place of the formal's name that has this type.
 #[derive(Clone, Copy)]
-pub struct Passed {
+pub(crate) struct Passed {
     pub compared: Compared,
     pub formal: Span,
     /// The place of the name of the formal that its tag names, where there is no actual for that one.
@@ -105,7 +105,7 @@ pub fn type_of_actual(found: &[JudgedActual], number: usize) -> Option<EntityTyp
 
 impl<'s> Scope<'s> {
     /// The types of the right side of an assignment and of its left side, where they don't conform.
-    pub fn assigned_types(
+    pub(crate) fn assigned_types(
         &self,
         lines: &mut Lines,
         variable: &Variable,
@@ -119,7 +119,7 @@ impl<'s> Scope<'s> {
     }
 
     /// The types of the head of a separate block and of what a block takes, where they don't conform.
-    pub fn head_types(&self, lines: &mut Lines, value: &Expr) -> Option<Compared>
+    pub(crate) fn head_types(&self, lines: &mut Lines, value: &Expr) -> Option<Compared>
         ensures { IfSome result (IsMismatch (system_in self.now.routine.now.tables.now)) }
     {
         let given = self.type_of(lines, Context::Body, Position::Plain, value)?;
@@ -132,7 +132,7 @@ impl<'s> Scope<'s> {
     }
 
     /// The types of the actual at a number, which is given, and of its formal, where they don't conform.
-    pub fn passed_types(
+    pub(crate) fn passed_types(
         &self,
         lines: &mut Lines,
         found: &[JudgedActual],
@@ -155,7 +155,7 @@ impl<'s> Scope<'s> {
     }
 
     /// The type of an expression at this position, which is no condition's, if it has one.
-    pub fn type_of(
+    pub(crate) fn type_of(
         &self,
         lines: &mut Lines,
         context: Context,
@@ -171,7 +171,7 @@ impl<'s> Scope<'s> {
     }
 
     /// The type of an entity that is assigned or created, if it has one.
-    pub fn type_of_variable(&self, variable: &Variable) -> Option<EntityType> {
+    pub(crate) fn type_of_variable(&self, variable: &Variable) -> Option<EntityType> {
         match self.routine.assignee(&self.names, variable) {
             Assignee::Local(found) | Assignee::Attribute(found) => found,
             Assignee::Unknown | Assignee::NotAssignable => None,
@@ -179,7 +179,7 @@ impl<'s> Scope<'s> {
     }
 
     /// The type of the target of a call, if it has one.
-    pub fn type_of_target(&self, lines: &mut Lines, call: &Call) -> Option<EntityType> {
+    pub(crate) fn type_of_target(&self, lines: &mut Lines, call: &Call) -> Option<EntityType> {
         match &call.target {
             None => None,
             Some(target) => self.type_of(lines, self.context, Position::Plain, target),

@@ -5,7 +5,6 @@ use crate::site::{
     Found, Kind, Part, Place, Search, pass_clauses, pass_condition, pass_expression, pass_heads,
     pass_simple,
 };
-use crate::types::type_judged;
 use sc_rules::entity_types::EntityType;
 use sc_rules::{Context, Position, Role};
 use sc_tree::{Branch, Declaration, Expr, Head, Instr, Routine};
@@ -13,14 +12,14 @@ use sc_typing::{Entity, add_formals, add_locals, block_type, blocks};
 
 /// A walk: what is looked for, and what is known at the part that it has come to, or at that which was found.
 #[derive(Drop)]
-pub struct Walk<'s> {
+pub(crate) struct Walk<'s> {
     pub search: Search<'s>,
     pub scope: Scope<'s>,
 }
 
 impl<'s> Walk<'s> {
     /// Passes a routine: its precondition, its body and its postcondition.
-    pub fn pass_routine(&mut self, text: &'s Routine) {
+    pub(crate) fn pass_routine(&mut self, text: &'s Routine) {
         let routine = self.scope.routine;
         let added = add_formals(routine.tables, routine.formals, &mut self.scope.names);
         self.search.keep(added);
@@ -122,10 +121,8 @@ impl<'s> Walk<'s> {
             let outer = self.scope.names.get(..known).unwrap_or(&[]);
             let routine = self.scope.routine;
             let judged = routine.expression(Context::Body, Position::Plain, outer, &head.value);
-            match type_judged(judged) {
-                Ok(Ok(given)) => self.push_block_name(head, given),
-                Ok(Err(_)) => self.search.found = Found::Faulty,
-                Err(_) => self.search.found = Found::OutOfMemory,
+            if let Some(given) = self.search.type_passed(judged) {
+                self.push_block_name(head, given)
             }
         }
     }
@@ -175,11 +172,8 @@ impl<'s> Walk<'s> {
     fn learn(&mut self, e: &'s Expr) {
         if self.search.is_open() {
             let routine = self.scope.routine;
-            match type_judged(routine.condition(Context::Body, &mut self.scope.names, e)) {
-                Ok(Ok(_)) => {}
-                Ok(Err(_)) => self.search.found = Found::Faulty,
-                Err(_) => self.search.found = Found::OutOfMemory,
-            }
+            let judged = routine.condition(Context::Body, &mut self.scope.names, e);
+            self.search.type_passed(judged);
         }
     }
 }
