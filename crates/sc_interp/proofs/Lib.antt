@@ -29,3 +29,4 @@ pub mod Loads
 pub mod Away
 pub mod Forms
 pub mod LastOperands
+pub mod Taken
