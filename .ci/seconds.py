@@ -3,7 +3,8 @@
     python3 .ci/seconds.py FOLDER
 
 FOLDER gets two files: `last`, the last line, and `seconds`, a table of processor seconds: crate by crate those of its
-proof, of its tests (they are proved with the crate once more, and run) and of its must-fail edits, the dearest first. Where
+proof, of its tests (they are proved with the crate once more, and run) and of its must-fail edits, the dearest first; and
+behind it the dearest functions, as functions.py tells them, where FOLDER is also where checks write (TMPDIR). Where
 processors share what they work with, among themselves or with other machines, the same work takes more of their seconds. So
 a loop that is the same each time runs every ten seconds, and a last line says how long it took at its fastest and in the mean.
 The status is that of `rt ci`. It says nothing of the kind itself, so its checks are looked at twice a second in /proc.
@@ -18,9 +19,13 @@ import sys
 import threading
 import time
 
+sys.dont_write_bytecode = True  # (nothing is left beside these)
+from functions import Functions  # noqa: E402
+
 TICKS = os.sysconf("SC_CLK_TCK")
 PARTS = ("proof", "tests", "edits")
 LOOKS = 20  # so many looks, of half a second, from one loop that is measured to the next
+MODULES = 4  # so many from one look at what proofs have written to the next
 
 
 def loop_milliseconds():
@@ -106,6 +111,11 @@ class Costs:
                 self.of_process[key] = whole(it)
                 self.ended[self.parts[key][0]] = time.time() - self.begun
 
+    def crate_of(self, number):
+        """Returns the crate that is proved by the process of this number, or None."""
+        parts = (part for (other, _), part in self.parts.items() if part and other == number)
+        return next((crate for crate, part in parts if part == "proof"), None)
+
     def table(self):
         """Returns the lines of the table, the dearest crate first."""
         crates = {}
@@ -147,13 +157,16 @@ def main(folder):
         signal.signal(it, told_to_stop)
     how = {"stdin": subprocess.DEVNULL, "stdout": subprocess.PIPE, "stderr": subprocess.STDOUT, "start_new_session": True}
     running = subprocess.Popen(["rt", "ci"], text=True, errors="replace", **how)
-    stop, costs, last, loops = threading.Event(), Costs(running.pid), "", [loop_milliseconds()]
+    stop, costs, functions = threading.Event(), Costs(running.pid), Functions(folder)
+    last, loops = "", [loop_milliseconds()]
 
     def look():
         looks = 0
         while not stop.wait(0.5):
             costs.look()
             looks += 1
+            if looks % MODULES == 0:
+                functions.look(costs.crate_of)
             if looks % LOOKS == 0:
                 loops.append(loop_milliseconds())
 
@@ -172,7 +185,7 @@ def main(folder):
     with open(f"{folder}/last", "w", encoding="utf-8") as it:
         it.write(last)
     with open(f"{folder}/seconds", "w", encoding="utf-8") as it:
-        it.writelines(line + "\n" for line in costs.table())
+        it.writelines(line + "\n" for line in (*costs.table(), *functions.table()))
         it.write(speed(loops, sum(costs.of_process.values())) + "\n")
     return status if status >= 0 else 128 - status
 
