@@ -55,27 +55,6 @@ impl Formula {
     }
 }
 
-impl Clone for Formula {
-    ghost is_clone = { λ formula clone. plain_formula clone ≡ plain_formula formula };
-
-    fn clone(&self) -> Result<Formula, AllocError> {
-        match self {
-            Formula::Constant(value) => Ok(Formula::Constant(*value)),
-            Formula::Attribute(number) => Ok(Formula::Attribute(*number)),
-            Formula::IsVoid(number) => Ok(Formula::IsVoid(*number)),
-            Formula::NotVoid(number) => Ok(Formula::NotVoid(*number)),
-            Formula::Not(operand) => Formula::not(*Box::allocator(operand), (**operand).clone()?),
-            Formula::Compared(left, comparison, right) => {
-                Ok(Formula::Compared(left.clone()?, *comparison, right.clone()?))
-            }
-            Formula::Connected(left, connective, right) => {
-                let alloc = *Box::allocator(left);
-                Formula::connected(alloc, (**left).clone()?, *connective, (**right).clone()?)
-            }
-        }
-    }
-}
-
 /// The truth of a formula, or None where it overflows or divides by zero, or names an attribute that has no atom of
 /// its kind.
 ///

@@ -69,26 +69,3 @@ impl Term {
         }
     }
 }
-
-impl Clone for Term {
-    ghost is_clone = { λ term clone. plain_term clone ≡ plain_term term };
-
-    fn clone(&self) -> Result<Term, AllocError> {
-        match self {
-            Term::Integer(value) => Ok(Term::Integer(*value)),
-            Term::Attribute(number) => Ok(Term::Attribute(*number)),
-            Term::Identity(operand) => Term::identity(
-                *Box::allocator(operand),
-                (**operand).clone()?,
-            ),
-            Term::Opposite(operand) => Term::opposite(
-                *Box::allocator(operand),
-                (**operand).clone()?,
-            ),
-            Term::Arithmetic(left, operator, right) => {
-                let alloc = *Box::allocator(left);
-                Term::arithmetic(alloc, (**left).clone()?, *operator, (**right).clone()?)
-            }
-        }
-    }
-}
