@@ -6,6 +6,7 @@ ghost use Rattle.sc_parse.specs.Reading.Reads.{ends_note};
 ghost use Rattle.sc_parse.specs.Reading.Looks as spec;
 ghost use Rattle.sc_tree.specs.Internal.Reading.Looks as looks;
 ghost use Rattle.sc_parse.specs.Reading.Classes as classes;
+ghost use Rattle.sc_tree.specs.Grammar.Assertions as assertions;
 ghost use Rattle.sc_parse.specs.Reading.Instructions as instructions;
 
 use crate::cursor::Parser;
@@ -80,6 +81,16 @@ pub fn ends_note(token: &Token, is_first: bool) -> bool
         },
         _ => false,
     }
+}
+
+/// Whether the terminal would go on with an expression before it, and might begin one.
+fn joins(terminal: Terminal) -> bool
+    ensures { result ≡ assertions.goes_on_by terminal }
+{
+    matches!(
+        terminal,
+        Terminal::OpenParenthesis | Terminal::Plus | Terminal::Minus
+    )
 }
 
 impl<'a> Parser<'a> {
@@ -204,10 +215,7 @@ impl<'a> Parser<'a> {
                     kind: TokenKind::Terminal(terminal),
                     ..
                 },
-            ) => matches!(
-                terminal,
-                Terminal::OpenParenthesis | Terminal::Plus | Terminal::Minus
-            ),
+            ) => joins(*terminal),
             _ => false,
         }
     }
