@@ -23,6 +23,15 @@ pub fn deeper(a: u8, b: u8) -> u8
     if a < b { b } else { a }
 }
 
+/// Two operands, each in a box.
+fn boxed<T: Drop>(alloc: Global, left: T, right: T) -> Result<(Box<T>, Box<T>), AllocError>
+    ensures { IfOk result (λ boxes. (boxes.0.value ≡ left) × (boxes.1.value ≡ right)) }
+{
+    let left = Box::new(alloc, left)?;
+    let right = Box::new(alloc, right)?;
+    Ok((left, right))
+}
+
 /// An operator with the operands before and behind it.
 fn joined(
     alloc: Global,
@@ -37,8 +46,7 @@ fn joined(
         start: left.span().start,
         end: right.span().end,
     };
-    let left = Box::new(alloc, left)?;
-    let right = Box::new(alloc, right)?;
+    let (left, right) = boxed(alloc, left, right)?;
     Ok(Expr::Binary(span, operator, left, right))
 }
 

@@ -20,4 +20,4 @@ binary_is op a b p q start end s e u v =
     rw (s, e) (expr_of-binary k op p q ∙ ap (λ (x : Expr). plain.Binary k op (expr_in x) (expr_in q.value)) u ∙ ap (λ (y : Expr). plain.Binary k op (expr_in a) (expr_in y)) v)
 
 pub returns : goal.returns
-returns c = binary_is _ _ _ _ _ _ _ (ap (λ (s : Span). s.start) c.span.ensures) (ap (λ (s : Span). s.end) c.span-2.ensures) c.in_ok-left.ensures.ok c.in_ok-right.ensures.ok
+returns c = binary_is _ _ _ _ _ _ _ (ap (λ (s : Span). s.start) c.span.ensures) (ap (λ (s : Span). s.end) c.span-2.ensures) c.in_ok-left.ensures.0 c.in_ok-left.ensures.1
