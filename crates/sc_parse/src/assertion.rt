@@ -7,7 +7,7 @@ ghost use Rattle.sc_parse.specs.Reading.Reads.{ahead, tag_in, clause_in, clauses
 use crate::cursor::Parser;
 use crate::expression::TOP;
 use crate::fault::ParseFault;
-use crate::list::fitted;
+use crate::list::{fitted, with_last};
 use crate::look::begins_with;
 use sc_text::{Terminal, Token, TokenKind};
 use sc_tree::{Clause, Name};
@@ -59,7 +59,7 @@ impl<'a> Parser<'a> {
                 return Ok(fitted(found));
             }
             let clause = self.clause(room)?;
-            found.push(clause)?;
+            found = with_last(found, clause)?;
             if self.goes_on() {
                 return Err(ParseFault::NotInGrammar {
                     span: self.next_span(),

@@ -9,7 +9,7 @@ ghost use Rattle.sc_parse.specs.declared.fault.ParseFault.TheVariants.{OutOfMemo
 
 use crate::cursor::Parser;
 use crate::fault::ParseFault;
-use crate::list::fitted;
+use crate::list::{fitted, with_all, with_last};
 use crate::types::copied_type;
 use sc_text::Terminal;
 use sc_tree::{Declaration, DeclaredType, Name};
@@ -28,10 +28,11 @@ fn declared_with(
     let mut declarations = Vec::new(alloc);
     for name in names {
         let declared_type = copied_type(declared)?;
-        declarations.push(Declaration {
+        let declaration = Declaration {
             name,
             declared_type,
-        })?;
+        };
+        declarations = with_last(declarations, declaration)?;
     }
     Ok(declarations)
 }
@@ -59,8 +60,8 @@ impl<'a> Parser<'a> {
                 return Ok(fitted(found));
             }
             self.skip(Terminal::Semicolon);
-            let mut declarations = self.declaration()?;
-            found.append(&mut declarations)?;
+            let declarations = self.declaration()?;
+            found = with_all(found, declarations)?;
         }
         Ok(found)
     }
@@ -93,8 +94,8 @@ impl<'a> Parser<'a> {
             if !self.sees_name() {
                 return Ok(fitted(found));
             }
-            let mut declarations = self.declaration()?;
-            found.append(&mut declarations)?;
+            let declarations = self.declaration()?;
+            found = with_all(found, declarations)?;
             self.skip(Terminal::Semicolon);
         }
         Ok(found)

@@ -5,16 +5,18 @@ ghost use Rattle.sc_parse.specs.Reading.Looks.{left};
 ghost use Rattle.sc_tree.specs.Grammar.Classes as grammar;
 ghost use Rattle.sc_parse.specs.Reading.Classes as spec;
 ghost use Rattle.sc_tree.specs.Sections.{share_lists};
+ghost use Rattle.sc_tree.specs.View.{feature_of};
 ghost use Rattle.sc_parse.specs.Reading.Reads.{ahead, opening_in, opening_ahead, closing_in, closing_ahead, feature_with, declarations_in, features_in, name_in, names_in, type_in, type_if_any_in, Gives, Takes};
 ghost use Rattle.sc_parse.specs.Reading.Sections.{AddsExported, begun_at};
 ghost use Rattle.sc_parse.specs.declared.fault.ParseFault.TheVariants.{OutOfMemory};
 
 use crate::cursor::Parser;
 use crate::fault::ParseFault;
+use crate::list::{alone, with_last};
 use crate::types::copied_type;
 use sc_text::Terminal;
 use sc_tree::{Clause, Declaration, DeclaredType, Feature, FeatureKind, Instr, Name, Routine};
-use std::alloc::Global;
+use std::alloc::{AllocError, Global};
 use std::rc::Rc;
 
 /// The classes that a feature is exported to by this list; `ANY` alone is the same as no list.
@@ -25,6 +27,19 @@ fn exported_to(alloc: Global, names: Vec<Name>) -> Vec<Name>
         [name] if name.text.as_str() == "any" => Vec::new(alloc),
         _ => names,
     }
+}
+
+/// The feature that shares the list of the classes that it is exported to.
+fn exported(exports: &Rc<Vec<Name>>, name: Name, kind: FeatureKind) -> Result<Feature, AllocError>
+    ensures { IfOk result (λ feature. feature_of feature ≡ feature_with (names_in exports.now.value) (name_in name) kind) }
+{
+    let exports = exports.clone()?;
+    Ok(Feature {
+        exports,
+        is_further: true,
+        name,
+        kind,
+    })
 }
 
 /// Each name as an attribute of the type.
@@ -40,14 +55,9 @@ fn attributes_of(
 {
     let mut features = Vec::new(alloc);
     for name in names {
-        let exports = exports.clone()?;
         let kind = FeatureKind::Attribute(copied_type(declared)?);
-        features.push(Feature {
-            exports,
-            is_further: true,
-            name,
-            kind,
-        })?;
+        let feature = exported(exports, name, kind)?;
+        features = with_last(features, feature)?;
     }
     Ok(features)
 }
@@ -63,14 +73,8 @@ fn one_feature(
         ≡ feature_with (names_in exports.now.value) (name_in name) kind ∷ [])
         (λ e. e ≡ OutOfMemory) }
 {
-    let exports = exports.clone()?;
-    let mut features = Vec::new(alloc);
-    features.push(Feature {
-        exports,
-        is_further: true,
-        name,
-        kind,
-    })?;
+    let feature = exported(exports, name, kind)?;
+    let features = alone(alloc, feature)?;
     Ok(features)
 }
 

@@ -7,6 +7,7 @@ ghost use Rattle.sc_parse.specs.Reading.Reads.{ahead, name_in, names_in, handler
 
 use crate::cursor::Parser;
 use crate::fault::ParseFault;
+use crate::list::{alone, with_last};
 use sc_text::Terminal;
 use sc_tree::{DeclaredType, HandlerTag, Name};
 use std::alloc::AllocError;
@@ -55,15 +56,14 @@ impl<'a> Parser<'a> {
         ensures { Takes names_in (spec.more_names (left (ahead self.old)) (name_in first ∷ []) (ahead self.old))
             result (ahead self.new) }
     {
-        let mut names = Vec::new(self.alloc);
-        names.push(first)?;
+        let mut names = alone(self.alloc, first)?;
         for _turn in 0..self.rest.len() {
             if !self.sees(Terminal::Comma) {
                 return Ok(names);
             }
             self.take();
             let name = self.name()?;
-            names.push(name)?;
+            names = with_last(names, name)?;
         }
         Ok(names)
     }

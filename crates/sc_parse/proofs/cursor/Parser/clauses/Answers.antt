@@ -16,7 +16,7 @@ loop-turn-preserved c =
     let q = c.loop-turn.invariant in (
       max q.0 c.in_ok-clause.ensures.0,
       clauses_more c.args.room _ c.loop-turn._turn (clauses_in c.loop-turn.found) q.0 (ahead c.loop-turn.self) _ _ _ _ _ _ _ c.loop-turn-test.true c.begins_expression.ensures c.if-not-begins_expression.false
-          c.in_ok-clause.ensures.1 c.goes_on.ensures c.if-goes_on.false (ap (λ (xs : _). map clause_of xs) c.in_ok-push.ensures.items ∙ map-push clause_of _ _)
+          c.in_ok-clause.ensures.1 c.goes_on.ensures c.if-goes_on.false (ap (λ (xs : _). map clause_of xs) c.in_ok-found.ensures ∙ map-push clause_of _ _)
           c.skip_semicolons-in-loop-turn.ensures
           ∙ q.1,
     )

@@ -18,7 +18,7 @@ pub loop-turn-preserved : goal.loop-turn-preserved
 loop-turn-preserved c =
     locals_more _ c.loop-turn._turn (declarations_in c.loop-turn.found) (ahead c.loop-turn.self) _ _ _ _ _
     c.loop-turn-test.true c.sees_name.ensures c.if-not-sees_name.false c.in_ok-declarations.ensures
-    (ap (λ (ds : _). map declaration_of ds) c.in_ok-append.ensures.items ∙ map-append declaration_of _ _) c.skip.ensures
+    (ap (λ (ds : _). map declaration_of ds) c.in_ok-found.ensures ∙ map-append declaration_of _ _) c.skip.ensures
     ∙ c.loop-turn.invariant
 
 pub returns-then-not-sees_name : goal.returns-then-not-sees_name

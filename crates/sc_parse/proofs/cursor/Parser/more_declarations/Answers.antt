@@ -58,5 +58,5 @@ loop-turn-preserved c =
     ] in
     declarations_more _ c.loop-turn._turn (declarations_in c.loop-turn.found) ts _ _ _ _ _
     c.loop-turn-test.true seen c.if-not-sees_name.false c.skip.ensures c.in_ok-declarations.ensures
-    (ap (λ (ds : _). map declaration_of ds) c.in_ok-append.ensures.items ∙ map-append declaration_of _ _)
+    (ap (λ (ds : _). map declaration_of ds) c.in_ok-found.ensures ∙ map-append declaration_of _ _)
     ∙ c.loop-turn.invariant

@@ -1,4 +1,4 @@
-use Rattle.std.proofs.Common.{List, [], ◌∷◌, ◌++◌, ap, sym, ◌∙◌, map}
+use Rattle.std.proofs.Common.{List, ap, sym, ◌∙◌, map}
 use Rattle.sc_tree.specs.Plain as plain
 use Rattle.sc_tree.specs.View.{name_of}
 use Rattle.sc_parse.proofs.Views.{map-push}
@@ -15,13 +15,13 @@ loop-turn-init c =
     let ts = ahead c.args.self.now in
     more_names_begin ts _
     ∙ ap (λ (ns : List plain.Name). spec.more_names (left ts) ns ts)
-    (ap (λ (ns : _). map name_of ns) (c.in_ok-push.ensures.items ∙ ap (λ (ns : List _). ns ++ c.args.first ∷ []) c.new-names.ensures.items))
+    (ap (λ (ns : _). map name_of ns) c.in_ok-names.ensures)
 
 pub loop-turn-preserved : goal.loop-turn-preserved
 loop-turn-preserved c =
     more_names_more _ c.loop-turn._turn (names_in c.loop-turn.names) (ahead c.loop-turn.self) _ _ _ _ _
     c.loop-turn-test.true c.sees.ensures c.if-not-sees.false c.take.ensures.past c.in_ok-name.ensures
-    (ap (λ (ns : _). map name_of ns) c.in_ok-push-2.ensures.items ∙ map-push name_of _ _)
+    (ap (λ (ns : _). map name_of ns) c.in_ok-names-2.ensures ∙ map-push name_of _ _)
     ∙ c.loop-turn.invariant
 
 pub returns-then-not-sees : goal.returns-then-not-sees
