@@ -1,19 +1,21 @@
 -- What is read in parts: object tests, constructs, routines and classes.
-use Rattle.std.proofs.Common.{◌≡◌, ℕ, suc, max, true, false, List, [], ◌∷◌, Option, Result, Ok, Err, refl, ap, sym, ◌∙◌}
+use Rattle.std.proofs.Common.{◌≡◌, ℕ, suc, ◌<◌, max, Bool, true, false, List, [], ◌∷◌, Option, Some, None, Result, Ok, Err, refl, ap, sym, ◌∙◌}
+use Rattle.std.specs.Prelude.{◌==◌, if◌then◌else◌}
 use Rattle.sc_text.specs.declared.token.Terminal.{Terminal}
 use Rattle.sc_text.specs.declared.token.Terminal.TheVariants as terminal
 use Rattle.sc_tree.specs.Grammar.Classes.{routine_of, ends_class}
 use Rattle.sc_tree.specs.Grammar.Operators.{top}
-use Rattle.sc_tree.specs.Plain.{Name, DeclaredType, Declaration, Clause, Expr, ObjectTest, Head, Instr, If, Loop, Block, Instrs, no_instrs, Branches, no_branches, Feature, Parent, ClassMark, Class}
-use Rattle.sc_tree.specs.Internal.Reading.Looks.{Fault, ◌>>=◌}
+use Rattle.sc_tree.specs.Plain.{Name, DeclaredType, Declaration, Clause, Expr, Exprs, ObjectTest, Variable, CreationCall, Head, Instr, Create, If, Loop, Block, Instrs, no_instrs, Branches, no_branches, Feature, Parent, ClassMark, Class}
+use Rattle.sc_tree.specs.Internal.Reading.Looks.{Fault, Deep, ◌>>=◌}
 use Rattle.sc_tree.proofs.ReadingSteps.{bind_ok, choose_true, choose_false}
+use Rattle.sc_parse.proofs.Steps.{not_zero}
 use Rattle.sc_parse.specs.Reading.Looks.{Ahead, up_to, Read, past, sees, expect, skip, name, left}
 use Rattle.sc_parse.specs.Reading.Assertions.{assertion}
 use Rattle.sc_parse.specs.Reading.Types.{tested_type}
-use Rattle.sc_parse.specs.Reading.Expressions.{chain, object_test, nested}
-use Rattle.sc_parse.specs.Reading.Instructions.{branch, branches, other, conditional, iteration, nested_chain, head, heads, block, instrs, nested_instrs}
+use Rattle.sc_parse.specs.Reading.Expressions.{actuals, chain, object_test, nested}
+use Rattle.sc_parse.specs.Reading.Instructions.{variable, creation, branch, branches, other, conditional, iteration, nested_chain, head, heads, block, instrs, nested_instrs}
 use Rattle.sc_parse.specs.Reading.Classes.{locals, routine, parents, creators, sections, past_note, class_of, class_marked}
-use Rattle.sc_parse.specs.Reading.Reads.{named_ahead, inside_ahead, condition_ahead, other_ahead, opening_ahead, closing_ahead, header_ahead, members_ahead}
+use Rattle.sc_parse.specs.Reading.Reads.{named_ahead, inside_ahead, condition_ahead, creation_call_ahead, other_ahead, opening_ahead, closing_ahead, header_ahead, members_ahead}
 
 bind_assoc : {A B C : Type 0} (a : Result A Fault) (f : A → Result B Fault) (g : B → Result C Fault) → ((a >>= f) >>= g) ≡ (a >>= λ x. f x >>= g)
 bind_assoc (Ok x) f g = refl
@@ -88,6 +90,45 @@ pub object_test_read : (inner : ℕ → Ahead → Read Expr) (room : ℕ) (ts : 
 object_test_read inner room ts o r t h s x rest e p q v y =
     object_test_is inner room ts ∙ bind_ok _ _ (after_type inner room ts) p ∙ bind_ok _ _ (after_tested ts o) q ∙ bind_ok _ _ (object_test_with ts o (t, h, s)) v
     ∙ ap (λ (e : Expr). Ok (e, h, rest)) (sym y)
+
+-- a value that is chosen, and what is made of it
+made_if : {A B : Type 0} (b : Bool) (x y : Result A Fault) (g : A → Result B Fault) (u v : Result B Fault) → (x >>= g) ≡ u → (y >>= g) ≡ v → ((if b then x else y) >>= g) ≡ (if b then u else v)
+made_if true x y g u v p q = p
+made_if false x y g u v p q = q
+
+abbrev pub created : Ahead → Variable × Ahead → Option CreationCall × ℕ × Ahead → Read Instr
+created ts v c = Ok (Create (up_to ts.last.start c.2) (record { variable = v.0; call = c.0 }), c.1, c.2)
+
+abbrev pub after_variable : ℕ → Ahead → Variable × Ahead → Read Instr
+after_variable room ts v = creation_call_ahead room v.1 >>= created ts v
+
+pub creation_is : (room : ℕ) (inner : Ahead → Read Instrs) (ts : Ahead) → creation room inner ts ≡ (variable ts >>= after_variable room ts)
+unfolding creation
+creation_is room inner ts =
+    bind_same (variable ts) _ (after_variable room ts) λ (v : Variable × Ahead).
+    sym
+    (made_if (sees terminal.Dot v.1) _ _ (created ts v) _ _
+    (made_if (room == 0) _ _ (created ts v) _ _ refl
+    (bind_assoc (name (past v.1)) _ (created ts v) ∙ bind_same _ _ _ λ (x : Name × Ahead). bind_assoc (actuals (nested room) x.1) _ (created ts v))) refl)
+
+pub creation_read : (room : ℕ) (inner : Ahead → Read Instrs) (ts : Ahead) (v : Variable) (r : Ahead) (k : Option CreationCall) (h : ℕ) (rest : Ahead) (i : Instr) →
+    variable ts ≡ Ok (v, r) → creation_call_ahead room r ≡ Ok (k, h, rest) → i ≡ Create (up_to ts.last.start rest) (record { variable = v; call = k }) → creation room inner ts ≡ Ok (i, h, rest)
+creation_read room inner ts v r k h rest i p q e =
+    creation_is room inner ts ∙ bind_ok _ _ (after_variable room ts) p ∙ bind_ok _ _ (created ts (v, r)) q ∙ ap (λ (i : Instr). Ok (i, h, rest)) (sym e)
+
+abbrev pub after_called : ℕ → Name × Ahead → Read (Option CreationCall)
+after_called room x = actuals (nested room) x.1 >>= λ (es : Exprs × ℕ × Ahead). Ok (Some (record { name = x.0; actuals = es.0 }), max 1 es.1, es.2)
+
+module _ (room : ℕ) (ts : Ahead) (b : Bool) (q : b ≡ sees terminal.Dot ts) where
+  pub no_creation_call : b ≡ false → creation_call_ahead room ts ≡ Ok (None, 0, ts)
+  no_creation_call d = choose_false (sees terminal.Dot ts) _ _ (sym q ∙ d)
+
+  pub deep_creation_call : b ≡ true → room ≡ 0 → creation_call_ahead room ts ≡ Err Deep
+  deep_creation_call d z = choose_true (sees terminal.Dot ts) _ _ (sym q ∙ d) ∙ choose_true (room == 0) _ _ (ap (λ (n : ℕ). n == 0) z)
+
+  pub creation_call_is : b ≡ true → 0 < room → (r : Ahead) → r ≡ past ts → creation_call_ahead room ts ≡ (name r >>= after_called room)
+  creation_call_is d p r w =
+      choose_true (sees terminal.Dot ts) _ _ (sym q ∙ d) ∙ choose_false (room == 0) _ _ (not_zero room p) ∙ ap (λ (r : Ahead). name r >>= after_called room) (sym w)
 
 -- what was read up to a word, and what is made of it
 read_up_to : {A B : Type 0} (a : Read A) (word : Terminal) (g : A × ℕ × Ahead → Read B) →

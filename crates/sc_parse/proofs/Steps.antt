@@ -1,5 +1,5 @@
 -- Reading in steps, where each of them reads something.
-use Rattle.std.proofs.Common.{◌≡◌, ℕ, suc, ◌<◌, max, Bool, true, false, List, Option, Some, None, Ok, Err, refl, ap, sym, ◌∙◌, arith}
+use Rattle.std.proofs.Common.{◌≡◌, ℕ, suc, ◌<◌, Bool, true, false, List, Option, Some, None, Ok, Err, refl, ap, sym, ◌∙◌, arith}
 use Rattle.std.specs.Prelude.{ℤ, ◌+◌, ◌==◌, if◌then◌else◌, option_map, MatchOption}
 use Rattle.sc_text.specs.declared.token.Terminal.TheVariants as terminal
 use Rattle.sc_tree.specs.declared.expression.Expr as code
@@ -10,15 +10,15 @@ use Rattle.sc_tree.specs.declared.expression.Name as code_name
 use Rattle.sc_text.specs.declared.token.Span.{Span}
 use Rattle.sc_tree.specs.View.{expr_of}
 use Rattle.sc_tree.specs.Grammar.Operators.{top}
-use Rattle.sc_tree.specs.Plain.{Name, Expr, Integer, Boolean, Void, Call, Target, Exprs, Variable, Clause, Instr, Assign, PrintText, CallRoutine, Create, Check, Instrs}
+use Rattle.sc_tree.specs.Plain.{Name, Expr, Integer, Boolean, Void, Call, Target, Exprs, Variable, Clause, Instr, Assign, PrintText, CallRoutine, Check, Instrs}
 use Rattle.sc_tree.specs.Internal.Reading.Looks as looks
 use Rattle.sc_tree.specs.Internal.Reading.Looks.{Wrong, ◌>>=◌}
 use Rattle.sc_tree.proofs.Looks.{integer_is}
 use Rattle.sc_tree.proofs.ReadingSteps.{bind_ok, choose_true, choose_false}
 use Rattle.sc_tree.specs.Properties.{span_of}
 use Rattle.sc_parse.specs.Reading.Looks.{Ahead, begin, up_to, Read, kinds, past, sees, expect, name, text, integer_ahead}
-use Rattle.sc_parse.specs.Reading.Expressions.{parenthesized, actuals, calling, chain, object_test, integer_or_chain, primary, expr, nested}
-use Rattle.sc_parse.specs.Reading.Instructions.{variable, assignment, printing, called, routine_call, creation, checked, checking}
+use Rattle.sc_parse.specs.Reading.Expressions.{parenthesized, exprs, actuals, calling, chain, object_test, integer_or_chain, primary, expr, nested}
+use Rattle.sc_parse.specs.Reading.Instructions.{variable, assignment, printing, called, routine_call, checked, checking}
 use Rattle.sc_parse.specs.Reading.Reads.{expr_in, constant_ahead}
 
 -- ---- expressions
@@ -28,6 +28,14 @@ pub calling_is : (inner : ℕ → Ahead → Read Expr) (start : ℕ) (a : Target
     name ts ≡ Ok (x, r) → actuals inner r ≡ Ok (es, h, rest) → t ≡ Call (up_to start rest) a x es → calling inner start a ts ≡ Ok (t, h, rest)
 unfolding calling
 calling_is inner start a ts x r es h rest t p q w = rw (p, q, w) refl
+
+-- actuals in parentheses
+pub actuals_read : (inner : ℕ → Ahead → Read Expr) (ts : Ahead) (b : Bool) (r : Ahead) (es xs : Exprs) (h : ℕ) (s rest : Ahead) →
+    b ≡ sees terminal.OpenParenthesis ts → b ≡ true → r ≡ past ts → exprs inner r ≡ Ok (es, h, s) → expect terminal.CloseParenthesis s ≡ Ok rest → xs ≡ es → actuals inner ts ≡ Ok (xs, h + 1, rest)
+unfolding actuals
+actuals_read inner ts b r es xs h s rest q d w p u y =
+    let e : suc h ≡ h + 1 = omega arith in
+    let f = sym q ∙ d in let v : exprs inner (past ts) ≡ Ok (es, h, s) = ap (exprs inner) (sym w) ∙ p in rw (f, v, u, y) (ap (λ (h : ℕ). Ok (es, h, rest)) e)
 
 -- a constant that stands here, or else what is read
 abbrev pub or_else : Option Expr → Ahead → Read Expr → Read Expr
@@ -88,10 +96,11 @@ pub parenthesized_is : (inner : ℕ → Ahead → Read Expr) (r : Ahead) → par
 unfolding parenthesized
 parenthesized_is inner r = refl
 
-pub parenthesized_read : (inner : ℕ → Ahead → Read Expr) (r : Ahead) (t : Expr) (h : ℕ) (s rest : Ahead) → inner top r ≡ Ok (t, h, s) → expect terminal.CloseParenthesis s ≡ Ok rest → parenthesized inner r ≡ Ok (t, h + 1, rest)
-parenthesized_read inner r t h s rest p q =
+pub parenthesized_read : (inner : ℕ → Ahead → Read Expr) (r : Ahead) (t u : Expr) (h : ℕ) (s rest : Ahead) →
+    inner top r ≡ Ok (t, h, s) → expect terminal.CloseParenthesis s ≡ Ok rest → u ≡ t → parenthesized inner r ≡ Ok (u, h + 1, rest)
+parenthesized_read inner r t u h s rest p q w =
     let e : suc h ≡ h + 1 = omega arith in
-    parenthesized_is inner r ∙ bind_ok _ _ closed p ∙ bind_ok _ _ (λ (rest : Ahead). Ok (t, suc h, rest)) q ∙ ap (λ (h : ℕ). Ok (t, h, rest)) e
+    parenthesized_is inner r ∙ bind_ok _ _ closed p ∙ bind_ok _ _ (λ (rest : Ahead). Ok (t, suc h, rest)) q ∙ ap (λ (h : ℕ). Ok (t, h, rest)) e ∙ ap (λ (t : Expr). Ok (t, h + 1, rest)) (sym w)
 
 -- ---- instructions
 
@@ -106,27 +115,17 @@ module _ (room : ℕ) (inner : Ahead → Read Instrs) (ts : Ahead) (i : Instr) w
   unfolding routine_call
   routine_call_is t h rest s a x es p q e = rw (p, q, e) refl
 
-  pub create_is : (v : Variable) (r : Ahead) (b : Bool) → variable ts ≡ Ok (v, r) → b ≡ sees terminal.Dot r → b ≡ false → i ≡ Create (up_to ts.last.start r) (record { variable = v; call = None }) → creation room inner ts ≡ Ok (i, 0, r)
-  unfolding creation
-  create_is v r b p q d e = let f = sym q ∙ d in rw (p, f, e) refl
-
   pub checking_is : (cs : List Clause) (h : ℕ) (r rest : Ahead) → checked room inner ts ≡ Ok (cs, h, r) → expect terminal.End r ≡ Ok rest → i ≡ Check (up_to ts.last.start rest) cs → checking room inner ts ≡ Ok (i, h, rest)
   unfolding checking
   checking_is cs h r rest p q e = rw (p, q, e) refl
 
-not_zero : (room : ℕ) → 0 < room → (room == 0) ≡ false
+pub not_zero : (room : ℕ) → 0 < room → (room == 0) ≡ false
 not_zero room a = grind arith
 
 pub printing_is : (room : ℕ) (inner : Ahead → Read Instrs) (start : ℕ) (ts r : Ahead) (s : List ℕ) (u rest : Ahead) (i : Instr) →
     0 < room → r ≡ ts → text r ≡ Ok (s, u) → expect terminal.CloseParenthesis u ≡ Ok rest → i ≡ PrintText (up_to start rest) s → printing room inner start ts ≡ Ok (i, 1, rest)
 unfolding printing
 printing_is room inner start ts r s u rest i a w p q e = rw (not_zero room a, sym w, p, q, e) refl
-
-pub creation_is : (room : ℕ) (inner : Ahead → Read Instrs) (ts : Ahead) (v : Variable) (r : Ahead) (b : Bool) (s : Ahead) (x : Name) (u : Ahead) (es : Exprs) (h : ℕ) (rest : Ahead) (i : Instr) →
-    0 < room → variable ts ≡ Ok (v, r) → b ≡ sees terminal.Dot r → b ≡ true → s ≡ past r → name s ≡ Ok (x, u) → actuals (nested room) u ≡ Ok (es, h, rest) →
-    i ≡ Create (up_to ts.last.start rest) (record { variable = v; call = Some (record { name = x; actuals = es }) }) → creation room inner ts ≡ Ok (i, max 1 h, rest)
-unfolding creation
-creation_is room inner ts v r b s x u es h rest i a p q d w y z e = let f = sym q ∙ d in let k : name (past r) ≡ Ok (x, u) = ap name (sym w) ∙ y in rw (p, f, not_zero room a, k, z, e) refl
 
 -- What is read from memory as a call is one.
 one_call : (s : Span) (t : code.Held-Call-target) (n : code_name.Name) (shape : _) (es : _) → ((x : code_call.Call) → variants.Call' s t n shape es ≡ variants.Call x → ⊥) → ⊥

@@ -8,7 +8,7 @@ ghost use Rattle.sc_parse.specs.Reading.Reads.{ahead, expr_in, exprs_in, target_
 use crate::cursor::Parser;
 use crate::expression::{TOP, deeper};
 use crate::fault::ParseFault;
-use crate::list::fitted;
+use crate::list::{alone, fitted, with_last};
 use sc_text::Terminal;
 use sc_tree::{Call, Expr};
 
@@ -98,8 +98,8 @@ impl<'a> Parser<'a> {
             return Ok((Vec::new(self.alloc), 0));
         }
         self.take();
-        let (actuals, height) = self.exprs(room)?;
-        self.expect(Terminal::CloseParenthesis)?;
+        let (exprs, height) = self.exprs(room)?;
+        let actuals = self.closed_by(exprs, Terminal::CloseParenthesis)?;
         Ok((actuals, height + 1))
     }
 
@@ -111,8 +111,7 @@ impl<'a> Parser<'a> {
         ensures high { IfOk result (λ p. p.1 < room) }
     {
         let (first, first_height) = self.nested(TOP, room)?;
-        let mut found = Vec::new(self.alloc);
-        found.push(first)?;
+        let mut found = alone(self.alloc, first)?;
         let mut height = first_height;
         for _turn in 0..self.rest.len() {
             if !self.sees(Terminal::Comma) {
@@ -120,7 +119,7 @@ impl<'a> Parser<'a> {
             }
             self.take();
             let (expr, expr_height) = self.nested(TOP, room)?;
-            found.push(expr)?;
+            found = with_last(found, expr)?;
             height = deeper(height, expr_height);
         }
         Ok((found, height))
@@ -136,9 +135,9 @@ impl<'a> Parser<'a> {
     {
         let start = self.last.start;
         let declared = self.tested_type()?;
-        let (tested, height) = self.chain(room)?;
-        let tested = Box::new(self.alloc, tested)?;
-        let name = self.named()?;
+        let (chain, height) = self.chain(room)?;
+        let boxed = Box::new(self.alloc, chain)?;
+        let (tested, name) = self.named_part(boxed)?;
         let span = self.span_from(start);
         Ok((Expr::ObjectTest(span, declared, tested, name), height))
     }

@@ -1,6 +1,6 @@
 //! The tokens that are still to be read, and how they are read one by one.
 
-ghost use Rattle.std.specs.Prelude.{◌≡◌, ◌∷◌, [], Ok, Err, MatchOption, MatchResult};
+ghost use Rattle.std.specs.Prelude.{◌≡◌, ◌∷◌, [], Ok, Err, IfOk, MatchOption, MatchResult};
 ghost use Rattle.sc_parse.specs.Reading.Looks as spec;
 
 use crate::fault::ParseFault;
@@ -105,6 +105,16 @@ impl<'a> Parser<'a> {
         }
     }
 
+    /// A part that was read, where this terminal stands behind it, which is read too.
+    pub fn closed_by<T: Drop>(&mut self, part: T, terminal: Terminal) -> Result<T, ParseFault>
+        ensures same { IfOk result (λ same. same ≡ part) }
+        ensures read { MatchResult result (λ _. spec.expect terminal (ahead self.old) ≡ Ok (ahead self.new))
+            (Fails (spec.expect terminal (ahead self.old))) }
+    {
+        self.expect(terminal)?;
+        Ok(part)
+    }
+
     /// Reads the name that is spelled so.
     #[tactic(auto, unfolding(crate::specs::Reading::Looks::expect_word))]
     pub fn expect_word(&mut self, word: &str) -> Result<(), ParseFault>
@@ -164,6 +174,16 @@ impl<'a> Parser<'a> {
     {
         self.expect(Terminal::As)?;
         self.name()
+    }
+
+    /// A part that was read, with the name that it has behind `as`.
+    pub fn named_part<T: Drop>(&mut self, part: T) -> Result<(T, Name), ParseFault>
+        ensures same { IfOk result (λ named. named.0 ≡ part) }
+        ensures read { MatchResult result (λ named. named_ahead (ahead self.old) ≡ Ok (name_in named.1, ahead self.new))
+            (Fails (named_ahead (ahead self.old))) }
+    {
+        let name = self.named()?;
+        Ok((part, name))
     }
 
     /// Reads a manifest string.

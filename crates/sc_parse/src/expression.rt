@@ -192,8 +192,8 @@ impl<'a> Parser<'a> {
         if self.sees(Terminal::OpenParenthesis) {
             self.take();
             let (inner, height) = self.nested(TOP, room)?;
-            self.expect(Terminal::CloseParenthesis)?;
-            return Ok((inner, height + 1));
+            let closed = self.closed_by(inner, Terminal::CloseParenthesis)?;
+            return Ok((closed, height + 1));
         }
         if self.sees(Terminal::Attached) {
             self.take();

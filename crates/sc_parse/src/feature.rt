@@ -126,8 +126,7 @@ impl<'a> Parser<'a> {
         self.skip(Terminal::Is);
         let precondition = self.assertion(Terminal::Require, room)?;
         let locals = self.locals()?;
-        self.expect(Terminal::Do)?;
-        Ok((precondition, locals))
+        self.closed_by((precondition, locals), Terminal::Do)
     }
 
     /// A routine's body and its postcondition, up to its `end`.
@@ -136,8 +135,7 @@ impl<'a> Parser<'a> {
     {
         let body = self.instructions(room)?;
         let postcondition = self.assertion(Terminal::Ensure, room)?;
-        self.expect(Terminal::End)?;
-        Ok((body, postcondition))
+        self.closed_by((body, postcondition), Terminal::End)
     }
 
     /// What follows the formals and the result type of a routine.

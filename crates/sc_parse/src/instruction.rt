@@ -1,17 +1,28 @@
 //! Instructions (ECMA-367, 8.9, 8.17, 8.20, 8.22 and 8.23), and separate blocks.
 
-ghost use Rattle.std.specs.Prelude.{◌≡◌};
+ghost use Rattle.std.specs.Prelude.{◌≡◌, MatchOption};
+ghost use Rattle.sc_tree.specs.declared.expression.Expr.TheVariants as variants;
 ghost use Rattle.sc_tree.specs.Plain.{no_branches};
 ghost use Rattle.sc_parse.specs.Reading.Instructions as spec;
 ghost use Rattle.sc_parse.specs.Reading.Looks.{begin, left, past};
-ghost use Rattle.sc_parse.specs.Reading.Reads.{ahead, variable_in, clauses_in, expr_in, head_in, heads_in, instr_in, instrs_in, branch_in, branches_in, inside_ahead, condition_ahead, other_ahead, Gives, Reads, Takes};
+ghost use Rattle.sc_parse.specs.Reading.Reads.{ahead, variable_in, creation_call_in, creation_call_ahead, clauses_in, expr_in, head_in, heads_in, instr_in, instrs_in, branch_in, branches_in, inside_ahead, condition_ahead, other_ahead, IsNoCall, Gives, Reads, Takes};
 
 use crate::cursor::Parser;
 use crate::expression::TOP;
 use crate::fault::ParseFault;
-use crate::list::fitted;
+use crate::list::{alone, fitted, with_last};
 use sc_text::{Span, Terminal};
-use sc_tree::{Branch, Clause, CreationCall, Expr, Head, Instr, Variable};
+use sc_tree::{Branch, Call, Clause, CreationCall, Expr, Head, Instr, Variable};
+
+/// The call that an expression is, if it is one.
+fn call_of(expr: Expr) -> Option<Call>
+    ensures { MatchOption result (IsNoCall expr) (λ call. expr ≡ variants.Call call) }
+{
+    match expr {
+        Expr::Call(call) => Some(call),
+        _ => None,
+    }
+}
 
 impl<'a> Parser<'a> {
     /// Instructions whose tokens have at most `room` constructs around them.
@@ -27,7 +38,7 @@ impl<'a> Parser<'a> {
                 return Ok(fitted(found));
             }
             let instr = self.instruction(room)?;
-            found.push(instr)?;
+            found = with_last(found, instr)?;
             self.skip_semicolons();
         }
         Ok(found)
@@ -51,8 +62,7 @@ impl<'a> Parser<'a> {
         ensures { Gives instrs_in (inside_ahead room word (ahead self.old)) result (ahead self.new) }
     {
         let found = self.instructions_inside(room)?;
-        self.expect(word)?;
-        Ok(found)
+        self.closed_by(found, word)
     }
 
     /// The instruction that begins here.
@@ -144,24 +154,20 @@ impl<'a> Parser<'a> {
             result (ahead self.new) }
     {
         let (chain, _) = self.chain(room)?;
-        match chain {
-            Expr::Call(call) => Ok(Instr::Call(call)),
-            _ => Err(ParseFault::NotInGrammar {
+        match call_of(chain) {
+            Some(call) => Ok(Instr::Call(call)),
+            None => Err(ParseFault::NotInGrammar {
                 span: self.next_span(),
             }),
         }
     }
 
-    /// What follows `create`.
-    #[tactic(auto, unfolding(crate::specs::Reading::Instructions::creation))]
-    fn creation(&mut self, room: u8) -> Result<Instr, ParseFault>
-        ensures { Gives instr_in (spec.creation room (spec.nested_instrs room) (ahead self.old))
-            result (ahead self.new) }
+    /// The call behind what is created, if one stands there.
+    fn creation_call(&mut self, room: u8) -> Result<Option<CreationCall>, ParseFault>
+        ensures { Gives creation_call_in (creation_call_ahead room (ahead self.old)) result (ahead self.new) }
     {
-        let start = self.last.start;
-        let variable = self.variable()?;
         if !self.sees(Terminal::Dot) {
-            return Ok(Instr::Create(self.span_from(start), variable, None));
+            return Ok(None);
         }
         if room == 0 {
             return Err(ParseFault::TooDeep {
@@ -171,8 +177,18 @@ impl<'a> Parser<'a> {
         self.take();
         let name = self.name()?;
         let (actuals, _) = self.actuals(room)?;
-        let call = CreationCall { name, actuals };
-        Ok(Instr::Create(self.span_from(start), variable, Some(call)))
+        Ok(Some(CreationCall { name, actuals }))
+    }
+
+    /// What follows `create`.
+    fn creation(&mut self, room: u8) -> Result<Instr, ParseFault>
+        ensures { Gives instr_in (spec.creation room (spec.nested_instrs room) (ahead self.old))
+            result (ahead self.new) }
+    {
+        let start = self.last.start;
+        let variable = self.variable()?;
+        let call = self.creation_call(room)?;
+        Ok(Instr::Create(self.span_from(start), variable, call))
     }
 
     /// A condition inside the construct that it belongs to, up to this word.
@@ -180,8 +196,7 @@ impl<'a> Parser<'a> {
         ensures { Gives expr_in (condition_ahead room word (ahead self.old)) result (ahead self.new) }
     {
         let (condition, _) = self.nested(TOP, room)?;
-        self.expect(word)?;
-        Ok(condition)
+        self.closed_by(condition, word)
     }
 
     /// A condition and what stands under it.
@@ -209,7 +224,7 @@ impl<'a> Parser<'a> {
             }
             self.take();
             let branch = self.branch(room)?;
-            found.push(branch)?;
+            found = with_last(found, branch)?;
         }
         Ok(found)
     }
@@ -279,8 +294,8 @@ impl<'a> Parser<'a> {
             result (ahead self.new) }
     {
         let start = self.last.start;
-        let clauses = self.checked(room)?;
-        self.expect(Terminal::End)?;
+        let checked = self.checked(room)?;
+        let clauses = self.closed_by(checked, Terminal::End)?;
         Ok(Instr::Check(self.span_from(start), clauses))
     }
 
@@ -299,8 +314,8 @@ impl<'a> Parser<'a> {
     fn head(&mut self, room: u8) -> Result<Head, ParseFault>
         ensures { Gives head_in (spec.head room (spec.nested_instrs room) (ahead self.old)) result (ahead self.new) }
     {
-        let (value, _) = self.nested_chain(room)?;
-        let name = self.named()?;
+        let (chain, _) = self.nested_chain(room)?;
+        let (value, name) = self.named_part(chain)?;
         Ok(Head { value, name })
     }
 
@@ -308,16 +323,15 @@ impl<'a> Parser<'a> {
     fn heads(&mut self, room: u8) -> Result<Vec<Head>, ParseFault>
         ensures { Gives heads_in (spec.heads room (spec.nested_instrs room) (ahead self.old)) result (ahead self.new) }
     {
-        let mut found = Vec::new(self.alloc);
         let first = self.head(room)?;
-        found.push(first)?;
+        let mut found = alone(self.alloc, first)?;
         for _turn in 0..self.rest.len() {
             if !self.sees(Terminal::Comma) {
                 return Ok(found);
             }
             self.take();
             let head = self.head(room)?;
-            found.push(head)?;
+            found = with_last(found, head)?;
         }
         Ok(found)
     }
@@ -328,8 +342,8 @@ impl<'a> Parser<'a> {
         ensures { Gives instr_in (spec.block room (spec.nested_instrs room) (ahead self.old)) result (ahead self.new) }
     {
         let start = self.last.start;
-        let heads = self.heads(room)?;
-        self.expect(Terminal::Do)?;
+        let reserved = self.heads(room)?;
+        let heads = self.closed_by(reserved, Terminal::Do)?;
         let body = self.instructions_up_to(Terminal::End, room)?;
         Ok(Instr::Block(self.span_from(start), heads, body))
     }

@@ -1,5 +1,5 @@
 -- What a method of the parser gives: what the reading function gives, unless memory ran out.
-use Rattle.std.specs.Prelude.{◌≡◌, ℕ, max, Bool, true, false, if◌then◌else◌, List, Option, Some, option_map, Result, Ok, Err, string_bytes, map}
+use Rattle.std.specs.Prelude.{◌≡◌, ℕ, max, ◌==◌, Bool, true, false, if◌then◌else◌, List, Option, Some, None, option_map, Result, Ok, Err, string_bytes, map}
 use Rattle.std.specs.declared.vec.Vec.{Vec}
 use Rattle.std.specs.declared.boxed.Box.{Box}
 use Rattle.std.specs.declared.string.String.{String}
@@ -10,9 +10,12 @@ use Rattle.sc_text.specs.declared.token.Terminal.TheVariants as terminal
 use Rattle.sc_tree.specs.declared.declaration.HandlerTag.{HandlerTag}
 use Rattle.sc_tree.specs.declared.declaration.DeclaredType.{DeclaredType}
 use Rattle.sc_tree.specs.declared.declaration.Declaration.{Declaration}
+use Rattle.sc_tree.specs.declared.expression.Call.{Call}
 use Rattle.sc_tree.specs.declared.expression.Expr.{Expr}
+use Rattle.sc_tree.specs.declared.expression.Expr.TheVariants as variants
 use Rattle.sc_tree.specs.declared.expression.Name.{Name}
 use Rattle.sc_tree.specs.declared.instruction.Variable.{Variable}
+use Rattle.sc_tree.specs.declared.instruction.CreationCall.{CreationCall}
 use Rattle.sc_tree.specs.declared.instruction.Clause.{Clause}
 use Rattle.sc_tree.specs.declared.instruction.Head.{Head}
 use Rattle.sc_tree.specs.declared.instruction.Instr.{Instr}
@@ -24,13 +27,13 @@ use Rattle.sc_tree.specs.declared.system.Parent.{Parent}
 use Rattle.sc_tree.specs.declared.system.Class.{Class}
 use Rattle.sc_tree.specs.declared.system.System.{System}
 use Rattle.sc_tree.specs.Plain as plain
-use Rattle.sc_tree.specs.View.{name_of, handler_tag_of, type_of, type_if_any, declaration_of, expr_of, target_of, exprs_of, variable_of, tag_of, clause_of, head_of, instr_of, instrs_of, branches_of, kind_of, feature_of, parent_of, mark_if_any, class_of, system_of}
+use Rattle.sc_tree.specs.View.{name_of, handler_tag_of, type_of, type_if_any, declaration_of, expr_of, target_of, exprs_of, variable_of, creation_call_of, tag_of, clause_of, head_of, instr_of, instrs_of, branches_of, kind_of, feature_of, parent_of, mark_if_any, class_of, system_of}
 use Rattle.sc_tree.specs.Grammar.Classes.{heads_class, ends_class}
 use Rattle.sc_tree.specs.Grammar.Operators.{top}
 use Rattle.sc_tree.specs.Internal.Reading.Looks.{Fault, Wrong, Deep, ◌>>=◌}
 use Rattle.sc_parse.specs.Reading.Looks.{Ahead, Read, Taken, past, sees, skip, expect, name, integer_ahead}
 use Rattle.sc_parse.specs.Reading.Assertions.{assertion}
-use Rattle.sc_parse.specs.Reading.Expressions.{nested}
+use Rattle.sc_parse.specs.Reading.Expressions.{actuals, nested}
 use Rattle.sc_parse.specs.Reading.Instructions.{other, instrs, nested_instrs}
 use Rattle.sc_parse.specs.Reading.Classes.{locals, parents, creators, sections, past_note}
 use Rattle.sc_parse.specs.declared.cursor.Parser.{Parser}
@@ -67,6 +70,10 @@ declarations_in v = map declaration_of v.items
 abbrev pub expr_in : Expr → plain.Expr
 expr_in e = expr_of e
 
+-- an expression that is no call
+abbrev pub IsNoCall : Expr → Type 0
+IsNoCall e = (c : Call) → e ≡ variants.Call c → ⊥
+
 abbrev pub target_in : Option (Box Expr Global) → plain.Target
 target_in t = target_of t
 
@@ -75,6 +82,9 @@ exprs_in v = exprs_of v.items
 
 abbrev pub variable_in : Variable → plain.Variable
 variable_in v = variable_of v
+
+abbrev pub creation_call_in : Option CreationCall → Option plain.CreationCall
+creation_call_in c = creation_call_of c
 
 abbrev pub tag_in : Option Name → Option plain.Name
 tag_in tag = tag_of tag
@@ -171,6 +181,16 @@ condition_ahead room word ts = do
   t ← nested room top ts
   rest ← expect word t.2
   Ok (t.0, t.1, rest)
+
+-- the call behind what is created, if one stands there
+abbrev pub creation_call_ahead : ℕ → Ahead → Read (Option plain.CreationCall)
+creation_call_ahead room ts =
+    if sees terminal.Dot ts
+    then (if room == 0 then Err Deep else (do
+      x ← name (past ts)
+      es ← actuals (nested room) x.1
+      Ok (Some (record { name = x.0; actuals = es.0 }), max 1 es.1, es.2)))
+    else Ok (None, 0, ts)
 
 -- what stands under `else`, if it stands here, up to the `end` behind it
 abbrev pub other_ahead : ℕ → Ahead → Read plain.Instrs

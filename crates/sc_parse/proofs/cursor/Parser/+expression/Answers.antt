@@ -1,8 +1,10 @@
-use Rattle.std.proofs.Common.{◌+◌, refl, ◌∙◌, ap, sym, List, [], ◌∷◌, ◌++◌, Ok, arith}
+use Rattle.std.proofs.Common.{◌+◌, refl, ◌∙◌, ap, sym, List, [], Ok, arith}
 use Rattle.std.proofs.lemmas.Result.{err_from_is_err_and}
 use Rattle.sc_tree.proofs.ReadingSteps.{bind_ok, choose_false}
 use Rattle.sc_tree.proofs.ViewLemmas.{expr_of-current, expr_of-result, expr_of-call, expr_of-object_test}
 use Rattle.sc_parse.proofs.Views.{exprs_of-push}
+use Rattle.std.specs.declared.boxed.Box.{Box}
+use Rattle.std.specs.declared.alloc.Global.{Global}
 use Rattle.sc_tree.specs.declared.expression.Expr.{Expr}
 use Rattle.sc_text.specs.declared.token.Span.{Span}
 use Rattle.sc_tree.specs.Plain as plain
@@ -13,7 +15,7 @@ use Rattle.sc_parse.proofs.Faults.{Fails-along, Fails-bind, Reads-along}
 use Rattle.sc_parse.proofs.Levels.{free_of_no_class, stays, reaches, fails_higher}
 use Rattle.sc_parse.proofs.Turns.{expr_zero, operators_end, operators_begin, operators_deep, operators_fail, operators_done, operators_more, calls_begin, calls_fail, calls_more, chain_current, chain_result, chain_fail, chain_dots, exprs_begin, exprs_more, exprs_none, exprs_fail, exprs_end, calls_none, calls_end}
 use Rattle.sc_parse.proofs.Parts.{object_test_read}
-use Rattle.sc_parse.proofs.Steps.{calling_is, primary_constant, primary_otherwise, primary_parenthesis, primary_test, primary_chain, closed, parenthesized_is, parenthesized_read}
+use Rattle.sc_parse.proofs.Steps.{calling_is, actuals_read, primary_constant, primary_otherwise, primary_parenthesis, primary_test, primary_chain, closed, parenthesized_is, parenthesized_read}
 use Rattle.sc_parse.proofs.cursor.Parser.+expression.Goals as goal
 
 -- ---- levels
@@ -96,21 +98,21 @@ primary-returns-in_err-inner-clause-read t c =
     ∙ parenthesized_is (nested c.args.room) _)
     (Fails-bind _ _ c.in_err-inner.field-0.0 c.in_err-inner.ensures.read))
 
-pub primary-returns-in_err-expect-clause-read : goal.primary-returns-in_err-expect-clause-read
-primary-returns-in_err-expect-clause-read t c =
+pub primary-returns-in_err-closed-clause-read : goal.primary-returns-in_err-closed-clause-read
+primary-returns-in_err-closed-clause-read t c =
     let ts = ahead c.args.self.now in
-    let p = err_from_is_err_and c.from_residual-in_err-expect.result c.from_residual-in_err-expect.ensures.1 in
+    let p = err_from_is_err_and c.from_residual-in_err-closed.result c.from_residual-in_err-closed.ensures.1 in
     rw (p.1, p.2)
-    (Fails-along _ _ c.in_err-expect.field-0.0
+    (Fails-along _ _ c.in_err-closed.field-0.0
     (primary_parenthesis (nested c.args.room) c.args.room ts (primary_otherwise (nested c.args.room) c.args.room ts c.constant.result _ c.constant.ensures c.in_default.not-Some) _ c.sees.ensures _ c.if-sees.true c.take-then-sees.ensures.past
     ∙ parenthesized_is (nested c.args.room) _ ∙ bind_ok _ _ closed c.in_ok-inner.ensures.read)
-    (Fails-bind _ _ c.in_err-expect.field-0.0 c.in_err-expect.ensures))
+    (Fails-bind _ _ c.in_err-closed.field-0.0 c.in_err-closed.ensures.read))
 
 pub primary-returns-then-sees-clause-read : goal.primary-returns-then-sees-clause-read
 primary-returns-then-sees-clause-read t c =
     let ts = ahead c.args.self.now in
     primary_parenthesis (nested c.args.room) c.args.room ts (primary_otherwise (nested c.args.room) c.args.room ts c.constant.result _ c.constant.ensures c.in_default.not-Some) _ c.sees.ensures _ c.if-sees.true c.take-then-sees.ensures.past
-    ∙ parenthesized_read (nested c.args.room) _ _ _ _ _ c.in_ok-inner.ensures.read c.in_ok-expect.ensures
+    ∙ parenthesized_read (nested c.args.room) _ _ _ _ _ _ c.in_ok-inner.ensures.read c.in_ok-closed.ensures.read (ap (λ (e : Expr). expr_in e) c.in_ok-closed.ensures.same)
 
 pub primary-returns-then-sees-2-clause-read : goal.primary-returns-then-sees-2-clause-read
 primary-returns-then-sees-2-clause-read t c =
@@ -181,12 +183,18 @@ chain-returns-clause-read t c =
 
 pub object_test-returns-clause-read : goal.object_test-returns-clause-read
 object_test-returns-clause-read t c =
-    object_test_read (nested c.args.room) c.args.room (ahead c.args.self.now) _ _ _ _ _ _ _ _ c.in_ok-declared.ensures c.in_ok-tested.ensures.read c.in_ok-name.ensures
-    (expr_of-object_test c.span_from-span.result c.in_ok-declared.declared c.in_ok-tested-2.tested c.in_ok-name.name
-    ∙ ap (λ (e : Expr). plain.ObjectTest c.span_from-span.result (type_if_any_in c.in_ok-declared.declared) (expr_in e) (name_in c.in_ok-name.name)) c.in_ok-tested-2.ensures.ok
-    ∙ ap (λ (s : Span). plain.ObjectTest s (type_if_any_in c.in_ok-declared.declared) (expr_in c.in_ok-tested.tested) (name_in c.in_ok-name.name)) c.span_from-span.ensures)
+    object_test_read (nested c.args.room) c.args.room (ahead c.args.self.now) _ _ _ _ _ _ _ _ c.in_ok-declared.ensures c.in_ok-chain.ensures.read c.in_ok-tested.ensures.read
+    (expr_of-object_test c.span_from-span.result c.in_ok-declared.declared c.in_ok-tested.tested c.in_ok-tested.name
+    ∙ ap (λ (b : Box Expr Global). plain.ObjectTest c.span_from-span.result (type_if_any_in c.in_ok-declared.declared) (expr_in b.value) (name_in c.in_ok-tested.name)) c.in_ok-tested.ensures.same
+    ∙ ap (λ (e : Expr). plain.ObjectTest c.span_from-span.result (type_if_any_in c.in_ok-declared.declared) (expr_in e) (name_in c.in_ok-tested.name)) c.in_ok-boxed.ensures.ok
+    ∙ ap (λ (s : Span). plain.ObjectTest s (type_if_any_in c.in_ok-declared.declared) (expr_in c.in_ok-chain.chain) (name_in c.in_ok-tested.name)) c.span_from-span.ensures)
 
 -- ---- actuals
+
+pub actuals-returns-clause-read : goal.actuals-returns-clause-read
+actuals-returns-clause-read t c =
+    actuals_read (nested c.args.room) (ahead c.args.self.now) _ _ _ _ _ _ _ c.sees.ensures c.if-not-sees.false c.take.ensures.past c.in_ok-exprs.ensures.read c.in_ok-actuals.ensures.read
+    (ap (λ (es : _). exprs_in es) c.in_ok-actuals.ensures.same)
 
 pub actuals-returns-then-not-sees-clause-read : goal.actuals-returns-then-not-sees-clause-read
 unfolding actuals
@@ -197,15 +205,14 @@ pub exprs-loop-turn-init : goal.exprs-loop-turn-init
 exprs-loop-turn-init t c = record {
   high = c.in_ok-first.ensures.high;
   same = exprs_begin (nested c.args.room) (ahead c.args.self.now) _ _ _ _ c.in_ok-first.ensures.read
-      (ap (λ (es : List Expr). exprs_of es) (c.in_ok-push.ensures.items ∙ ap (λ (es : List Expr). es ++ c.in_ok-first.first ∷ []) c.new-found.ensures.items)
-      ∙ exprs_of-push [] c.in_ok-first.first);
+      (ap (λ (es : List Expr). exprs_of es) c.in_ok-found.ensures ∙ exprs_of-push [] c.in_ok-first.first);
 }
 
 pub exprs-loop-turn-preserved : goal.exprs-loop-turn-preserved
 exprs-loop-turn-preserved t c = record {
   high = omega (arith, c.deeper-height.ensures, c.in_ok-expr.ensures.high, c.loop-turn.invariant.high);
   same = exprs_more (nested c.args.room) _ c.loop-turn._turn (exprs_in c.loop-turn.found) c.loop-turn.height (ahead c.loop-turn.self) _ _ _ _ _ _ _ c.loop-turn-test.true c.sees.ensures c.if-not-sees.false
-      c.take.ensures.past c.in_ok-expr.ensures.read (ap (λ (es : List Expr). exprs_of es) c.in_ok-push-2.ensures.items ∙ exprs_of-push _ _) c.deeper-height.ensures
+      c.take.ensures.past c.in_ok-expr.ensures.read (ap (λ (es : List Expr). exprs_of es) c.in_ok-found-2.ensures ∙ exprs_of-push _ _) c.deeper-height.ensures
       ∙ c.loop-turn.invariant.same;
 }
 

@@ -10,7 +10,7 @@ use Rattle.sc_parse.proofs.Turns.{instrs_begin, instrs_end, instrs_more, instrs_
 use Rattle.sc_tree.proofs.ReadingSteps.{bind_ok}
 use Rattle.sc_parse.proofs.Parts.{after_condition, branch_is, branch_read, other_there, no_other, other_none, after_branches, after_first, conditional_is, conditional_read, after_until, after_initial, iteration_is, iteration_read, after_do, after_heads, block_is, block_read}
 use Rattle.std.proofs.lemmas.Result.{err_from_is_err_and}
-use Rattle.sc_parse.proofs.Faults.{Fails-along, Fails-bind, Gives-along}
+use Rattle.sc_parse.proofs.Faults.{Fails-along, Fails-bind, Gives-along, Gives-closed}
 use Rattle.sc_parse.proofs.cursor.Parser.+instructions.Goals as goal
 
 pub instructions-loop-turn-init : goal.instructions-loop-turn-init
@@ -20,7 +20,7 @@ pub instructions-loop-turn-preserved : goal.instructions-loop-turn-preserved
 instructions-loop-turn-preserved t c = (
   max c.loop-turn.invariant.0 c.in_ok-instr.ensures.0,
   instrs_more c.args.room _ c.loop-turn._turn (instrs_in c.loop-turn.found) c.loop-turn.invariant.0 (ahead c.loop-turn.self) _ _ _ _ _ _ c.loop-turn-test.true c.begins_instruction.ensures c.if-not-begins_instruction.false
-      c.in_ok-instr.ensures.1 (ap (λ (is : _). instrs_of is) c.in_ok-push.ensures.items ∙ instrs_of-push _ _) c.skip_semicolons-in-loop-turn.ensures
+      c.in_ok-instr.ensures.1 (ap (λ (is : _). instrs_of is) c.in_ok-found.ensures ∙ instrs_of-push _ _) c.skip_semicolons-in-loop-turn.ensures
       ∙ c.loop-turn.invariant.1,
 )
 
@@ -35,7 +35,7 @@ pub branches-loop-turn-preserved : goal.branches-loop-turn-preserved
 branches-loop-turn-preserved t c = (
   max c.loop-turn.invariant.0 c.in_ok-branch.ensures.0,
   branches_more c.args.room _ c.loop-turn._turn (branches_in c.loop-turn.found) c.loop-turn.invariant.0 (ahead c.loop-turn.self) _ _ _ _ _ _ c.loop-turn-test.true c.sees.ensures c.if-not-sees.false c.take.ensures.past
-      c.in_ok-branch.ensures.1 (ap (λ (bs : _). branches_of bs) c.in_ok-push.ensures.items ∙ branches_of-push _ _)
+      c.in_ok-branch.ensures.1 (ap (λ (bs : _). branches_of bs) c.in_ok-found.ensures ∙ branches_of-push _ _)
       ∙ c.loop-turn.invariant.1,
 )
 
@@ -195,23 +195,23 @@ iteration-returns t c = (
       (instr_of-loop _ _ _ _ ∙ ap (λ (s : Span). Loop s (instrs_in c.in_ok-initial.initial) (expr_in c.in_ok-condition.condition) (instrs_in c.in_ok-body.body)) c.span_from-span.ensures),
 )
 
-pub block-returns-in_err-heads : goal.block-returns-in_err-heads
-block-returns-in_err-heads t c =
+pub block-returns-in_err-reserved : goal.block-returns-in_err-reserved
+block-returns-in_err-reserved t c =
     let ts = ahead c.args.self.now in
     let p = err_from_is_err_and c.from_residual.result c.from_residual.ensures.1 in
     rw (p.1, p.2)
-    (Fails-along _ _ c.in_err-heads.field-0.0
+    (Fails-along _ _ c.in_err-reserved.field-0.0
     (block_is c.args.room ts)
-    (Fails-bind _ _ c.in_err-heads.field-0.0 c.in_err-heads.ensures))
+    (Fails-bind _ _ c.in_err-reserved.field-0.0 c.in_err-reserved.ensures))
 
-pub block-returns-in_err-expect : goal.block-returns-in_err-expect
-block-returns-in_err-expect t c =
+pub block-returns-in_err-heads : goal.block-returns-in_err-heads
+block-returns-in_err-heads t c =
     let ts = ahead c.args.self.now in
-    let p = err_from_is_err_and c.from_residual-in_err-expect.result c.from_residual-in_err-expect.ensures.1 in
+    let p = err_from_is_err_and c.from_residual-in_err-heads.result c.from_residual-in_err-heads.ensures.1 in
     rw (p.1, p.2)
-    (Fails-along _ _ c.in_err-expect.field-0.0
-    (block_is c.args.room ts ∙ bind_ok _ _ (after_heads c.args.room ts) c.in_ok-heads.ensures.1)
-    (Fails-bind _ _ c.in_err-expect.field-0.0 c.in_err-expect.ensures))
+    (Fails-along _ _ c.in_err-heads.field-0.0
+    (block_is c.args.room ts ∙ bind_ok _ _ (after_heads c.args.room ts) c.in_ok-reserved.ensures.1)
+    (Fails-bind _ _ c.in_err-heads.field-0.0 c.in_err-heads.ensures.read))
 
 pub block-returns-in_err-body : goal.block-returns-in_err-body
 block-returns-in_err-body t c =
@@ -219,12 +219,17 @@ block-returns-in_err-body t c =
     let p = err_from_is_err_and c.from_residual-in_err-body.result c.from_residual-in_err-body.ensures.1 in
     rw (p.1, p.2)
     (Fails-along _ _ c.in_err-body.field-0.0
-    (block_is c.args.room ts ∙ bind_ok _ _ (after_heads c.args.room ts) c.in_ok-heads.ensures.1 ∙ bind_ok _ _ (after_do c.args.room ts (heads_in c.in_ok-heads.heads, c.in_ok-heads.ensures.0, ts)) c.in_ok-expect.ensures)
+    (block_is c.args.room ts ∙ bind_ok _ _ (after_heads c.args.room ts) c.in_ok-reserved.ensures.1 ∙ bind_ok _ _ (after_do c.args.room ts (heads_in c.in_ok-reserved.reserved, c.in_ok-reserved.ensures.0, ts)) c.in_ok-heads.ensures.read)
     (Fails-bind _ _ c.in_err-body.field-0.0 c.in_err-body.ensures))
 
 pub block-returns : goal.block-returns
 block-returns t c = (
-  suc (max c.in_ok-heads.ensures.0 c.in_ok-body.ensures.0),
-  block_read c.args.room (ahead c.args.self.now) _ _ _ _ _ _ _ _ c.in_ok-heads.ensures.1 c.in_ok-expect.ensures c.in_ok-body.ensures.1
-      (instr_of-block _ _ _ ∙ ap (λ (s : Span). Block s (heads_in c.in_ok-heads.heads) (instrs_in c.in_ok-body.body)) c.span_from.ensures),
+  suc (max c.in_ok-reserved.ensures.0 c.in_ok-body.ensures.0),
+  block_read c.args.room (ahead c.args.self.now) _ _ _ _ _ _ _ _ c.in_ok-reserved.ensures.1 c.in_ok-heads.ensures.read c.in_ok-body.ensures.1
+      (instr_of-block _ _ _ ∙ ap (λ (hs : _). Block c.span_from.result (heads_in hs) (instrs_in c.in_ok-body.body)) c.in_ok-heads.ensures.same
+      ∙ ap (λ (s : Span). Block s (heads_in c.in_ok-reserved.reserved) (instrs_in c.in_ok-body.body)) c.span_from.ensures),
 )
+
+pub instructions_up_to-returns : goal.instructions_up_to-returns
+instructions_up_to-returns t c =
+    Gives-closed instrs_in c.args.word _ _ _ _ c.closed_by.result _ (bind_ok _ _ _ c.in_ok-found.ensures.1) c.closed_by.ensures.same c.closed_by.ensures.read

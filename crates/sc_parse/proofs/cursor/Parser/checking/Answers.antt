@@ -9,6 +9,8 @@ use Rattle.sc_parse.proofs.cursor.Parser.checking.Goals as goal
 
 pub returns : goal.returns
 returns c = (
-  c.in_ok-clauses.ensures.0,
-  checking_is c.args.room (nested_instrs c.args.room) (ahead c.args.self.now) _ _ _ _ _ c.in_ok-clauses.ensures.1 c.in_ok-expect.ensures (instr_of-check _ _ ∙ ap (λ (s : Span). Check s (clauses_in c.in_ok-clauses.clauses)) c.span_from.ensures),
+  c.in_ok-checked.ensures.0,
+  checking_is c.args.room (nested_instrs c.args.room) (ahead c.args.self.now) _ _ _ _ _ c.in_ok-checked.ensures.1 c.in_ok-clauses.ensures.read
+      (instr_of-check _ _ ∙ ap (λ (cs : _). Check c.span_from.result (clauses_in cs)) c.in_ok-clauses.ensures.same
+      ∙ ap (λ (s : Span). Check s (clauses_in c.in_ok-checked.checked)) c.span_from.ensures),
 )

@@ -1,4 +1,4 @@
-use Rattle.std.proofs.Common.{List, [], ◌∷◌, ◌++◌, ap, sym, ◌∙◌, max, map}
+use Rattle.std.proofs.Common.{ap, sym, ◌∙◌, max, map}
 use Rattle.sc_tree.specs.View.{head_of}
 use Rattle.sc_parse.proofs.Views.{map-push}
 use Rattle.sc_parse.specs.Reading.Reads.{ahead, heads_in}
@@ -18,7 +18,7 @@ pub loop-turn-init : goal.loop-turn-init
 loop-turn-init c = (
   c.in_ok-first.ensures.0,
   heads_begin c.args.room (ahead c.args.self.now) _ _ _ _ c.in_ok-first.ensures.1
-      (ap (λ (xs : _). map head_of xs) (c.in_ok-push.ensures.items ∙ ap (λ (xs : List _). xs ++ c.in_ok-first.first ∷ []) c.new-found.ensures.items)),
+      (ap (λ (xs : _). map head_of xs) c.in_ok-found.ensures),
 )
 
 pub loop-turn-preserved : goal.loop-turn-preserved
@@ -26,7 +26,7 @@ loop-turn-preserved c =
     let q = c.loop-turn.invariant in (
       max q.0 c.in_ok-head.ensures.0,
       heads_more c.args.room _ c.loop-turn._turn (heads_in c.loop-turn.found) q.0 (ahead c.loop-turn.self) _ _ _ _ _ _ c.loop-turn-test.true c.sees.ensures c.if-not-sees.false c.take.ensures.past
-          c.in_ok-head.ensures.1 (ap (λ (xs : _). map head_of xs) c.in_ok-push-2.ensures.items ∙ map-push head_of _ _)
+          c.in_ok-head.ensures.1 (ap (λ (xs : _). map head_of xs) c.in_ok-found-2.ensures ∙ map-push head_of _ _)
           ∙ q.1,
     )
 
