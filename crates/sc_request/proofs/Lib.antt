@@ -13,6 +13,7 @@ mod Requests
 mod SettlementSteps
 pub mod StageHalves
 mod Outs
+mod Picks
 mod Rounds
 mod Bits
 pub mod GrantedReservations

@@ -12,7 +12,7 @@ ghost use Rattle.sc_request.specs.Sound.{IsSound};
 use crate::handler_set::HandlerSet;
 use crate::state::State;
 use arrayvec::ArrayVec;
-use sc_handler::{Handler, HandlerStage, Log, Posting};
+use sc_handler::{Handler, Log, Posting};
 use sc_lockpass::{HandlerNumber, Rights, Version};
 use sc_model::Status;
 use sc_region::{ClassNumber, Errand, Job, NameNumber, Reference, Request};
@@ -113,43 +113,14 @@ impl Core {
     pub fn pick_for(&self, handler: HandlerNumber) -> Option<Job>
         ensures { result ≡ logs.pick_for handler (center_of self.now) }
     {
-        if (handler as usize) >= self.state.count {
-            return None;
-        }
-        let place = &self.state.handlers[handler as usize];
-        if place.out.is_some() || place.failure.is_some() {
-            return None;
-        }
-        match place.stage {
-            HandlerStage::Idle => place.job_idle(),
-            HandlerStage::Runs => Some(Job::Go),
-            HandlerStage::HasMade(made) => Some(Job::Made(made)),
-            HandlerStage::Reserves => self.state.job_for_entry(handler, place),
-            HandlerStage::Awaits {
-                supplier,
-                is_creation,
-            } => place.job_awaiting(supplier, is_creation),
-        }
+        self.state.pick_for(handler)
     }
 
     /// How a handler stands, or None where there is no such handler. One that is out is busy.
     pub fn status(&self, handler: HandlerNumber) -> Option<Status>
         ensures { result ≡ logs.status_for handler (center_of self.now) }
     {
-        if (handler as usize) >= self.state.count {
-            return None;
-        }
-        let place = &self.state.handlers[handler as usize];
-        if let Some(why) = place.failure {
-            return Some(Status::Failed(why));
-        }
-        if place.out.is_some() || self.has_job(handler) {
-            return Some(Status::Busy);
-        }
-        match place.stage {
-            HandlerStage::Idle => Some(Status::Free),
-            _ => Some(Status::Waiting),
-        }
+        self.state.status(handler)
     }
 
     /// How many handlers there are.

@@ -9,7 +9,7 @@ ghost use Rattle.sc_handler.specs.Picking.{job_for_entry, needs};
 ghost use Rattle.sc_request.specs.Candidates.{AreCandidates};
 ghost use Rattle.sc_request.specs.Crowds.{AreCrowds};
 ghost use Rattle.sc_request.specs.Places.{IsSetOut, center_at, plain};
-ghost use Rattle.sc_request.specs.Logs.{first_with_job, next, numbers_from, pick_for};
+ghost use Rattle.sc_request.specs.Logs.{first_with_job, next, numbers_from, pick_for, status_for};
 
 use crate::handler_set::HandlerSet;
 use crate::state::State;
@@ -17,6 +17,7 @@ use arrayvec::ArrayVec;
 use sc_handler::{Handler, HandlerStage};
 use sc_lockpass::HandlerNumber;
 use sc_lockpass::wait_conditions::Entry;
+use sc_model::Status;
 use sc_region::Job;
 
 impl State {
@@ -39,6 +40,49 @@ impl State {
                 supplier: _,
                 is_creation: _,
             } => place.is_called(),
+        }
+    }
+
+    /// What a handler has to do, where it has something and isn't out.
+    pub(crate) fn pick_for(&self, handler: HandlerNumber) -> Option<Job>
+        ensures { result ≡ pick_for handler (center_at 0 self.now) }
+    {
+        if (handler as usize) >= self.count {
+            return None;
+        }
+        let place = &self.handlers[handler as usize];
+        if place.out.is_some() || place.failure.is_some() {
+            return None;
+        }
+        match place.stage {
+            HandlerStage::Idle => place.job_idle(),
+            HandlerStage::Runs => Some(Job::Go),
+            HandlerStage::HasMade(made) => Some(Job::Made(made)),
+            HandlerStage::Reserves => self.job_for_entry(handler, place),
+            HandlerStage::Awaits {
+                supplier,
+                is_creation,
+            } => place.job_awaiting(supplier, is_creation),
+        }
+    }
+
+    /// How a handler stands, or None where there is no such handler. One that is out is busy.
+    pub(crate) fn status(&self, handler: HandlerNumber) -> Option<Status>
+        ensures { result ≡ status_for handler (center_at 0 self.now) }
+    {
+        if (handler as usize) >= self.count {
+            return None;
+        }
+        let place = &self.handlers[handler as usize];
+        if let Some(why) = place.failure {
+            return Some(Status::Failed(why));
+        }
+        if place.out.is_some() || self.has_job(handler) {
+            return Some(Status::Busy);
+        }
+        match place.stage {
+            HandlerStage::Idle => Some(Status::Free),
+            _ => Some(Status::Waiting),
         }
     }
 
