@@ -14,6 +14,7 @@ mod SettlementSteps
 pub mod StageHalves
 mod Outs
 mod Picks
+mod Lookups
 mod Rounds
 mod Bits
 pub mod GrantedReservations
