@@ -1,8 +1,10 @@
-use Rattle.std.proofs.Common.{List, ◌∙◌, ap, subst, sym}
+use Rattle.std.proofs.Common.{◌≡◌, suc, List, ◌∙◌, ap, length, subst, sym, arith}
+use Rattle.std.proofs.lemmas.List.{length-replicate}
 use Rattle.std.specs.Prelude.{◌-◌, vec_len}
 use Rattle.sc_lockpass.specs.Versions.{most_handlers}
 use Rattle.sc_region.specs.declared.job.Request.{Request}
 use Rattle.sc_handler.specs.declared.handler.Handler as coded
+use Rattle.sc_handler.specs.InMemory.{fresh}
 use Rattle.sc_request.specs.Candidates.{AreReserving, HasGrantsBelow, HasOutsBelow}
 use Rattle.sc_request.specs.Tables.{handler_at, out_total}
 use Rattle.sc_request.specs.Logs.{opened}
@@ -34,3 +36,9 @@ invariant_of-result-2 c =
       crowded = opening_crowds c.in_ok-vec-2.field-0.items 512 1 c.new-5.result (handler_at xs c.in_ok-vec.field-0.items)
           (c.in_ok-vec-2.ensures.items_if_clones_equal (λ y e. e)) c.new-5.ensures;
     }
+
+pub invariant_of-result-clause-places : goal.invariant_of-result-clause-places
+invariant_of-result-clause-places c =
+    let own = c.in_ok-handlers.handlers.ok.0 in
+    let many : length c.in_ok-handlers.handlers.items ≡ 512 = ap (λ (xs : List coded.Handler). length xs) c.in_ok-handlers.ensures ∙ ap suc (length-replicate 511 fresh) in
+    omega (arith, own, many)
