@@ -1,5 +1,5 @@
 -- Cores that are kept.
-use Rattle.std.proofs.Common.{◌≡◌, ◌∙◌, ℕ, zero, suc, ◌<◌, ◌≤◌, Bool, true, false, List, [], ◌∷◌, Option, Some, None, inl, inr, length, take, refl, sym, ap, length-take, arith}
+use Rattle.std.proofs.Common.{◌≡◌, ◌∙◌, ◌+◌, ◌++◌, ℕ, zero, suc, ◌<◌, ◌≤◌, Bool, true, false, List, [], ◌∷◌, Option, Some, None, inl, inr, length, take, refl, sym, ap, length-take, arith}
 use Rattle.std.proofs.Math.Path.{fun_ext}
 use Rattle.std.proofs.lemmas.Bool.{cases_lt}
 use Rattle.std.proofs.lemmas.List.{get_or-take}
@@ -97,6 +97,29 @@ same_rights xs r n past queue_past top_past each =
       | inr beyond ↦ ap (λ (x : Holders). x.top) (past k beyond) ∙ sym (top_past k beyond)
     ]) in
     λ i. record { queue = queues i; top = tops i }
+
+pushed_below : (xs : List Holders) (y : Holders) (k : ℕ) → k < length xs → slice_get (xs ++ y ∷ []) k ≡ slice_get xs k
+pushed_below [] y k l = absurd (omega (arith, l))
+pushed_below (x ∷ xs) y zero l = refl
+pushed_below (x ∷ xs) y (suc k) l = pushed_below xs y k (omega (arith, l))
+
+pushed_last : (xs : List Holders) (y : Holders) → slice_get (xs ++ y ∷ []) (length xs) ≡ Some y
+pushed_last [] y = refl
+pushed_last (x ∷ xs) y = pushed_last xs y
+
+-- those below the next number are held as the rights say, where one more is added that is
+pub held_more : (xs ys : List Holders) (y : Holders) (n : ℕ) (r : Rights) → n ≡ length xs → ys ≡ xs ++ y ∷ [] → y ≡ record { queue = r.queue n; top = r.top n } →
+    ((k : ℕ) → k < n → holders_in (slice_get xs k) ≡ record { queue = r.queue k; top = r.top k }) →
+    (k : ℕ) → k < n + 1 → holders_in (slice_get ys k) ≡ record { queue = r.queue k; top = r.top k }
+held_more xs ys y n r nq yq is each k l =
+    ap (λ (zs : List Holders). holders_in (slice_get zs k)) yq
+    ∙ elim (cases_lt k n) [
+      | inl below ↦ ap holders_in (pushed_below xs y k (omega (arith, below, nq))) ∙ each k below
+      | inr beyond ↦
+          let last : k ≡ n = omega (arith, beyond, l) in
+          ap (λ i. holders_in (slice_get (xs ++ y ∷ []) i)) (last ∙ nq) ∙ ap holders_in (pushed_last xs y) ∙ is
+          ∙ ap (λ (i : ℕ). record { queue = r.queue i; top = r.top i }) (sym last)
+    ]
 
 -- Then they are the same at each.
 pub same_holders : (xs : List Holders) (r : Rights) (k : ℕ) → rights_in xs ≡ r → holders_in (slice_get xs k) ≡ record { queue = r.queue k; top = r.top k }
