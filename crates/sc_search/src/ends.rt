@@ -1,8 +1,11 @@
 //! The ends of orders.
-ghost use Rattle.std.specs.Prelude.{IfOk, IfSome};
+ghost use Rattle.std.specs.Prelude.{IfOk, IfSome, OnOk};
+ghost use Rattle.sc_world.specs.Turning.{Runs};
+ghost use Rattle.sc_world.specs.Views.{world_of};
+ghost use Rattle.sc_world.specs.Worlds.{opened};
 ghost use Rattle.sc_search.specs.Ends.{AreEnds, IsEnd};
 
-use crate::judging::{Kind, some_is};
+use crate::judging::{Kind, some_is_in};
 use crate::lines::lines_of;
 use crate::replay::{Subject, world_after};
 use crate::verdict::{End, Order};
@@ -51,11 +54,24 @@ pub(crate) fn ends_after(
 {
     let mut ends = Vec::new(subject.alloc);
     for outcome in outcomes {
-        if let Some(end) = end_after(subject, &outcome.turns)? {
-            ends.push(end)?;
-        }
+        push_end(subject, &mut ends, &outcome.turns)?;
     }
     Ok(ends)
+}
+
+/// Adds the end that these turns lead to, if no handler has anything to do there.
+fn push_end(
+    subject: Subject<'_>,
+    ends: &mut Vec<End>,
+    turns: &[HandlerNumber],
+) -> Result<(), AllocError>
+    requires { AreEnds subject.program.now.image subject.version ends.old.items }
+    ensures { OnOk result (AreEnds subject.entry.program.now.image subject.entry.version ends.new.items) }
+{
+    if let Some(end) = end_after(subject, turns)? {
+        ends.push(end)?;
+    }
+    Ok(())
 }
 
 /// What these turns lead to, if no handler has anything to do there.
@@ -63,8 +79,19 @@ fn end_after(subject: Subject<'_>, turns: &[HandlerNumber]) -> Result<Option<End
     ensures { IfOk result (λ end. IfSome end (IsEnd subject.entry.program.now.image subject.entry.version)) }
 {
     let world = world_after(subject, turns)?;
-    let statuses = world.statuses()?;
-    if some_is(Kind::IsBusy, &statuses) {
+    end_in(subject, &world, turns)
+}
+
+/// What the world is that these turns led to, if no handler has anything to do there.
+fn end_in(
+    subject: Subject<'_>,
+    world: &World<'_>,
+    turns: &[HandlerNumber],
+) -> Result<Option<End>, AllocError>
+    requires { Runs turns.now (opened subject.program.now.image subject.version) (world_of world.now) }
+    ensures { IfOk result (λ end. IfSome end (IsEnd subject.entry.program.now.image subject.entry.version)) }
+{
+    if some_is_in(Kind::IsBusy, world)? {
         return Ok(None);
     }
     let report = world.report()?;

@@ -1,9 +1,13 @@
 //! How the handlers of a state stand to what is looked for.
-ghost use Rattle.std.specs.Prelude.{◌≡◌, ◌↔◌, IsTrue};
+ghost use Rattle.std.specs.Prelude.{◌≡◌, ◌↔◌, IfOk, IsTrue};
+ghost use Rattle.sc_world.specs.Reports.{statuses};
+ghost use Rattle.sc_world.specs.Views.{world_of};
 ghost use Rattle.sc_search.specs.Aims.{AreStuck, HasFailed, IsMet, is_of, some_is, tells_failure};
 
 use crate::aims::Aim;
 use sc_model::Status;
+use sc_world::World;
+use std::alloc::AllocError;
 
 /// How a handler may stand.
 #[derive(Clone, Copy)]
@@ -46,6 +50,16 @@ pub(crate) fn tells_failure(aim: Aim, statuses: &[Status]) -> bool
         Aim::Stuck => false,
         Aim::Fails | Aim::Any => has_failed(statuses),
     }
+}
+
+/// Whether one of the handlers of the world stands so.
+///
+/// # Errors
+/// Where there is no memory.
+pub(crate) fn some_is_in(kind: Kind, world: &World<'_>) -> Result<bool, AllocError>
+    ensures { IfOk result (λ some. some ≡ some_is kind (statuses (world_of world.now))) }
+{
+    Ok(some_is(kind, &world.statuses()?))
 }
 
 /// Whether one of the handlers stands so.
