@@ -1,4 +1,4 @@
-use Rattle.std.proofs.Common.{◌+◌, ◌++◌, ◌∷◌, [], ◌∙◌, ℕ, List, get_or, sym, ap}
+use Rattle.std.proofs.Common.{◌++◌, ◌∷◌, [], ◌∙◌, ℕ, List, get_or, sym, ap}
 use Rattle.std.proofs.lemmas.List.{take_more}
 use Rattle.sc_search.proofs.lines.lines_of.Goals as goal
 
