@@ -1,7 +1,7 @@
 -- What readers have given.
-use Rattle.std.proofs.Common.{◌≡◌, ℕ, zero, suc, ◌+◌, ◌-◌, ◌<◌, ◌≤◌, List, [], ◌∷◌, ◌++◌, map, take, get_or, set, Option, Some, None, length, IfSome, IsErrAnd, MatchResult, Ok, Err, Result, drop, subst, ap, ◌∙◌, append_assoc, arith, refl, sym, IfErr, ◌⊎◌, inr}
+use Rattle.std.proofs.Common.{◌≡◌, ℕ, zero, suc, ◌+◌, ◌-◌, ◌<◌, ◌≤◌, List, [], ◌∷◌, ◌++◌, map, take, get_or, set, Option, Some, None, length, IfSome, IsErrAnd, MatchResult, Ok, Err, Result, drop, subst, ap, ◌∙◌, append_assoc, arith, refl, sym, IfErr, ◌⊎◌, inr, true, false}
 use Rattle.std.proofs.lemmas.Grind.{common_steps}
-use Rattle.std.specs.Io.KnownBytes.{Consumes}
+use Rattle.std.specs.Io.KnownBytes.{Consumes, IsAtEnd}
 use Rattle.std.specs.Str.{IsUtf8}
 use Rattle.std.specs.List.{All}
 use Rattle.sc_source.specs.declared.join.SourceFault.{SourceFault}
@@ -234,3 +234,52 @@ long-source files why is long =
     let many : max_source_bytes - length (source_text (take why.file files)) ≤ length (unmarked (get_or files why.file [])) = told in
     let part = take-short files (why.file + 1) in
     omega (arith, size, many, part)
+
+-- ---- the length of one file
+
+-- what is true of the bytes that were given is true of the file, where they are all of it
+pub told-of : (P : List ℕ → Type 0) (known : Option (List ℕ)) (bytes : List ℕ) → IfSome known (λ told. bytes ≡ told) → P bytes → IfSome known P
+told-of P None bytes whole it = tt
+told-of P (Some file) bytes whole it = subst P whole it
+
+-- a file whose text is short has no long one
+pub short-told : (room : ℕ) (known : Option (List ℕ)) (bytes : List ℕ) → IfSome known (λ told. bytes ≡ told) → length (unmarked bytes) < room →
+    IfSome known (λ told. room ≤ length (unmarked told) → false ≡ true)
+short-told room None bytes whole short = tt
+short-told room (Some file) bytes whole short = λ long.
+    let less : length (unmarked file) < room = rw (← whole) short in
+    let none : ⊥ = omega (arith, less, long) in
+    absurd none
+
+-- they are all of it, where the reader is at its end
+pub whole-told : (most : ℕ) (first mid last : Option (List ℕ)) (before after : List ℕ) →
+    Consumes first mid before → TakesMore most mid last before after → IsAtEnd last → IfSome first (λ told. after ≡ told)
+whole-told most None mid last before after one more end = tt
+whole-told most (Some os) None last before after one more end = absurd one
+whole-told most (Some os) (Some bs) None before after one more end = absurd more.1.1.1
+whole-told most (Some os) (Some bs) (Some cs) before after one more end =
+    let added : after ≡ before ++ more.0 = more.1.1.0 in
+    let given : bs ≡ more.0 ++ cs = more.1.1.1 in
+    let none : cs ≡ [] = end in
+    grind (arith, common_steps)
+
+-- the text of a file is as long at least as that of each is that begins with the bytes that were given
+pub long-told : (room least : ℕ) (first now : Option (List ℕ)) (bytes : List ℕ) → Consumes first now bytes →
+    ((rest : List ℕ) → least ≤ length (unmarked (bytes ++ rest))) → room ≤ least →
+    IfSome first (λ told. room ≤ length (unmarked told))
+long-told room least None now bytes given all long = tt
+long-told room least (Some file) None bytes given all long = absurd given
+long-told room least (Some file) (Some left) bytes given all long =
+    let this : least ≤ length (unmarked (bytes ++ left)) = all left in
+    rw given (omega (arith, this, long))
+
+-- so it isn't shorter
+pub not-short : (room : ℕ) (known : Option (List ℕ)) → IfSome known (λ told. room ≤ length (unmarked told)) →
+    IfSome known (λ told. length (unmarked told) < room → ⊥)
+not-short room None long = tt
+not-short room (Some file) long = λ short. omega (arith, long, short)
+
+-- what holds in any case holds of a file that is known
+pub of-known : (P : List ℕ → Type 0) (known : Option (List ℕ)) → ((told : List ℕ) → P told) → IfSome known P
+of-known P None all = tt
+of-known P (Some file) all = all file
