@@ -1,9 +1,11 @@
 -- Handlers of which worlds have the same.
-use Rattle.std.proofs.Common.{◌≡◌, ◌<◌, ◌+◌, ℕ, Bool, inl, inr, slice_get, sym, subst, arith}
+use Rattle.std.proofs.Common.{◌≡◌, ◌<◌, ◌+◌, ℕ, Bool, true, false, Option, None, Some, inl, inr, slice_get, refl, sym, subst, arith}
 use Rattle.std.specs.Prelude.{IsTrue}
 use Rattle.std.proofs.lemmas.Bool.{cases_eq}
+use Rattle.sc_region.specs.Stores.{AreSame}
 use Rattle.sc_request.specs.Logs.{Center}
 use Rattle.sc_request.specs.Same.{AreSameAt}
+use Rattle.sc_play.specs.Regions.{PlainRegion}
 use Rattle.sc_world.specs.Worlds.{PlainWorld}
 use Rattle.sc_recording.specs.Same.{AreSameRegions, IsSameAt}
 
@@ -28,3 +30,22 @@ told-same h w v c d told first second region there back = (
   },
   λ same. back (subst (λ (x : Center). AreSameAt h x d) (sym first) (subst (λ (x : Center). AreSameAt h w.center x) (sym second) same.center)),
 )
+
+-- A test tells whether the regions are the same, if there are any.
+abbrev Tells : Bool → Option PlainRegion → Option PlainRegion → Type 0
+Tells told x y = (IsTrue told → AreSameRegions x y) × (AreSameRegions x y → IsTrue told)
+
+pub told-both : (x y : Option PlainRegion) (r s : PlainRegion) (told : Bool) → x ≡ Some r → y ≡ Some s →
+    (IsTrue told → AreSame r.store s.store) × (AreSame r.store s.store → IsTrue told) → Tells told x y
+told-both x y r s told first second tells =
+    subst (λ (o : Option PlainRegion). Tells told o y) (sym first) (subst (λ (o : Option PlainRegion). Tells told (Some r) o) (sym second) tells)
+
+pub told-neither : (x y : Option PlainRegion) → x ≡ None → y ≡ None → Tells true x y
+told-neither x y first second =
+    subst (λ (o : Option PlainRegion). Tells true o y) (sym first)
+    (subst (λ (o : Option PlainRegion). Tells true None o) (sym second) (λ yes. tt, λ same. refl))
+
+pub told-first : (x y : Option PlainRegion) (r : PlainRegion) → x ≡ Some r → y ≡ None → Tells false x y
+told-first x y r first second =
+    subst (λ (o : Option PlainRegion). Tells false o y) (sym first)
+    (subst (λ (o : Option PlainRegion). Tells false (Some r) o) (sym second) (λ yes. cc, λ same. absurd same))
