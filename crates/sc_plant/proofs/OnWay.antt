@@ -1,5 +1,5 @@
 -- How a run on one thread goes on.
-use Rattle.std.proofs.Common.{◌≡◌, ◌⊎◌, ◌<◌, ◌++◌, ◌∷◌, [], inl, inr, ℕ, zero, suc, List, None, Some, All, Result, Ok, Err, OnErr, IfOk, is_err, Bool, false, length, slice_get, slice_set, true, refl, sym, ap, subst, ◌∙◌}
+use Rattle.std.proofs.Common.{◌≡◌, ◌⊎◌, ◌<◌, ◌++◌, ◌∷◌, [], inl, inr, ℕ, zero, suc, List, None, Some, All, Result, Ok, Err, OnErr, OnOk, IfOk, is_err, Bool, false, length, slice_get, slice_set, true, refl, sym, ap, subst, ◌∙◌}
 use Rattle.std.proofs.Math.Logic.{∥∥₁_map}
 use Rattle.std.proofs.lemmas.Bool.{cases_eq}
 use Rattle.std.proofs.lemmas.List.Elements.{All-cons, All-nil}
@@ -297,3 +297,12 @@ err_holds (Err d) P e p = p
 pub over_holds : {E : Type 0} (r : Result Bool E) (P : Type 0) → is_err r ≡ false → IfOk r (λ b. b ≡ true) → IfOk r (λ b. b ≡ true → P) → P
 over_holds (Ok b) P e is p = p is
 over_holds (Err d) P e is p = absurd (cc)
+
+-- what is so of what is done, or of what is refused, makes something else so
+pub ok_goes : {T E : Type 0} (r : Result T E) (P Q : T → Type 0) (S : Type 0) → IfOk r P → IfOk r Q → ((t : T) → P t → Q t → S) → OnOk r S
+ok_goes (Ok t) P Q S p q goes = goes t p q
+ok_goes (Err e) P Q S p q goes = tt
+
+pub err_goes : {T E : Type 0} (r : Result T E) (P S : Type 0) → OnErr r P → (P → S) → OnErr r S
+err_goes (Ok t) P S p goes = tt
+err_goes (Err e) P S p goes = goes p

@@ -1,6 +1,7 @@
 -- Runs on one thread.
-use Rattle.std.specs.Prelude.{◌≡◌, ℕ, List, None, Some, length, slice_get}
+use Rattle.std.specs.Prelude.{◌≡◌, ◌⊎◌, ◌++◌, ◌∷◌, [], ℕ, List, None, Some, length, slice_get}
 use Rattle.sc_lockpass.specs.declared.version.Version.TheVariants.{Two}
+use Rattle.sc_audit.specs.declared.line.RecordLine.{RecordLine}
 use Rattle.sc_code.specs.declared.program.Image.{Image}
 use Rattle.sc_region.specs.declared.job.Job.{Job}
 use Rattle.sc_region.specs.declared.job.Want.{Want}
@@ -51,3 +52,16 @@ pub record IsBack (h : ℕ) (c d : core.Core) (x y : PlainRegion) : Type 0 where
   pub log : log_of d ≡ log_of c
   pub job : Job
   pub refused : IsRefused job x y
+
+-- The handler, which is out, plays so many turns of its job, the last of which asks this. They are settled, and are one
+-- more line of the record.
+pub record IsRecorded (limit h turns : ℕ) (w : Want) (c d : core.Core) (x y : PlainRegion)
+    (ls ms : List RecordLine) : Type 0 where
+  pub played : (j : Job) → (center_of c).out h ≡ Some j → IsPlayed limit h j turns w c d x y
+  pub line : ms ≡ ls ++ record { handler = h; turns = turns } ∷ []
+
+-- Memory was refused to the handler, which was out: to its first turn, or behind turns that are settled and recorded.
+abbrev pub IsCutOff : ℕ → ℕ → Want → core.Core → core.Core → PlainRegion → PlainRegion → List RecordLine →
+    List RecordLine → Type 0
+IsCutOff limit h w c d x y ls ms =
+    (IsBack h c d x y × (ms ≡ ls)) ⊎ ((turns : ℕ) × IsRecorded limit h turns w c d x y ls ms)

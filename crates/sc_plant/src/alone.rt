@@ -1,16 +1,18 @@
 //! Runs on one thread, where nothing lies under a lock.
 //!
 //! That a handler's settlements lead to its region is kept on the way, so the regions need no logs.
-ghost use Rattle.std.specs.Prelude.{◌≡◌, ◌≤◌, ◌↔◌, ◌<◌, IfErr, IfOk, IfSome, IsTrue, OnErr, OnOk, Some, is_some, length, true, vec_len};
+ghost use Rattle.std.specs.Prelude.{◌≡◌, ◌≤◌, ◌↔◌, ◌<◌, IfErr, IfOk, IfSome, IsTrue, OnErr, OnOk, Some, is_some, length, true, vec_capacity, vec_len};
 ghost use Rattle.std.specs.Bool.{OnTrue};
+ghost use Rattle.std.specs.Option.{option_map};
 ghost use Rattle.sc_lockpass.specs.declared.version.Version.TheVariants.{Two};
 ghost use Rattle.sc_code.specs.declared.program.Image.{Image};
 ghost use Rattle.sc_region.specs.declared.job.Job.{Job};
 ghost use Rattle.sc_region.specs.declared.job.Want.TheVariants as want;
-ghost use Rattle.sc_request.specs.Cores.{center_of};
+ghost use Rattle.sc_request.specs.Cores.{center_of, log_of};
+ghost use Rattle.sc_request.specs.Logs.{next, picks};
 ghost use Rattle.sc_request.specs.Rooms.{HasRoomFor};
 ghost use Rattle.sc_plant.specs.declared.alone.Stretch.TheVariants.{Over};
-ghost use Rattle.sc_plant.specs.Alone.{AreNew, IsBack, IsOnWay, IsPlayed};
+ghost use Rattle.sc_plant.specs.Alone.{AreNew, IsBack, IsCutOff, IsOnWay, IsPlayed, IsRecorded};
 ghost use Rattle.sc_plant.specs.Bounded.{EndsBehind, IsBoundedRun};
 ghost use Rattle.sc_recording.specs.Ending.{IsOver};
 ghost use Rattle.sc_plant.specs.Left.{IsOutOfMemory, IsStopped, SaysWhy, TellsLeft};
@@ -269,12 +271,61 @@ fn play_next<G: Gate>(
     if limit == 0 || lines.len() >= MOST_LINES {
         return Ok(0);
     }
-    core.make_room()?;
-    lines.reserve(1)?;
-    let Some(handler) = core.pick() else {
+    let Some(handler) = pick_with_room(core, lines)? else {
         return Ok(0);
     };
     let region = &mut regions[handler as usize];
+    play_picked(core, region, lines, handler, limit, asked, gate)
+}
+
+/// The next handler that has something to do is out with it, and there is room to settle and to record that. None where no
+/// handler has anything to do.
+///
+/// # Errors
+/// Where there is no memory. Then no handler goes out.
+fn pick_with_room(
+    core: &mut Core,
+    lines: &mut Vec<RecordLine>,
+) -> Result<Option<HandlerNumber>, AllocError>
+    ensures handler { IfOk result (λ picked. picked ≡ option_map (λ p. p.0) (next (center_of core.old))) }
+    ensures below { IfOk result (λ picked. IfSome picked (λ handler. handler < 512)) }
+    ensures center { OnOk result (center_of core.new ≡ picks (next (center_of core.old)) (center_of core.old)) }
+    ensures err { OnErr result (center_of core.new ≡ center_of core.old) }
+    ensures log { log_of core.new ≡ log_of core.old }
+    ensures room { OnOk result (HasRoomFor 0 core.new) }
+    ensures place { OnOk result (vec_len lines.new < vec_capacity lines.new) }
+    ensures lines { lines.new.items ≡ lines.old.items }
+    ensures version { core.new.state.rights.version ≡ core.old.state.rights.version }
+{
+    core.make_room()?;
+    lines.reserve(1)?;
+    Ok(core.pick())
+}
+
+/// A handler that is out plays so many turns of its job at most, and the gate is told of it. They are settled and recorded:
+/// how many it made.
+///
+/// # Errors
+/// Where memory is refused: to the first, and the handler is put back; or behind turns that are settled and recorded.
+fn play_picked<G: Gate>(
+    core: &mut Core,
+    region: &mut Region<'_>,
+    lines: &mut Vec<RecordLine>,
+    handler: HandlerNumber,
+    limit: u32,
+    asked: &mut Want,
+    gate: &G,
+) -> Result<u32, AllocError>
+    requires limit { 1 ≤ limit }
+    requires out { is_some ((center_of core.old).out handler) ≡ true }
+    requires room { HasRoomFor 0 core.old }
+    requires version { core.old.state.rights.version ≡ Two }
+    requires place { vec_len lines.old < vec_capacity lines.old }
+    ensures ok { IfOk result (λ turns. IsRecorded limit handler turns asked.new core.old core.new region.old region.new lines.old.items lines.new.items) }
+    ensures whole { IfOk result (λ turns. (turns < limit) × (asked.new ≡ want.Continue) → ⊥) }
+    ensures err { OnErr result (IsCutOff limit handler asked.new core.old core.new region.old region.new lines.old.items lines.new.items) }
+    ensures version { core.new.state.rights.version ≡ Two }
+{
     clear_want(asked);
     gate.began(handler);
     let played = play_out(core, region, handler, limit, asked);
