@@ -24,3 +24,8 @@ pub cut_ends : (bounds : Bounds) (made : ℕ) (rs ss : List PlainRegion) (b : Bo
 cut_ends bounds made rs ss b None few is past same this = tt
 cut_ends bounds made rs ss b (Some n) few is past same this =
     inr (subst (λ (k : ℕ). k ≤ bounds.turns) (sym this) few, subst (ArePast bounds.output) (sym same) (on_true b _ is past))
+
+-- all that it may make are those behind which it ends
+pub whole_ends : (bounds : Bounds) (rs : List PlainRegion) (r : Option ℕ) → IfSome r (λ n. n ≡ bounds.turns) → IfSome r (λ n. EndsBehind bounds n rs)
+whole_ends bounds rs None this = tt
+whole_ends bounds rs (Some n) this = inl this

@@ -1,7 +1,7 @@
 //! Runs on one thread, where nothing lies under a lock.
 //!
 //! That a handler's settlements lead to its region is kept on the way, so the regions need no logs.
-ghost use Rattle.std.specs.Prelude.{◌≡◌, ◌≤◌, ◌↔◌, ◌<◌, IfErr, IfOk, IfSome, IsTrue, OnErr, OnOk, Some, is_some, length, true, vec_capacity, vec_len};
+ghost use Rattle.std.specs.Prelude.{◌≡◌, ◌≤◌, ◌↔◌, ◌<◌, IfErr, IfOk, IfSome, IsTrue, OnErr, OnOk, Some, false, is_some, length, true, vec_capacity, vec_len};
 ghost use Rattle.std.specs.Bool.{OnTrue};
 ghost use Rattle.std.specs.Option.{option_map};
 ghost use Rattle.sc_lockpass.specs.declared.version.Version.TheVariants.{Two};
@@ -140,23 +140,21 @@ pub fn play_all<R: Wait, G: Gate, W: Watch>(
     for _ in rt.forever() {
         let made = play_next(left, turns.min(MOST_TURNS), &mut asked, gate)?;
         turns = turns.saturating_sub(made);
-        if made == 0 {
-            if is_over(left, bounds.turns) {
-                return Ok((bounds.turns, true));
-            }
-            continue;
+        if let Some(end) = end_behind(left, made, bounds, &mut tally, watch) {
+            return Ok((end, true));
         }
-        watch.sees(left);
-        if let Some(made) = cut_behind(left, bounds, &mut tally) {
-            return Ok((made, true));
-        }
-        if matches!(stretch, Stretch::CoarseGrained)
-            && is_coarse(&mut granularity, left.lines.as_slice())
-        {
+        if made > 0 && gives_way(stretch, &mut granularity, left.lines.as_slice()) {
             return Ok((bounds.turns, false));
         }
     }
     unreachable!()
+}
+
+/// Whether one thread is to end behind its last task, since several workers would play such tasks faster.
+fn gives_way(stretch: Stretch, granularity: &mut Granularity, lines: &[RecordLine]) -> bool
+    ensures { stretch ≡ Over → result ≡ false }
+{
+    matches!(stretch, Stretch::CoarseGrained) && is_coarse(granularity, lines)
 }
 
 /// Counts the last task: whether several workers would play such tasks faster.
@@ -207,6 +205,27 @@ fn over_at(left: &mut Left<'_>, turns: u32) -> Option<u32>
         return Some(turns);
     }
     None
+}
+
+/// Behind how many turns the run ends behind a task of so many turns, if it does, and lets somebody look where there were any.
+fn end_behind<W: Watch>(
+    left: &mut Left<'_>,
+    made: u32,
+    bounds: Bounds,
+    tally: &mut Tally,
+    watch: &mut W,
+) -> Option<u32>
+    ensures over { IfSome result (λ turns. IsOver turns (center_of left.new.core) left.new.lines.items) }
+    ensures ends { IfSome result (λ turns. EndsBehind bounds turns left.new.regions.items) }
+    ensures count { length left.new.regions.items ≡ length left.old.regions.items }
+    ensures version { left.new.core.state.rights.version ≡ left.old.core.state.rights.version }
+    ensures on { (p : Image) → IsOnWay p left.old → IsOnWay p left.new }
+{
+    if made == 0 {
+        return over_at(left, bounds.turns);
+    }
+    watch.sees(left);
+    cut_behind(left, bounds, tally)
 }
 
 /// Behind how many turns the run ends behind a task, if the handlers have printed more than they may.
