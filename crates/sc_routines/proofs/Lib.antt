@@ -10,6 +10,8 @@ pub mod FormalNames
 pub mod HeadNames
 pub mod InstructionCalls
 pub mod KeptOlds
+pub mod Largest
+pub mod Ends
 pub mod JumpTargets
 pub mod Sequences
 pub mod Shapes

@@ -1,5 +1,5 @@
-use Rattle.std.proofs.Common.{◌≡◌, ◌+◌, List, ◌∷◌, ◌++◌, drop, map, max, refl, sym, ap, ◌∙◌, arith}
-use Rattle.std.proofs.lemmas.List.{at_drop_more, length-map}
+use Rattle.std.proofs.Common.{◌≡◌, ◌≤◌, ◌+◌, List, ◌∷◌, ◌++◌, length, drop, map, max, refl, sym, ap, ◌∙◌, arith}
+use Rattle.std.proofs.lemmas.List.{at_drop_all, at_drop_more, length-map}
 use Rattle.sc_tree.specs.declared.instruction.Head as tree
 use Rattle.sc_tree.specs.Plain.{Head}
 use Rattle.sc_tree.specs.View.{head_of}
@@ -9,6 +9,7 @@ use Rattle.sc_typing.specs.Views.{entity_of}
 use Rattle.sc_code.specs.Places.{head_types}
 use Rattle.sc_code.specs.Emitted.{expr_depth, heads_code, heads_depth}
 use Rattle.sc_routines.specs.Settings.{setting_in}
+use Rattle.sc_routines.proofs.Ends.{all_found}
 use Rattle.sc_routines.proofs.HeadNames.{heads_deep, next_head_code, next_head_types}
 use Rattle.sc_routines.proofs.instructions.blocks.lower_heads.Goals as goal
 
@@ -53,4 +54,20 @@ loop-place-preserved c =
         lowered.depth ∙ ap (λ (m : Entities). expr_depth h m 0 (head_of d).value) before.names,
         ap (λ (ds : List Head). max c.loop-place.depth (place + heads_depth h n ds)) step ∙ before.depth,
       );
+    }
+
+pub returns : goal.returns
+returns c =
+    let h = setting_in c.args.setting.now in
+    let n = map entity_of c.args.names.now.items in
+    let ds = c.args.heads.now in
+    let place = c.loop-place.place in
+    let before = c.loop-place.invariant in
+    let past : length ds ≤ place = omega (arith, c.loop-place-test.false) in
+    let none = at_drop_all (λ (ds : List tree.Head). heads_depth h n (map head_of ds)) ds place past in
+    record {
+      code = all_found (λ (ds : List tree.Head). heads_code h n (map head_of ds)) ds place c.loop-place.code _ past refl before.code;
+      names = before.names;
+      types = all_found (λ (ds : List tree.Head). head_types h n (map head_of ds)) ds place c.loop-place.types.items _ past refl before.types;
+      depth = omega (arith, none, before.deep, before.depth);
     }

@@ -1,5 +1,5 @@
-use Rattle.std.proofs.Common.{◌≡◌, ◌++◌, OnOk, IfOk, length, map, true, false, refl, sym, ap, subst, ◌∙◌, ◌+◌, ℕ, List, Some, rules, drop, max, arith}
-use Rattle.std.proofs.lemmas.List.{length-map, at_drop_more}
+use Rattle.std.proofs.Common.{◌≡◌, ◌≤◌, ◌++◌, OnOk, IfOk, length, map, true, false, refl, sym, ap, subst, ◌∙◌, ◌+◌, ℕ, List, Some, rules, drop, max, arith}
+use Rattle.std.proofs.lemmas.List.{length-map, at_drop_all, at_drop_more}
 use Rattle.sc_tree.specs.declared.expression.Expr.{Expr}
 use Rattle.sc_tree.specs.Plain as tree
 use Rattle.sc_tree.specs.Properties.{is_old}
@@ -7,12 +7,14 @@ use Rattle.sc_tree.specs.View.{expr_of, exprs_of, name_of, type_if_any, target_o
 use Rattle.sc_tree.proofs.ViewLemmas.{expr_of-boolean, expr_of-void, expr_of-current, expr_of-call, expr_of-result, expr_of-unary, expr_of-binary, expr_of-object_test}
 use Rattle.sc_model.specs.Olds.{olds_in, olds_of_each}
 use Rattle.sc_typing.specs.Views.{entity_of}
+use Rattle.sc_rules.specs.declared.entity_types.entity_type.EntityType.{EntityType}
 use Rattle.sc_rules.specs.entity_types.Conformance.{boolean, void}
 use Rattle.sc_rules.specs.Names.{current}
 use Rattle.sc_routines.specs.Settings.{setting_in}
 use Rattle.sc_code.specs.Places.{expr_type, here, names_given, exprs_types, slot_named}
 use Rattle.sc_code.specs.Emitted.{expr_code, expr_depth, expr_slots, exprs_code, exprs_depth}
 use Rattle.sc_routines.proofs.Given.{forgotten_in}
+use Rattle.sc_routines.proofs.Ends.{all_found}
 use Rattle.sc_routines.proofs.ExpressionParts.{next_code, next_types, next_depth, next_olds}
 use Rattle.sc_routines.proofs.LoweredExpressions.{always, leaf_code, leaf_told, result_code, result_told, old_code, old_told, unary_code, unary_told, unary_names, test_code, test_names, test_told, close_code, close_told, close_names, place_within, Told, routine_code_left, routine_told, feature_code_left, feature_told}
 use Rattle.sc_typing.specs.declared.declarations.names.Entity.{Entity}
@@ -332,4 +334,35 @@ lower_actuals-loop-number-preserved t c =
       depth = omega (arith, greater c.loop-number.depth c.in_ok-sum.field-0 c.max-depth.result c.max-depth.ensures, deep);
       passed = next_olds i l.olds i (c.args.olds + length (olds_of_each (exprs_of es))) (expr_of e) rest lowered.olds
           (ap (λ (es : tree.Exprs). i + length (olds_of_each es)) back ∙ before.passed);
+    }
+
+pub lower_actuals-loop-number-init : goal.lower_actuals-loop-number-init
+lower_actuals-loop-number-init t c =
+    let h = setting_in c.args.self.now in
+    let n = map entity_of c.args.names.now.items in
+    record {
+      names = refl;
+      code = refl;
+      types = ap (λ (l : List EntityType). l ++ exprs_types h n c.args.olds (exprs_of c.args.actuals.now)) c.new-types.ensures.items;
+      depth = omega arith;
+      passed = refl;
+    }
+
+pub lower_actuals-returns : goal.lower_actuals-returns
+lower_actuals-returns t c =
+    let h = setting_in c.args.self.now in
+    let n = map entity_of c.args.names.now.items in
+    let es = c.args.actuals.now in
+    let number = c.loop-number.number in
+    let i = c.loop-number.passed in
+    let before = c.loop-number.invariant in
+    let past : length es ≤ number = omega (arith, c.loop-number-test.false) in
+    let no_depth = at_drop_all (λ (es : List Expr). exprs_depth h n i (exprs_of es)) es number past in
+    let no_olds = at_drop_all (λ (es : List Expr). length (olds_of_each (exprs_of es))) es number past in
+    record {
+      code = all_found (λ (es : List Expr). exprs_code h n i (exprs_of es)) es number c.loop-number.code _ past refl before.code;
+      names = before.names;
+      types = all_found (λ (es : List Expr). exprs_types h n i (exprs_of es)) es number c.loop-number.types.items _ past refl before.types;
+      depth = omega (arith, c.max.ensures, past, no_depth, before.depth);
+      olds = omega (arith, no_olds, before.passed);
     }
