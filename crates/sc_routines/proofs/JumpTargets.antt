@@ -102,6 +102,20 @@ skip_set base c b skip jump c1 c2 c3 c4 e1 es e2 e3 ej e4 =
     ∙ ap (λ (l : List Operation). l ++ SkipIfFalse (length b + 1) ∷ (b ++ Jump 0 ∷ [])) e1
     ∙ append_assoc base c (SkipIfFalse (length b + 1) ∷ (b ++ Jump 0 ∷ []))
 
+-- the place of the jump behind that part
+pub jump_place : (base c b : List Operation) (o : Operation) (jump : ℕ) (c1 c2 c3 : List Operation) → c1 ≡ base ++ c → c2 ≡ c1 ++ o ∷ [] → c3 ≡ c2 ++ b → jump ≡ length c3 → jump ≡ jump_of (length base) c b
+jump_place base c b o jump c1 c2 c3 e1 e2 e3 ej =
+    omega (
+      arith,
+      ej,
+      ap (λ (l : List Operation). length l) e1,
+      length-append base c,
+      ap (λ (l : List Operation). length l) e2,
+      length-append c1 (o ∷ []),
+      ap (λ (l : List Operation). length l) e3,
+      length-append c2 b,
+    )
+
 -- a loop's first jump is set behind its body, and its end goes back by the body and the condition
 pub loop_set : (base initial body until : List Operation) (jump : ℕ) (c1 c2 c3 c4 : List Operation) → c1 ≡ base ++ initial → jump ≡ length c1 → c2 ≡ c1 ++ Jump 0 ∷ [] → c3 ≡ c2 ++ body →
     c4 ≡ slice_set (c3 ++ (until ++ EndLoop (length c3 - jump - 1 + length until) ∷ [])) jump (Jump (length c3 - jump - 1)) →
