@@ -13,7 +13,6 @@ ghost use Rattle.sc_routines.specs.Settings.{setting_in};
 use crate::code::Code;
 use crate::instructions::needs::Needs;
 use crate::setting::Setting;
-use crate::sums::sum;
 use crate::text_sites::call_site;
 use crate::unlinked::UnlinkedOperation;
 use sc_code::{SiteKind, TextSite};
@@ -68,31 +67,21 @@ fn lower_qualified_call<'s>(
     setting: &Setting<'_, 's>,
     names: &mut Vec<Entity<'s>>,
     code: &mut Code<'s>,
-    site: TextSite,
+    call: &'s Call,
     target: &'s Expr,
-    name: &'s Name,
-    actuals: &'s [Expr],
 ) -> Result<Needs, AllocError>
     ensures code { let h = setting_in setting.now in let n = map entity_of names.old.items in
-        OnOk result (code.new ≡ code.old ++ qualified_call_code h n (expr_of target.now) (name_of name.now).text (exprs_of actuals.now)) }
+        OnOk result (code.new ≡ code.old ++ qualified_call_code h n (expr_of target.now) (name_of call.now.name).text (exprs_of call.now.actuals.items)) }
     ensures names { OnOk result (map entity_of names.new.items ≡ map entity_of names.old.items) }
     ensures depth { IfOk result (λ n. n.depth ≡ max (expr_depth (setting_in setting.now) (map entity_of names.old.items) 0 (expr_of target.now))
-        (suc (exprs_depth (setting_in setting.now) (map entity_of names.old.items) 0 (exprs_of actuals.now)))) }
+        (suc (exprs_depth (setting_in setting.now) (map entity_of names.old.items) 0 (exprs_of call.now.actuals.items)))) }
     ensures slots { IfOk result (λ n. n.slots ≡ 0) }
     ensures blocks { IfOk result (λ n. n.blocks ≡ 0) }
 {
     let target = setting.lower_expr(names, 0, code, target)?;
-    let lowered = setting.lower_actuals(names, 0, code, actuals)?;
-    setting.push_feature_call(
-        code,
-        site,
-        name.text.as_str(),
-        target.value,
-        &lowered.types,
-        actuals.len(),
-    )?;
-    let behind = sum(lowered.depth, 1)?;
-    Ok(Needs::of_operands(target.depth.max(behind)))
+    let actuals = setting.lower_actuals(names, 0, code, &call.actuals)?;
+    let called = setting.close_feature_call(code, call, target, &actuals)?;
+    Ok(Needs::of_operands(called.depth))
 }
 
 /// Lowers a call that is an instruction.
@@ -109,17 +98,11 @@ pub fn lower_call_instruction<'s>(
     ensures slots { IfOk result (λ n. n.slots ≡ 0) }
     ensures blocks { IfOk result (λ n. n.blocks ≡ 0) }
 {
-    let site = call_site(call);
     match &call.target {
-        None => lower_own_call(setting, names, code, site, &call.name, &call.actuals),
-        Some(target) => lower_qualified_call(
-            setting,
-            names,
-            code,
-            site,
-            target,
-            &call.name,
-            &call.actuals,
-        ),
+        None => {
+            let site = call_site(call);
+            lower_own_call(setting, names, code, site, &call.name, &call.actuals)
+        }
+        Some(target) => lower_qualified_call(setting, names, code, call, target),
     }
 }
