@@ -20,13 +20,13 @@ module _ (s : System) (r : Routine) (h0 h1 h2 : Setting) (n0 n1 n2 : Entities) (
   inside_is : h2 ≡ setting s r r.text (olds_of_routine s r)
   inside_is = e2 ∙ ap (λ (h : Setting). setting s r r.text h.olds) contract_is
 
-  pub whole_code : (c1 c2 c3 c4 : List Operation) → c1 ≡ require_code h0 n0 r.require ++ olds_code h0 n0 (olds_of_clauses r.ensure) →
+  pub whole_code : (c0 c1 c2 c3 c4 : List Operation) → c1 ≡ c0 ++ (require_code h0 n0 r.require ++ olds_code h0 n0 (olds_of_clauses r.ensure)) →
       c2 ≡ c1 ++ (declare_code (length n1) (locals_bound h2.system h2.text.formals r.locals) ++ instrs_code h2 (n1 ++ scope_of (locals_bound h2.system h2.text.formals r.locals)) r.body) →
-      c3 ≡ c2 ++ ensure_code h1 n2 0 r.ensure → c4 ≡ c3 ++ Exit ∷ [] → c4 ≡ routine_code s r
-  whole_code c1 c2 c3 c4 g1 g2 g3 g4 =
-      let first : c1 ≡ opening_code s r =
-      g1 ∙ ap (λ (h : Setting). require_code h n0 r.require ++ olds_code h n0 (olds_of_clauses r.ensure)) e0
-      ∙ ap (λ n. require_code (setting s r r.contract []) n r.require ++ olds_code (setting s r r.contract []) n (olds_of_clauses r.ensure)) f0 in
+      c3 ≡ c2 ++ ensure_code h1 n2 0 r.ensure → c4 ≡ c3 ++ Exit ∷ [] → c4 ≡ c0 ++ routine_code s r
+  whole_code c0 c1 c2 c3 c4 g1 g2 g3 g4 =
+      let first : c1 ≡ c0 ++ opening_code s r =
+      g1 ∙ ap (λ (h : Setting). c0 ++ (require_code h n0 r.require ++ olds_code h n0 (olds_of_clauses r.ensure))) e0
+      ∙ ap (λ n. c0 ++ (require_code (setting s r r.contract []) n r.require ++ olds_code (setting s r r.contract []) n (olds_of_clauses r.ensure))) f0 in
       let second : c2 ≡ c1 ++ (declare_code (length (formals_of s r)) (locals_of s r) ++ body_code s r) =
       g2 ∙ ap (λ (h : Setting). c1 ++ (declare_code (length n1) (locals_bound h.system h.text.formals r.locals) ++ instrs_code h (n1 ++ scope_of (locals_bound h.system h.text.formals r.locals)) r.body)) inside_is
       ∙ ap (λ (n : Entities). c1 ++ (declare_code (length n) (locals_of s r) ++ instrs_code (setting s r r.text (olds_of_routine s r)) (n ++ scope_of (locals_of s r)) r.body)) (f1 ∙ f0) in
@@ -36,7 +36,7 @@ module _ (s : System) (r : Routine) (h0 h1 h2 : Setting) (n0 n1 n2 : Entities) (
       let d = declare_code (length (formals_of s r)) (locals_of s r) in
       let b = body_code s r in
       let k = closing_code s r in
-      let flat : ((o ++ (d ++ b)) ++ k) ++ Exit ∷ [] ≡ o ++ (d ++ (b ++ (k ++ Exit ∷ []))) = simp append_assoc in
+      let flat : (((c0 ++ o) ++ (d ++ b)) ++ k) ++ Exit ∷ [] ≡ c0 ++ (o ++ (d ++ (b ++ (k ++ Exit ∷ [])))) = simp append_assoc in
       g4 ∙ ap (λ (l : List Operation). l ++ Exit ∷ []) (third ∙ ap (λ (l : List Operation). l ++ k) (second ∙ ap (λ (l : List Operation). l ++ (d ++ b)) first)) ∙ flat
 
   pub whole_depth : (d1 d2 d3 : ℕ) → d1 ≡ max (checks_depth h0 n0 r.require) (olds_depth h0 n0 (olds_of_clauses r.ensure)) →

@@ -13,14 +13,16 @@ use Rattle.sc_rules.specs.declared.entity_types.entity_type.EntityType.{EntityTy
 use Rattle.sc_rules.specs.CallRules.{count}
 use Rattle.sc_rules.specs.Names.{Assignee, Entities, FormalType, assignee, assignee_type, formal_type, given_type, signature_of, test_type}
 use Rattle.sc_rules.specs.Types.{declared_type}
+use Rattle.sc_model.specs.Environments.{scope_of}
 use Rattle.sc_model.specs.Instructions.{actuals_of, procedure_of}
 use Rattle.sc_model.specs.Olds.{olds_of_clauses}
 use Rattle.sc_model.specs.Operators.{is_short}
+use Rattle.sc_model.specs.Routines.{Routine}
 use Rattle.sc_routines.specs.declared.own_feature.OwnFeature.{OwnFeature}
 use Rattle.sc_routines.specs.declared.own_feature.OwnFeature.TheVariants as own
 use Rattle.sc_code.specs.Operations.{Operation, CallSite, PushSlot, Decide, Test, Open, Leave}
 use Rattle.sc_code.specs.Places.{Setting, expr_type, exprs_types, head_types, here, known_type, with_heads, with_test}
-use Rattle.sc_code.specs.Emitted.{assign_code, create_code, expr_code, exprs_code, feature_call, formal_slot, heads_code, instruction_call, instrs_code, names_of, olds_code, require_code, right_code, routine_call, site_of, store_code, tested, variable_slot}
+use Rattle.sc_code.specs.Emitted.{assign_code, create_code, declare_code, expr_code, exprs_code, feature_call, formal_slot, heads_code, instruction_call, instrs_code, locals_of, names_of, olds_code, require_code, right_code, routine_call, setting, site_of, store_code, tested, variable_slot}
 
 -- a call as an expression
 abbrev pub call_in : Call → Expr
@@ -115,3 +117,10 @@ slots_of n xs = filter_map (λ x. formal_slot x n) xs
 -- a precondition, and the `old`s of a postcondition
 abbrev pub contract_code : Setting → Entities → List Clause → List Clause → List Operation
 contract_code h n require ensure = require_code h n require ++ olds_code h n (olds_of_clauses ensure)
+
+-- ---- own texts
+
+-- the defaults of a routine's locals and its body, where `old`s of these types are kept
+abbrev pub own_code : System → Routine → List EntityType → Entities → List Operation
+own_code s r olds n =
+    declare_code (length n) (locals_of s r) ++ instrs_code (setting s r r.text olds) (n ++ scope_of (locals_of s r)) r.body

@@ -1,15 +1,17 @@
 -- What single functions of the lowering tell: the types of values, and what their code needs.
-use Rattle.std.specs.Prelude.{ℕ, ◌+◌, List, Option, Some, max}
+use Rattle.std.specs.Prelude.{ℕ, ◌+◌, List, ◌++◌, Option, Some, length, max}
 use Rattle.std.specs.Option.{option_and_then}
 use Rattle.sc_tree.specs.declared.expression.BinaryOperator.{BinaryOperator}
 use Rattle.sc_tree.specs.Plain.{System, Expr, Instrs, Clause, CreationCall}
 use Rattle.sc_class.specs.Tables.Features.{feature_named}
 use Rattle.sc_rules.specs.declared.entity_types.entity_type.EntityType.{EntityType}
 use Rattle.sc_rules.specs.Names.{Entities}
+use Rattle.sc_model.specs.Environments.{scope_of}
 use Rattle.sc_model.specs.Instructions.{actuals_of}
 use Rattle.sc_model.specs.Olds.{olds_of_clauses}
+use Rattle.sc_model.specs.Routines.{Routine}
 use Rattle.sc_code.specs.Places.{Setting, binary_type, feature_type, names_given}
-use Rattle.sc_code.specs.Emitted.{checks_depth, expr_depth, expr_slots, exprs_depth, instrs_depth, instrs_slots, olds_depth, operand_depth}
+use Rattle.sc_code.specs.Emitted.{checks_depth, expr_depth, expr_slots, exprs_depth, instrs_depth, instrs_slots, locals_of, olds_depth, operand_depth, setting}
 use Rattle.sc_routines.specs.declared.lowered.Lowered.{Lowered}
 use Rattle.sc_routines.specs.declared.lowered.LoweredActuals.{LoweredActuals}
 
@@ -56,3 +58,13 @@ creation_depth h n call = max 1 (exprs_depth h n 0 (actuals_of call))
 -- a precondition, and the `old`s of a postcondition
 abbrev pub contract_depth : Setting → Entities → List Clause → List Clause → ℕ
 contract_depth h n require ensure = max (checks_depth h n require) (olds_depth h n (olds_of_clauses ensure))
+
+-- ---- own texts
+
+-- a routine's body, where `old`s of these types are kept
+abbrev pub own_depth : System → Routine → List EntityType → Entities → ℕ
+own_depth s r olds n = instrs_depth (setting s r r.text olds) (n ++ scope_of (locals_of s r)) r.body
+
+abbrev pub own_slots : System → Routine → List EntityType → Entities → ℕ
+own_slots s r olds n =
+    max (length n + length (locals_of s r)) (instrs_slots (setting s r r.text olds) (n ++ scope_of (locals_of s r)) r.body)

@@ -9,13 +9,14 @@ ghost use Rattle.sc_model.specs.Olds as model;
 ghost use Rattle.sc_model.specs.Routines.{text_of};
 ghost use Rattle.sc_code.specs.Emitted as emitted;
 ghost use Rattle.sc_code.specs.Room.{routine_blocks, routine_olds};
-ghost use Rattle.sc_routines.specs.Parts.{contract_code};
+ghost use Rattle.sc_routines.specs.Parts.{contract_code, own_code};
 ghost use Rattle.sc_routines.specs.Settings.{setting_in, with_olds};
 ghost use Rattle.sc_routines.specs.Sources.{source_in};
-ghost use Rattle.sc_routines.specs.Told.{contract_depth};
+ghost use Rattle.sc_routines.specs.Told.{contract_depth, own_depth, own_slots};
 
 use crate::calls::known_type;
 use crate::code::Code;
+use crate::instructions::needs::Needs;
 use crate::routine::body::lower_body;
 use crate::routine::olds::{lower_olds, olds_of_clauses};
 use crate::routine::postcondition::lower_postcondition;
@@ -50,6 +51,15 @@ pub struct LoweredRoutine<'s> {
     pub olds: usize,
     /// How many of its separate blocks are open at once at most.
     pub blocks: usize,
+}
+
+/// What a routine needs.
+#[derive(Clone, Copy)]
+struct RoutineNeeds {
+    depth: usize,
+    slots: usize,
+    olds: usize,
+    blocks: usize,
 }
 
 /// What the part in front of a routine's locals needs.
@@ -142,41 +152,81 @@ fn lower_source<'t, 's>(
     ensures olds { let s = system_in tables.now in IfOk result (λ r. r.olds ≡ routine_olds (source_in s source.now)) }
     ensures blocks { let s = system_in tables.now in IfOk result (λ r. r.blocks ≡ routine_blocks (source_in s source.now)) }
 {
-    let own = source.routine;
-    let kept = source.contract;
     let mut names = Vec::new(alloc);
-    add_formals(tables, &own.formals, &mut names)?;
+    add_formals(tables, &source.routine.formals, &mut names)?;
     let mut code = Code::new(alloc);
+    let needs = lower_texts(alloc, tables, purity, source, &mut names, &mut code)?;
+    Ok(LoweredRoutine {
+        code,
+        depth: needs.depth,
+        slots: needs.slots,
+        olds: needs.olds,
+        blocks: needs.blocks,
+    })
+}
+
+/// Lowers the contract and the body of a routine whose formals are known, and its exit.
+fn lower_texts<'t, 's>(
+    alloc: Global,
+    tables: &'t Tables<'s>,
+    purity: &'t Purity<'t, 's>,
+    source: &RoutineSource<'s>,
+    names: &mut Vec<Entity<'s>>,
+    code: &mut Code<'s>,
+) -> Result<RoutineNeeds, AllocError>
+    requires { let s = system_in tables.now in map entity_of names.old.items ≡ emitted.formals_of s (source_in s source.now) }
+    ensures code { let s = system_in tables.now in OnOk result (code.new ≡ code.old ++ emitted.routine_code s (source_in s source.now)) }
+    ensures depth { let s = system_in tables.now in IfOk result (λ n. n.depth ≡ emitted.routine_depth s (source_in s source.now)) }
+    ensures slots { let s = system_in tables.now in IfOk result (λ n. n.slots ≡ emitted.routine_slots s (source_in s source.now)) }
+    ensures olds { let s = system_in tables.now in IfOk result (λ n. n.olds ≡ routine_olds (source_in s source.now)) }
+    ensures blocks { let s = system_in tables.now in IfOk result (λ n. n.blocks ≡ routine_blocks (source_in s source.now)) }
+{
+    let kept = source.contract;
     let none = Vec::new(alloc);
-    let mut contract = setting_of(
-        alloc,
-        tables,
-        purity,
-        source,
-        source.contract_class,
-        kept,
-        none,
-    );
+    let class = source.contract_class;
+    let mut contract = setting_of(alloc, tables, purity, source, class, kept, none);
     let opening = lower_opening(
         &mut contract,
-        &mut names,
-        &mut code,
+        names,
+        code,
         source.span,
         &kept.precondition,
         &kept.postcondition,
     )?;
-    let olds = contract.olds.clone()?;
-    let inside = setting_of(alloc, tables, purity, source, source.class, own, olds);
-    let body = lower_body(&inside, &mut names, &mut code, &own.locals, &own.body)?;
-    let closing = lower_postcondition(&contract, &mut names, &mut code, &kept.postcondition)?;
+    let body = lower_own_text(alloc, tables, purity, source, &contract.olds, names, code)?;
+    let closing = lower_postcondition(&contract, names, code, &kept.postcondition)?;
     let kind = SiteKind::End;
     let span = source.span;
     code.push(TextSite { span, kind }, UnlinkedOperation::Exit)?;
-    Ok(LoweredRoutine {
-        code,
+    Ok(RoutineNeeds {
         depth: opening.depth.max(body.depth.max(closing)),
         slots: body.slots,
         olds: opening.olds,
         blocks: body.blocks,
     })
+}
+
+/// Lowers the defaults of a routine's locals and its body, where its formals are known and `old`s of these types are kept.
+fn lower_own_text<'t, 's>(
+    alloc: Global,
+    tables: &'t Tables<'s>,
+    purity: &'t Purity<'t, 's>,
+    source: &RoutineSource<'s>,
+    olds: &[EntityType],
+    names: &mut Vec<Entity<'s>>,
+    code: &mut Code<'s>,
+) -> Result<Needs, AllocError>
+    ensures code { let s = system_in tables.now in let r = source_in s source.now in let n = map entity_of names.old.items in
+        OnOk result (code.new ≡ code.old ++ own_code s r olds.now n) }
+    ensures names { OnOk result (map entity_of names.new.items ≡ map entity_of names.old.items) }
+    ensures depth { let s = system_in tables.now in let r = source_in s source.now in let n = map entity_of names.old.items in
+        IfOk result (λ l. l.depth ≡ own_depth s r olds.now n) }
+    ensures slots { let s = system_in tables.now in let r = source_in s source.now in let n = map entity_of names.old.items in
+        IfOk result (λ l. l.slots ≡ own_slots s r olds.now n) }
+    ensures blocks { let s = system_in tables.now in IfOk result (λ l. l.blocks ≡ routine_blocks (source_in s source.now)) }
+{
+    let own = source.routine;
+    let olds = Vec::from_slice(alloc, olds)?;
+    let inside = setting_of(alloc, tables, purity, source, source.class, own, olds);
+    lower_body(&inside, names, code, &own.locals, &own.body)
 }
