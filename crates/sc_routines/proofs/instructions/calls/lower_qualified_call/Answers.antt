@@ -1,4 +1,4 @@
-use Rattle.std.proofs.Common.{ℕ, List, ◌+◌, ◌++◌, length, map, suc, refl, ap, ◌∙◌, add-one}
+use Rattle.std.proofs.Common.{List, ◌+◌, ◌++◌, length, map, suc, refl, ap, ◌∙◌, add-one}
 use Rattle.sc_tree.specs.declared.expression.Expr.{Expr}
 use Rattle.sc_tree.specs.View.{expr_of, exprs_of, name_of}
 use Rattle.sc_rules.specs.Names.{Entities}
