@@ -64,17 +64,24 @@ fn print_and_record<'a, F: Files, O: Write, E: Write>(
             Err(Fault::CannotRecord(recording.name, error, None))
         }
         Ok(writer) => match print(answer, out, err) {
-            Ok(()) => match write_lines(files, writer, recording.lines.as_slice()) {
-                Ok(()) => Ok(()),
-                Err((error, remains)) => {
-                    Err(Fault::CannotRecord(recording.name, error, Some(remains)))
-                }
-            },
+            Ok(()) => write_recording(files, writer, recording),
             Err(fault) => {
                 files.discard(writer);
                 Err(fault)
             }
         },
+    }
+}
+
+/// Writes a record, in place of what the file of its name held.
+fn write_recording<'a, F: Files>(
+    files: &F,
+    writer: F::Writer,
+    recording: &Recording<'a>,
+) -> Result<(), Fault<'a>> {
+    match write_lines(files, writer, recording.lines.as_slice()) {
+        Ok(()) => Ok(()),
+        Err((error, remains)) => Err(Fault::CannotRecord(recording.name, error, Some(remains))),
     }
 }
 
