@@ -1,6 +1,7 @@
 -- What is answered to what is asked for, and what leaves the program.
-use Rattle.std.proofs.Common.{ℕ, ◌≡◌, ◌∙◌, inl, inr, List, [], Option, Some, None, Result, Ok, Err, IfOk, append-nil, refl, sym}
+use Rattle.std.proofs.Common.{ℕ, ◌≡◌, ◌∙◌, inl, inr, List, [], Option, Some, None, Result, Ok, Err, IfOk, append-nil, refl, subst, sym}
 use Rattle.std.specs.Prelude.{OnErr}
+use Rattle.std.specs.Option.{option_map}
 use Rattle.std.specs.Borrow.{Bor}
 use Rattle.std.specs.declared.alloc.Global.{Global}
 use Rattle.std.specs.declared.vec.Vec.{Vec}
@@ -13,14 +14,43 @@ use Rattle.sc_arguments.specs.declared.arguments.Invocation.{Invocation}
 use Rattle.sc_arguments.specs.declared.arguments.Invocation.TheVariants as invocation
 use Rattle.sc_arguments.specs.declared.arguments.ReplayOptions.{ReplayOptions}
 use Rattle.sc_arguments.specs.declared.arguments.RunOptions.{RunOptions}
+use Rattle.sc_arguments.specs.declared.arguments.format.Format.{Format}
+use Rattle.sc_arguments.specs.declared.arguments.format.Format.TheVariants.{Text}
 use Rattle.sc_arguments.specs.declared.arguments.searching.SearchOptions.{SearchOptions}
 use Rattle.sc_class.specs.View.{root_of}
 use Rattle.sc_serve.specs.Answer.{IsAnswerOn, IsReplayOn, IsRunOn}
 use Rattle.sc_serve.specs.Search.{IsSearchOn}
-use Rattle.sc_serve.specs.Served.{Answers, IsAs, IsDelivered, IsFormatted, IsGivenUp, IsResponse, IsServed, format_of, held_by, named}
+use Rattle.sc_serve.specs.Served.{Answers, IsDelivered, IsExplained, IsFormatted, IsGivenUp, IsHelp, IsResponse, IsServed, format_asked, held_by, named}
 use Rattle.sc_serve.specs.declared.serve.Answer.{Answer}
 use Rattle.sc_serve.specs.declared.serve.Exit.TheVariants.{Done}
 use Rattle.sc_serve.specs.declared.serve.Fault.{Fault}
+
+-- ---- what is answered to what is asked for
+
+pub files_answered : (bytes_of : List ℕ → Option (List ℕ)) (what : Command) (names : Vec (Bor (List ℕ)) Global) (r : Result Answer Fault) →
+    IfOk r (λ answer. IsAnswerOn what (named names.items) (held_by bytes_of names.items) answer.text.items answer.exit) →
+    IfOk r (λ answer. (answer.record ≡ None) × (answer.object ≡ None)) → IfOk r (Answers bytes_of (invocation.OnFiles what names))
+files_answered bytes_of what names (Ok answer) is plain = (is, plain.0, λ text. plain.1)
+files_answered bytes_of what names (Err fault) is plain = tt
+
+pub run_answered : (bytes_of : List ℕ → Option (List ℕ)) (options : RunOptions) (names : Vec (Bor (List ℕ)) Global) (r : Result Answer Fault) →
+    IfOk r (λ answer. IsRunOn options (named names.items) (held_by bytes_of names.items) answer.text.items answer.exit answer.record) →
+    IfOk r (λ answer. answer.object ≡ None) → IfOk r (Answers bytes_of (invocation.Run options names))
+run_answered bytes_of options names (Ok answer) is plain = (is, λ text. plain)
+run_answered bytes_of options names (Err fault) is plain = tt
+
+pub replay_answered : (bytes_of : List ℕ → Option (List ℕ)) (options : ReplayOptions) (names : Vec (Bor (List ℕ)) Global) (r : Result Answer Fault) →
+    IfOk r (λ answer. IsReplayOn (root_of options.root) (bytes_of options.record.now) (named names.items) (held_by bytes_of names.items)
+    answer.text.items answer.exit) →
+    IfOk r (λ answer. (answer.record ≡ None) × (answer.object ≡ None)) → IfOk r (Answers bytes_of (invocation.Replay options names))
+replay_answered bytes_of options names (Ok answer) is plain = (is, plain.0, λ text. plain.1)
+replay_answered bytes_of options names (Err fault) is plain = tt
+
+pub search_answered : (bytes_of : List ℕ → Option (List ℕ)) (options : SearchOptions) (names : Vec (Bor (List ℕ)) Global) (r : Result Answer Fault) →
+    IfOk r (λ answer. IsSearchOn options (named names.items) (held_by bytes_of names.items) answer.text.items answer.exit answer.record) →
+    (options.format ≡ Text → IfOk r (λ answer. answer.object ≡ None)) → IfOk r (Answers bytes_of (invocation.Search options names))
+search_answered bytes_of options names (Ok answer) is plain = (is, plain)
+search_answered bytes_of options names (Err fault) is plain = tt
 
 -- ---- an object in place of lines
 
@@ -28,45 +58,31 @@ use Rattle.sc_serve.specs.declared.serve.Fault.{Fault}
 moved : {A B C : Type 0} (P : A → B → C → Type 0) (a a2 : A) (b b2 : B) (c c2 : C) → a2 ≡ a → b2 ≡ b → c2 ≡ c → P a b c → P a2 b2 c2
 moved P a a2 b b2 c c2 ea eb ec is = rw (ea, eb, ec) is
 
-pub files_answered : (bytes_of : List ℕ → Option (List ℕ)) (what : Command) (names : Vec (Bor (List ℕ)) Global) (answer : Answer)
-    (r : Result Answer Fault) → IsAnswerOn what (named names.items) (held_by bytes_of names.items) answer.text.items answer.exit →
-    (answer.record ≡ None) × (answer.object ≡ None) → IfOk r (IsFormatted (format_of what) answer) →
-    IfOk r (Answers bytes_of (invocation.OnFiles what names))
-files_answered bytes_of what names answer (Ok told) is plain same =
-    (rw (same.text, same.exit) is, same.kept ∙ plain.0, λ text. same.object text ∙ plain.1)
-files_answered bytes_of what names answer (Err fault) is plain same = tt
+-- what is explained is told as lines
+explained : (word : Option (List ℕ)) (answer told : Answer) → IsExplained word answer → IsFormatted Text answer told → IsExplained word told
+explained None answer told is same = (same.exit ∙ is.0, same.kept ∙ is.1, same.object refl ∙ is.2)
+explained (Some word) answer told is same = (rw same.text is.0, same.exit ∙ is.1, same.kept ∙ is.2, same.object refl ∙ is.3)
 
-pub run_answered : (bytes_of : List ℕ → Option (List ℕ)) (options : RunOptions) (names : Vec (Bor (List ℕ)) Global) (answer : Answer)
-    (r : Result Answer Fault) →
-    IsRunOn options (named names.items) (held_by bytes_of names.items) answer.text.items answer.exit answer.record →
-    answer.object ≡ None → IfOk r (IsFormatted options.format answer) → IfOk r (Answers bytes_of (invocation.Run options names))
-run_answered bytes_of options names answer (Ok told) is plain same = (
+-- what is answered is answered with an object too, where that is asked for
+pub formatted : (bytes_of : List ℕ → Option (List ℕ)) (what : Invocation) (format : Format) (answer : Answer) (r : Result Answer Fault) →
+    format ≡ format_asked what → Answers bytes_of what answer → IfOk r (IsFormatted format answer) → IfOk r (Answers bytes_of what)
+formatted bytes_of what format answer (Err fault) e is same = tt
+formatted bytes_of (invocation.OnFiles what names) format answer (Ok told) e is same =
+    (rw (same.text, same.exit) is.0, same.kept ∙ is.1, λ text. same.object (e ∙ text) ∙ is.2 text)
+formatted bytes_of (invocation.Run options names) format answer (Ok told) e is same = (
   moved (λ text exit kept. IsRunOn options (named names.items) (held_by bytes_of names.items) text.items exit kept) answer.text told.text answer.exit
-      told.exit answer.record told.record same.text same.exit same.kept is,
-  λ text. same.object text ∙ plain,
+      told.exit answer.record told.record same.text same.exit same.kept is.0,
+  λ text. same.object (e ∙ text) ∙ is.1 text,
 )
-run_answered bytes_of options names answer (Err fault) is plain same = tt
-
-pub replay_answered : (bytes_of : List ℕ → Option (List ℕ)) (options : ReplayOptions) (names : Vec (Bor (List ℕ)) Global) (answer : Answer)
-    (r : Result Answer Fault) →
-    IsReplayOn (root_of options.root) (bytes_of options.record.now) (named names.items) (held_by bytes_of names.items) answer.text.items
-    answer.exit →
-    (answer.record ≡ None) × (answer.object ≡ None) → IfOk r (IsFormatted options.format answer) →
-    IfOk r (Answers bytes_of (invocation.Replay options names))
-replay_answered bytes_of options names answer (Ok told) is plain same =
-    (rw (same.text, same.exit) is, same.kept ∙ plain.0, λ text. same.object text ∙ plain.1)
-replay_answered bytes_of options names answer (Err fault) is plain same = tt
-
-pub search_answered : (bytes_of : List ℕ → Option (List ℕ)) (options : SearchOptions) (names : Vec (Bor (List ℕ)) Global) (answer : Answer)
-    (r : Result Answer Fault) →
-    IsSearchOn options (named names.items) (held_by bytes_of names.items) answer.text.items answer.exit answer.record →
-    IsAs options.format answer → IfOk r (IsFormatted options.format answer) → IfOk r (Answers bytes_of (invocation.Search options names))
-search_answered bytes_of options names answer (Ok told) is plain same = (
+formatted bytes_of (invocation.Replay options names) format answer (Ok told) e is same =
+    (rw (same.text, same.exit) is.0, same.kept ∙ is.1, λ text. same.object (e ∙ text) ∙ is.2 text)
+formatted bytes_of (invocation.Search options names) format answer (Ok told) e is same = (
   moved (λ text exit kept. IsSearchOn options (named names.items) (held_by bytes_of names.items) text.items exit kept) answer.text told.text
-      answer.exit told.exit answer.record told.record same.text same.exit same.kept is,
-  λ text. same.object text ∙ plain text,
+      answer.exit told.exit answer.record told.record same.text same.exit same.kept is.0,
+  λ text. same.object (e ∙ text) ∙ is.1 text,
 )
-search_answered bytes_of options names answer (Err fault) is plain same = tt
+formatted bytes_of (invocation.Explain word) format answer (Ok told) e is same =
+    explained (option_map (λ w. w.now) word) answer told is (subst (λ f. IsFormatted f answer told) e same)
 
 -- ---- what is answered to arguments
 
@@ -75,9 +91,14 @@ pub response : (arguments : List (List ℕ)) (bytes_of : List ℕ → Option (Li
 response arguments bytes_of what (Ok answer) asked is = inl (what, asked, is)
 response arguments bytes_of what (Err fault) asked is = tt
 
-pub help : (arguments : List (List ℕ)) (bytes_of : List ℕ → Option (List ℕ)) (answer : Answer) → AskForHelp arguments → answer.exit ≡ Done →
-    answer.record ≡ None → answer.object ≡ None → IsResponse arguments bytes_of answer
-help arguments bytes_of answer asked exit kept object = inr (record { asked = asked; exit = exit; kept = kept; object = object })
+pub help : (arguments : List (List ℕ)) (answer : Answer) → AskForHelp arguments → answer.exit ≡ Done → answer.record ≡ None → answer.object ≡ None →
+    IsHelp arguments answer
+help arguments answer asked exit kept object = record { asked = asked; exit = exit; kept = kept; object = object }
+
+pub helped : (arguments : List (List ℕ)) (bytes_of : List ℕ → Option (List ℕ)) (r : Result Answer Fault) → IfOk r (IsHelp arguments) →
+    IfOk r (IsResponse arguments bytes_of)
+helped arguments bytes_of (Ok answer) is = inr is
+helped arguments bytes_of (Err fault) is = tt
 
 -- ---- what leaves the program
 

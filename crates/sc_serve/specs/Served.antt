@@ -27,6 +27,14 @@ abbrev pub format_of : Command → Format
 format_of (command.Check options) = options.format
 format_of command.Print = Text
 
+-- the format that an answer is asked for in
+abbrev pub format_asked : Invocation → Format
+format_asked (invocation.OnFiles what names) = format_of what
+format_asked (invocation.Run options names) = options.format
+format_asked (invocation.Replay options names) = options.format
+format_asked (invocation.Search options names) = options.format
+format_asked (invocation.Explain word) = Text
+
 -- what files of these names hold, where it is known
 abbrev pub held_by : (List ℕ → Option (List ℕ)) → List (Bor (List ℕ)) → List (Option (List ℕ))
 held_by bytes_of names = map (λ name. bytes_of name.now) names

@@ -8,7 +8,7 @@ ghost use Rattle.sc_class.specs.View.{root_of};
 ghost use Rattle.sc_lower.specs.Lowerings.{image_of};
 ghost use Rattle.sc_serve.specs.Answer.{IsAnswerOn, IsAnswerTo, IsRefusalOf, IsRejectedFor, too_long};
 ghost use Rattle.sc_serve.specs.Answer.{IsBadRecord, IsRecordUnread, IsReplayOn, IsReplayTo, IsUnansweredOn, IsUnplayed, IsUnplayedRecord, IsUnread, TellsBadRecord};
-ghost use Rattle.sc_serve.specs.Served.{Answers, IsExplained, IsFormatted, IsGivenUp, IsResponse, IsServed, format_of};
+ghost use Rattle.sc_serve.specs.Served.{Answers, IsExplained, IsFormatted, IsGivenUp, IsHelp, IsResponse, IsServed, format_asked, format_of};
 
 use crate::delivery::deliver;
 use crate::json::answer_object;
@@ -258,7 +258,7 @@ fn why_unwritten(kind: ErrorKind) -> &'static str {
 }
 
 /// What is answered to the arguments: what they ask for, or help where they ask for that.
-#[tactic(auto, using(crate::proofs::ServedLemmas::response, crate::proofs::ServedLemmas::help))]
+#[tactic(auto, using(crate::proofs::ServedLemmas::response, crate::proofs::ServedLemmas::helped))]
 fn respond<'a, R: Threads + Wait + Clock + Sync + AllocGlobal, S: AsStr, F: Files, W: Watch + Tell>(
     rt: &R,
     arguments: &'a [S],
@@ -271,16 +271,44 @@ fn respond<'a, R: Threads + Wait + Clock + Sync + AllocGlobal, S: AsStr, F: File
     let alloc = rt.alloc();
     match read_arguments(alloc, arguments, explains) {
         Ok(invocation) => answer_to(rt, alloc, &invocation, files, watch),
-        Err(UsageFault::Arguments(error)) if !error.use_stderr() && ask_for_help(arguments) => {
-            let text = error.to_string(alloc)?.into_bytes();
-            Ok(Answer::new(alloc, text, Exit::Done))
-        }
-        Err(fault) => Err(Fault::Usage(fault)),
+        Err(fault) => answer_unasked(alloc, arguments, fault),
     }
 }
 
-/// Does what is asked for.
+/// What is answered to arguments that ask for nothing to be done: help, where they ask for that.
+#[tactic(auto, using(crate::proofs::ServedLemmas::help))]
+fn answer_unasked<'a, S: AsStr>(
+    alloc: Global,
+    arguments: &[S],
+    fault: UsageFault,
+) -> Result<Answer<'a>, Fault<'a>>
+    ensures { IfOk result (IsHelp (map S.text arguments.now)) }
+{
+    match fault {
+        UsageFault::Arguments(error) if !error.use_stderr() && ask_for_help(arguments) => {
+            let text = error.to_string(alloc)?.into_bytes();
+            Ok(Answer::new(alloc, text, Exit::Done))
+        }
+        fault => Err(Fault::Usage(fault)),
+    }
+}
+
+/// Does what is asked for, and answers in the format that is asked for.
 fn answer_to<'a, R: Threads + Wait + Clock + Sync, F: Files, W: Watch + Tell>(
+    rt: &R,
+    alloc: Global,
+    invocation: &Invocation<'a>,
+    files: &F,
+    watch: &mut W,
+) -> Result<Answer<'a>, Fault<'a>>
+    ensures { IfOk result (Answers (F.bytes_of files.now) invocation.now) }
+{
+    let answer = answer_unformatted(rt, alloc, invocation, files, watch)?;
+    formatted(alloc, format_asked(invocation), answer)
+}
+
+/// Does what is asked for.
+fn answer_unformatted<'a, R: Threads + Wait + Clock + Sync, F: Files, W: Watch + Tell>(
     rt: &R,
     alloc: Global,
     invocation: &Invocation<'a>,
@@ -291,22 +319,31 @@ fn answer_to<'a, R: Threads + Wait + Clock + Sync, F: Files, W: Watch + Tell>(
 {
     match invocation {
         Invocation::OnFiles(command, names) => {
-            let answer = answer_on_files(alloc, command, files, names.as_slice())?;
-            formatted(alloc, format_of(command), answer)
+            answer_on_files(alloc, command, files, names.as_slice())
         }
         Invocation::Run(options, names) => {
-            let answer = answer_run(rt, alloc, options, files, names.as_slice(), watch)?;
-            formatted(alloc, options.format, answer)
+            answer_run(rt, alloc, options, files, names.as_slice(), watch)
         }
         Invocation::Replay(options, names) => {
-            let answer = answer_replay(alloc, options, files, names.as_slice(), watch)?;
-            formatted(alloc, options.format, answer)
+            answer_replay(alloc, options, files, names.as_slice(), watch)
         }
         Invocation::Search(options, names) => {
-            let answer = answer_search(alloc, options, files, names.as_slice(), watch)?;
-            formatted(alloc, options.format, answer)
+            answer_search(alloc, options, files, names.as_slice(), watch)
         }
         Invocation::Explain(word) => explain(alloc, *word),
+    }
+}
+
+/// The format that is asked for.
+fn format_asked(invocation: &Invocation<'_>) -> Format
+    ensures { result ≡ format_asked invocation.now }
+{
+    match invocation {
+        Invocation::OnFiles(command, _) => format_of(command),
+        Invocation::Run(options, _) => options.format,
+        Invocation::Replay(options, _) => options.format,
+        Invocation::Search(options, _) => options.format,
+        Invocation::Explain(_) => Format::Text,
     }
 }
 
