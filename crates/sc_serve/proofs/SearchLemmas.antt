@@ -6,28 +6,34 @@ use Rattle.sc_code.specs.declared.program.Image.{Image}
 use Rattle.sc_frontend.specs.Texts.{IsLoaded, IsNotRunFor}
 use Rattle.sc_frontend.specs.declared.rejection.Rejection.{Rejection}
 use Rattle.sc_serve.specs.Answer.{IsRefusalOf, IsSourceOf, TellsTooLong}
-use Rattle.sc_serve.specs.Search.{IsSearchOf, IsSearchOn}
+use Rattle.sc_serve.specs.Search.{IsSearchOf, IsSearchOfSource, IsSearchOn}
 use Rattle.sc_serve.specs.declared.serve.Answer.{Answer}
 use Rattle.sc_serve.specs.declared.serve.Fault.{Fault}
 use Rattle.sc_source.specs.Source.{File, joined}
 
--- what is answered to a search of the program of the files' source text is answered on the files
-pub searched_on_files : (options : SearchOptions) (names : List (List ℕ)) (held : List (Option (List ℕ))) (source : List File) (program : Image)
-    (r : Result Answer Fault) → IsSourceOf names held source → IsLoaded (joined source) (root_of options.root) program →
+-- what is answered to a search of the program of a source text is answered on the text
+pub searched : (options : SearchOptions) (source : List File) (program : Image) (r : Result Answer Fault) →
+    IsLoaded (joined source) (root_of options.root) program →
     IfOk r (λ answer. IsSearchOf program options answer.text.items answer.exit answer.record) →
-    IfOk r (λ answer. IsSearchOn options names held answer.text.items answer.exit answer.record)
-searched_on_files options names held source program (Ok answer) of_them loaded searched =
-    inl (source, of_them, inl (record { program = program; loaded = loaded; searched = searched }))
-searched_on_files options names held source program (Err fault) of_them loaded searched = tt
+    IfOk r (λ answer. IsSearchOfSource options source answer.text.items answer.exit answer.record)
+searched options source program (Ok answer) loaded of_it = inl (record { program = program; loaded = loaded; searched = of_it })
+searched options source program (Err fault) loaded of_it = tt
 
--- and so is what keeps that text from being searched
-pub not_searched_on_files : (options : SearchOptions) (names : List (List ℕ)) (held : List (Option (List ℕ))) (source : List File) (why : Rejection)
-    (r : Result Answer Fault) → IsSourceOf names held source → IsNotRunFor (joined source) (root_of options.root) why →
-    IfOk r (λ answer. IsRefusalOf source why answer.text.items answer.exit) → IfOk r (λ answer. answer.record ≡ None) →
+-- and so is what keeps it from being searched
+pub not_searched : (options : SearchOptions) (source : List File) (why : Rejection) (r : Result Answer Fault) →
+    IsNotRunFor (joined source) (root_of options.root) why → IfOk r (λ answer. IsRefusalOf source why answer.text.items answer.exit) →
+    IfOk r (λ answer. answer.record ≡ None) →
+    IfOk r (λ answer. IsSearchOfSource options source answer.text.items answer.exit answer.record)
+not_searched options source why (Ok answer) is refused unkept = inr (record { why = why; true_of = is; refused = refused; unkept = unkept })
+not_searched options source why (Err fault) is refused unkept = tt
+
+-- what is answered on the files' source text is answered on the files
+pub searched_on_files : (options : SearchOptions) (names : List (List ℕ)) (held : List (Option (List ℕ))) (source : List File)
+    (r : Result Answer Fault) → IsSourceOf names held source →
+    IfOk r (λ answer. IsSearchOfSource options source answer.text.items answer.exit answer.record) →
     IfOk r (λ answer. IsSearchOn options names held answer.text.items answer.exit answer.record)
-not_searched_on_files options names held source why (Ok answer) of_them is refused unkept =
-    inl (source, of_them, inr (record { why = why; true_of = is; refused = refused; unkept = unkept }))
-not_searched_on_files options names held source why (Err fault) of_them is refused unkept = tt
+searched_on_files options names held source (Ok answer) of_them told = inl (source, of_them, told)
+searched_on_files options names held source (Err fault) of_them told = tt
 
 -- files whose text is too long
 pub too_long_to_search : (options : SearchOptions) (names : List (List ℕ)) (held : List (Option (List ℕ))) (r : Result Answer Fault) →

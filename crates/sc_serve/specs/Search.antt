@@ -131,11 +131,15 @@ pub record IsNotSearched (root : Root) (source : List File) (output : List ℕ) 
   pub refused : IsRefusalOf source why output exit
   pub unkept : recording ≡ None
 
+-- What is answered to a search on the source text of these files: its program is searched, or something is at fault in it.
+abbrev pub IsSearchOfSource : SearchOptions → List File → List ℕ → Exit → Option Recording → Type 0
+IsSearchOfSource options source output exit recording =
+    IsSearchFrom options (joined source) output exit recording
+    ⊎ IsNotSearched (root_of options.root) source output exit recording
+
 -- What is answered to a search of files of these names, which hold this.
 abbrev pub IsSearchOn :
     SearchOptions → List (List ℕ) → List (Option (List ℕ)) → List ℕ → Exit → Option Recording → Type 0
 IsSearchOn options names held output exit recording =
-    ((source : List File) × IsSourceOf names held source
-    × (IsSearchFrom options (joined source) output exit recording
-    ⊎ IsNotSearched (root_of options.root) source output exit recording))
+    ((source : List File) × IsSourceOf names held source × IsSearchOfSource options source output exit recording)
     ⊎ (TellsTooLong held output exit × (recording ≡ None))

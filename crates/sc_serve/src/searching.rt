@@ -5,7 +5,7 @@ ghost use Rattle.std.specs.Option.{option_map};
 ghost use Rattle.sc_lower.specs.Lowerings.{image_of};
 ghost use Rattle.sc_serve.specs.Answer.{IsUnansweredOn, kept_of, out_of_memory};
 ghost use Rattle.sc_serve.specs.Search as spec;
-ghost use Rattle.sc_serve.specs.Search.{IsSearchOf, IsSearchOn, IsTold};
+ghost use Rattle.sc_serve.specs.Search.{IsSearchOf, IsSearchOfSource, IsSearchOn, IsTold};
 
 use crate::json::search_object;
 use crate::serve::{Answer, Exit, Fault, Recording, answer_explained, answer_unread, root_if};
@@ -36,15 +36,29 @@ pub fn answer_search<'a, F: Files, W: Watch>(
     ensures unanswered { let held = map (λ name. F.bytes_of files.now name.now) names.now in
         IfErr result (IsUnansweredOn (map (λ name. name.now) names.now) held) }
 {
-    let source = match read_source(alloc, files, names) {
-        Ok(source) => source,
-        Err(fault) => return answer_unread(alloc, names, fault, options.is_explained),
-    };
+    match read_source(alloc, files, names) {
+        Ok(source) => search_source(alloc, options, &source, watch),
+        Err(fault) => answer_unread(alloc, names, fault, options.is_explained),
+    }
+}
+
+/// Plays the system of a source text in every order of turns.
+fn search_source<'a, W: Watch>(
+    alloc: Global,
+    options: &SearchOptions<'a>,
+    source: &Source,
+    watch: &mut W,
+) -> Result<Answer<'a>, Fault<'a>>
+    ensures answer { IfOk result (λ answer.
+        IsSearchOfSource options.now source.now answer.text.items answer.exit answer.record) }
+    ensures object { options.now.format ≡ Format.Text → IfOk result (λ answer. answer.object ≡ None) }
+    ensures unanswered { IfErr result (λ fault. fault ≡ out_of_memory) }
+{
     match load_text(alloc, source.text(), &options.root) {
-        Ok(program) => search_loaded(alloc, &program, options, &source, watch),
+        Ok(program) => search_loaded(alloc, &program, options, source, watch),
         Err(rejection) => {
             let explained = root_if(options.is_explained, &options.root);
-            answer_explained(alloc, &source, &rejection, explained)
+            answer_explained(alloc, source, &rejection, explained)
         }
     }
 }
