@@ -10,7 +10,10 @@ use Rattle.std.specs.Prelude.{IfErr, IfSome, OnOk}
 use Rattle.sc_audit.specs.declared.beginning.ReadFault.{ReadFault}
 use Rattle.sc_audit.specs.declared.beginning.ReadFault.TheVariants as reading
 use Rattle.sc_audit.specs.Reading.{IsReadFault}
-use Rattle.sc_audit.specs.Records.{IsRecordText}
+use Rattle.sc_audit.specs.Records.{IsRecord, IsRecordText, text_of}
+use Rattle.sc_audit.specs.declared.line.RecordLine.{RecordLine}
+use Rattle.sc_lockpass.specs.declared.version.Version.{Version}
+use Rattle.sc_serve.specs.declared.serve.Exit.{Exit}
 use Rattle.sc_class.specs.ClassNames.{Root}
 use Rattle.sc_code.specs.declared.program.Image.{Image}
 use Rattle.sc_frontend.specs.Texts.{IsLoaded, IsNotRunFor}
@@ -22,7 +25,7 @@ use Rattle.sc_frontend.specs.declared.rejection.Rejection.TheVariants as rejecti
 use Rattle.sc_arguments.specs.declared.arguments.Command.{Command}
 use Rattle.sc_arguments.specs.declared.arguments.RunOptions.{RunOptions}
 use Rattle.sc_class.specs.View.{root_of}
-use Rattle.sc_serve.specs.Answer.{IsAnswerOn, IsAnswerTo, IsBadRecord, IsJudged, IsOfFile, IsRanOf, IsRecordUnread, IsRefusalOf, IsRejectedFor, IsReplayOn, IsReplayTo, IsRunOn, IsSourceOf, IsUnansweredOn, IsUnplayed, IsUnplayedRecord, IsUnread, IsUnrun, IsUnrunOn, TellsBadRecord, TellsTooLong, audit_line, line_of, out_of_memory, too_long}
+use Rattle.sc_serve.specs.Answer.{IsAnswerOn, IsAnswerTo, IsBadRecord, IsJudged, IsOfFile, IsRanOf, IsRecordUnread, IsRefusalOf, IsRejectedFor, IsReplayOf, IsReplayOn, IsReplayTo, IsReplayed, IsRunOfSource, IsRunOn, IsSourceOf, IsUnansweredOn, IsUnplayed, IsUnplayedRecord, IsUnread, IsUnrun, IsUnrunOn, TellsBadRecord, TellsTooLong, audit_line, line_of, out_of_memory, too_long}
 use Rattle.sc_serve.specs.Refusal.{Told, refusal_line, told}
 use Rattle.sc_source.proofs.JoiningLemmas.{long-source}
 use Rattle.sc_source.specs.Source.{File, joined, place_at}
@@ -142,21 +145,33 @@ unplayed_record name held now why fault.NotText is u = u
 pub unplayed : (name : List ℕ) (f : Fault) → f ≡ out_of_memory → IsUnplayedRecord name f
 unplayed name f e = subst (IsUnplayedRecord name) (sym e) tt
 
--- what is answered with the program of the files' source text is answered on the files
-pub replayed_on_files : (root : Root) (recorded : Option (List ℕ)) (names : List (List ℕ)) (held : List (Option (List ℕ))) (source : List File)
-    (program : Image) (r : Result Answer Fault) → IsSourceOf names held source → IsLoaded (joined source) root program →
-    IfOk r (λ answer. IsReplayTo program recorded answer.text.items answer.exit) →
-    IfOk r (λ answer. IsReplayOn root recorded names held answer.text.items answer.exit)
-replayed_on_files root recorded names held source program (Ok answer) of_them loaded told = inl (source, of_them, inl (program, loaded, told))
-replayed_on_files root recorded names held source program (Err fault) of_them loaded told = tt
+-- a record that was read and is played
+pub played : (program : Image) (held : Option (List ℕ)) (version : Version) (lines : List RecordLine) (output : List ℕ) (exit : Exit) →
+    IsRecord version lines → IfSome held (λ bytes. bytes ≡ text_of version lines) → IsReplayed program version lines output exit →
+    IsReplayTo program held output exit
+played program held version lines output exit limits read told =
+    inr (record { version = version; lines = lines; limits = limits; read = read; hows = told.0; replay = told.1; status = told.2 })
 
--- and so is what keeps that text from being run
-pub rejected_on_files : (root : Root) (recorded : Option (List ℕ)) (names : List (List ℕ)) (held : List (Option (List ℕ))) (source : List File)
-    (why : Rejection) (r : Result Answer Fault) → IsSourceOf names held source → IsNotRunFor (joined source) root why →
-    IfOk r (λ answer. IsRefusalOf source why answer.text.items answer.exit) →
+-- what is answered with the program of a source text is answered on the text
+pub replayed : (root : Root) (recorded : Option (List ℕ)) (source : List File) (program : Image) (r : Result Answer Fault) →
+    IsLoaded (joined source) root program → IfOk r (λ answer. IsReplayTo program recorded answer.text.items answer.exit) →
+    IfOk r (λ answer. IsReplayOf root recorded source answer.text.items answer.exit)
+replayed root recorded source program (Ok answer) loaded told = inl (program, loaded, told)
+replayed root recorded source program (Err fault) loaded told = tt
+
+-- and so is what keeps it from being run
+pub not_replayed : (root : Root) (recorded : Option (List ℕ)) (source : List File) (why : Rejection) (r : Result Answer Fault) →
+    IsNotRunFor (joined source) root why → IfOk r (λ answer. IsRefusalOf source why answer.text.items answer.exit) →
+    IfOk r (λ answer. IsReplayOf root recorded source answer.text.items answer.exit)
+not_replayed root recorded source why (Ok answer) is told = inr (why, is, told)
+not_replayed root recorded source why (Err fault) is told = tt
+
+-- what is answered on the files' source text is answered on the files
+pub replayed_on_files : (root : Root) (recorded : Option (List ℕ)) (names : List (List ℕ)) (held : List (Option (List ℕ))) (source : List File)
+    (r : Result Answer Fault) → IsSourceOf names held source → IfOk r (λ answer. IsReplayOf root recorded source answer.text.items answer.exit) →
     IfOk r (λ answer. IsReplayOn root recorded names held answer.text.items answer.exit)
-rejected_on_files root recorded names held source why (Ok answer) of_them is told = inl (source, of_them, inr (why, is, told))
-rejected_on_files root recorded names held source why (Err fault) of_them is told = tt
+replayed_on_files root recorded names held source (Ok answer) of_them told = inl (source, of_them, told)
+replayed_on_files root recorded names held source (Err fault) of_them told = tt
 
 -- files whose text is too long
 pub too_long_to_replay : (root : Root) (recorded : Option (List ℕ)) (names : List (List ℕ)) (held : List (Option (List ℕ))) (r : Result Answer Fault) →
@@ -167,35 +182,37 @@ too_long_to_replay root recorded names held (Err fault) told = tt
 
 -- ---- run
 
--- what is answered to a run of the program of the files' source text is answered on the files
-pub ran_on_files : (options : RunOptions) (names : List (List ℕ)) (held : List (Option (List ℕ))) (source : List File) (program : Image)
-    (r : Result Answer Fault) → IsSourceOf names held source → IsLoaded (joined source) (root_of options.root) program →
+-- what is answered to a run of the program of a source text is answered on the text
+pub ran : (options : RunOptions) (source : List File) (program : Image) (r : Result Answer Fault) →
+    IsLoaded (joined source) (root_of options.root) program →
     IfOk r (λ answer. IsRanOf program options answer.text.items answer.exit answer.record) →
-    IfOk r (λ answer. IsRunOn options names held answer.text.items answer.exit answer.record)
-ran_on_files options names held source program (Ok answer) of_them loaded ran =
-    inl (
-      source,
-      of_them,
-      inl (record {
-        turns = ran.turns;
-        lines = ran.lines;
-        hows = ran.hows;
-        report = ran.report;
-        is_run = record { program = program; loaded = loaded; is_run = ran.is_run };
-        told = ran.told;
-        kept = ran.kept;
-      }),
-    )
-ran_on_files options names held source program (Err fault) of_them loaded ran = tt
+    IfOk r (λ answer. IsRunOfSource options source answer.text.items answer.exit answer.record)
+ran options source program (Ok answer) loaded of_it =
+    inl (record {
+      turns = of_it.turns;
+      lines = of_it.lines;
+      hows = of_it.hows;
+      report = of_it.report;
+      is_run = record { program = program; loaded = loaded; is_run = of_it.is_run };
+      told = of_it.told;
+      kept = of_it.kept;
+    })
+ran options source program (Err fault) loaded of_it = tt
 
--- and so is what keeps that text from being run
-pub not_ran_on_files : (options : RunOptions) (names : List (List ℕ)) (held : List (Option (List ℕ))) (source : List File) (why : Rejection)
-    (r : Result Answer Fault) → IsSourceOf names held source → IsNotRunFor (joined source) (root_of options.root) why →
-    IfOk r (λ answer. IsRefusalOf source why answer.text.items answer.exit) → IfOk r (λ answer. answer.record ≡ None) →
+-- and so is what keeps it from being run
+pub not_ran : (options : RunOptions) (source : List File) (why : Rejection) (r : Result Answer Fault) →
+    IsNotRunFor (joined source) (root_of options.root) why → IfOk r (λ answer. IsRefusalOf source why answer.text.items answer.exit) →
+    IfOk r (λ answer. answer.record ≡ None) →
+    IfOk r (λ answer. IsRunOfSource options source answer.text.items answer.exit answer.record)
+not_ran options source why (Ok answer) is refused unkept = inr (record { why = why; true_of = is; refused = refused; unkept = unkept })
+not_ran options source why (Err fault) is refused unkept = tt
+
+-- what is answered on the files' source text is answered on the files
+pub ran_on_files : (options : RunOptions) (names : List (List ℕ)) (held : List (Option (List ℕ))) (source : List File) (r : Result Answer Fault) →
+    IsSourceOf names held source → IfOk r (λ answer. IsRunOfSource options source answer.text.items answer.exit answer.record) →
     IfOk r (λ answer. IsRunOn options names held answer.text.items answer.exit answer.record)
-not_ran_on_files options names held source why (Ok answer) of_them is refused unkept =
-    inl (source, of_them, inr (record { why = why; true_of = is; refused = refused; unkept = unkept }))
-not_ran_on_files options names held source why (Err fault) of_them is refused unkept = tt
+ran_on_files options names held source (Ok answer) of_them told = inl (source, of_them, told)
+ran_on_files options names held source (Err fault) of_them told = tt
 
 -- files whose text is too long
 pub too_long_to_run : (options : RunOptions) (names : List (List ℕ)) (held : List (Option (List ℕ))) (r : Result Answer Fault) →
@@ -217,10 +234,10 @@ pub not_run : (names : List (List ℕ)) (held : List (Option (List ℕ))) (r : R
 not_run names held (Ok answer) is = tt
 not_run names held (Err fault) is = inr is
 
-pub not_answered : (names : List (List ℕ)) (held : List (Option (List ℕ))) (r : Result Answer Fault) → IfErr r (λ fault. fault ≡ out_of_memory) →
-    IfErr r (IsUnrunOn names held)
-not_answered names held (Ok answer) is = tt
-not_answered names held (Err fault) is = inl (unanswered names held fault is)
+-- and that memory ran out is why a program isn't
+pub not_run_for_memory : (r : Result Answer Fault) → IfErr r (λ fault. fault ≡ out_of_memory) → IfErr r IsUnrun
+not_run_for_memory (Ok answer) is = tt
+not_run_for_memory (Err fault) e = subst IsUnrun (sym e) tt
 
 pub not_read : (names : List (List ℕ)) (held : List (Option (List ℕ))) (why : JoinFault) (r : Result Answer Fault) →
     (why.fault ≡ no_memory) ⊎ (why.file < length names) → FailsForGood why.fault →
@@ -256,10 +273,10 @@ pub not_played : (record_name : List ℕ) (names : List (List ℕ)) (held : List
 not_played record_name names held (Ok answer) is = tt
 not_played record_name names held (Err fault) is = inr is
 
-pub not_played_for_memory : (record_name : List ℕ) (names : List (List ℕ)) (held : List (Option (List ℕ))) (r : Result Answer Fault) →
-    IfErr r (λ fault. fault ≡ out_of_memory) → IfErr r (IsUnplayed record_name names held)
-not_played_for_memory record_name names held (Ok answer) is = tt
-not_played_for_memory record_name names held (Err fault) is = inl (unanswered names held fault is)
+pub not_played_for_memory : (record_name : List ℕ) (r : Result Answer Fault) → IfErr r (λ fault. fault ≡ out_of_memory) →
+    IfErr r (IsUnplayedRecord record_name)
+not_played_for_memory record_name (Ok answer) is = tt
+not_played_for_memory record_name (Err fault) is = unplayed record_name fault is
 
 -- what is told of a file that holds no record is what is answered
 pub told_no_record : (program : Image) (held now : Option (List ℕ)) (why : ReadFault) (r : Result Answer Fault) → IsReadFault held now why →

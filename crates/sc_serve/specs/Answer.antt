@@ -230,11 +230,15 @@ pub record IsNotRan (options : RunOptions) (source : List File) (output : List �
   pub refused : IsRefusalOf source why output exit
   pub unkept : recording ≡ None
 
+-- What is answered to a run on the source text of these files: its program is run, or something is at fault in it.
+abbrev pub IsRunOfSource : RunOptions → List File → List ℕ → Exit → Option Recording → Type 0
+IsRunOfSource options source output exit recording =
+    IsRanFrom options (joined source) output exit recording ⊎ IsNotRan options source output exit recording
+
 -- What is answered to a run of files of these names, which hold this.
 abbrev pub IsRunOn : RunOptions → List (List ℕ) → List (Option (List ℕ)) → List ℕ → Exit → Option Recording → Type 0
 IsRunOn options names held output exit recording =
-    ((source : List File) × IsSourceOf names held source
-    × (IsRanFrom options (joined source) output exit recording ⊎ IsNotRan options source output exit recording))
+    ((source : List File) × IsSourceOf names held source × IsRunOfSource options source output exit recording)
     ⊎ (TellsTooLong held output exit × (recording ≡ None))
 
 -- Why a program isn't run: memory or a thread is refused, or the threads' logs differ.
@@ -272,6 +276,12 @@ pub record TellsBadRecord (output : List ℕ) (exit : Exit) : Type 0 where
 -- It is told that the file holds no record, and what it holds is none, as far as that is known.
 abbrev pub IsNoRecord : Option (List ℕ) → List ℕ → Exit → Type 0
 IsNoRecord held output exit = IfSome held (λ bytes. ¬ IsRecordText bytes) × TellsBadRecord output exit
+
+-- The program is played by the lines of a record: the report of the replay, and the status that goes with how the
+-- handlers stand.
+abbrev pub IsReplayed : Image → Version → List RecordLine → List ℕ → Exit → Type 0
+IsReplayed program version lines output exit =
+    (hows : List Status) × IsReplay program version lines output hows × (exit ≡ exit_of hows)
 
 -- The program is played by the lines of a record, which is what the file holds, as far as that is known: the report of
 -- the replay, and the status that goes with how the handlers stand.

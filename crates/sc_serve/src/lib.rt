@@ -10,6 +10,7 @@ mod delivery;
 mod json;
 mod progress;
 mod refusal;
+mod replaying;
 mod running;
 mod searching;
 pub mod serve;

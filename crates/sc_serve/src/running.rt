@@ -1,9 +1,11 @@
 //! What is answered to `run`.
 
 ghost use Rattle.std.specs.Prelude.{◌≡◌, IfErr, IfOk, None, map};
+ghost use Rattle.sc_driver.specs.Execution.{IsThreadRun};
 ghost use Rattle.sc_lower.specs.Lowerings.{image_of};
+ghost use Rattle.sc_plant.specs.Bounded.{IsBoundedRun};
 ghost use Rattle.std.specs.Option.{option_map};
-ghost use Rattle.sc_serve.specs.Answer.{IsJudged, IsRanOf, IsRunOn, IsUnrun, IsUnrunOn, asked_of, kept_of};
+ghost use Rattle.sc_serve.specs.Answer.{IsJudged, IsRanOf, IsRunOfSource, IsRunOn, IsUnrun, IsUnrunOn, asked_of, bounds_of, kept_of};
 
 use crate::progress::Tell;
 use crate::serve::{
@@ -44,15 +46,29 @@ pub fn answer_run<'a, R: Threads + Wait + Clock + Sync, F: Files, T: Tell>(
     ensures unrun { let held = map (λ name. F.bytes_of files.now name.now) names.now in
         IfErr result (IsUnrunOn (map (λ name. name.now) names.now) held) }
 {
-    let source = match read_source(alloc, files, names) {
-        Ok(source) => source,
-        Err(fault) => return answer_unread(alloc, names, fault, options.is_explained),
-    };
+    match read_source(alloc, files, names) {
+        Ok(source) => run_source(rt, alloc, options, &source, teller),
+        Err(fault) => answer_unread(alloc, names, fault, options.is_explained),
+    }
+}
+
+/// Runs the system of a source text.
+fn run_source<'a, R: Threads + Wait + Clock + Sync, T: Tell>(
+    rt: &R,
+    alloc: Global,
+    options: &RunOptions<'a>,
+    source: &Source,
+    teller: &mut T,
+) -> Result<Answer<'a>, Fault<'a>>
+    ensures answer { IfOk result (λ answer. IsRunOfSource options.now source.now answer.text.items answer.exit answer.record) }
+    ensures object { IfOk result (λ answer. answer.object ≡ None) }
+    ensures unrun { IfErr result IsUnrun }
+{
     match load_text(alloc, source.text(), &options.root) {
-        Ok(program) => run_loaded(rt, alloc, &program, options, &source, teller),
+        Ok(program) => run_loaded(rt, alloc, &program, options, source, teller),
         Err(rejection) => {
             let explained = root_if(options.is_explained, &options.root);
-            answer_explained(alloc, &source, &rejection, explained)
+            answer_explained(alloc, source, &rejection, explained)
         }
     }
 }
@@ -71,38 +87,77 @@ fn run_loaded<'a, R: Threads + Wait + Clock + Sync, T: Tell>(
     ensures object { IfOk result (λ answer. answer.object ≡ None) }
     ensures unrun { IfErr result IsUnrun }
 {
-    let tracer = tracer_of(alloc, source, program, Version::Two, options.trace)?;
-    let tracing = Tracing::new(teller, tracer);
-    let mut watch = RunWatch::new(rt, tracing, options.is_explained);
-    let bounds = Bounds {
-        turns: options.turns,
-        output: options.output_limit,
-    };
-    let Ended { left, outcome, .. } = match run_program(
-        rt,
-        alloc,
-        program,
-        options.workers,
-        bounds,
-        &mut watch,
-    ) {
-        Ok(ended) => ended,
-        Err(fault) => return Err(fault_of(fault)),
-    };
-    if watch.is_lacking() {
-        return Err(Fault::OutOfMemory);
-    }
-    let RunReport { report, statuses } = outcome;
-    let (text, exit) = judge(alloc, program, options, &left, report, statuses.as_slice())?;
-    let note = note_of(alloc, program, options, source, &left, statuses.as_slice())?;
-    let Left { lines, .. } = left;
+    let Ended { left, outcome, .. } = run_watched(rt, alloc, program, options, source, teller)?;
+    let (text, exit, note) = told_of(alloc, program, options, source, &left, outcome)?;
     Ok(Answer {
         text,
         object: None,
         exit,
         note,
-        record: recording_of(options.record, lines),
+        record: recording_of(options.record, left.lines),
     })
+}
+
+/// Runs the program of a source text, and tells of the run on its way.
+fn run_watched<'p, 'a, R: Threads + Wait + Clock + Sync, T: Tell>(
+    rt: &R,
+    alloc: Global,
+    program: &'p Program,
+    options: &RunOptions<'_>,
+    source: &Source,
+    teller: &mut T,
+) -> Result<Ended<'p>, Fault<'a>>
+    ensures left { IfOk result (λ ended. IsBoundedRun (image_of program.now) (bounds_of options.now) ended.turns ended.left) }
+    ensures ran { IfOk result (λ ended. let outcome = ended.outcome in
+        ∥ IsThreadRun (image_of program.now) ended.turns ended.left.lines.items outcome.report.items outcome.statuses.items ∥₁) }
+    ensures unrun { IfErr result IsUnrun }
+{
+    let tracer = tracer_of(alloc, source, program, Version::Two, options.trace)?;
+    let tracing = Tracing::new(teller, tracer);
+    let mut watch = RunWatch::new(rt, tracing, options.is_explained);
+    run_bounded(rt, alloc, program, options, &mut watch)
+}
+
+/// Runs a program within the bounds that are asked for.
+fn run_bounded<'p, 'a, R: Threads + Wait + Clock + Sync, T: Tell>(
+    rt: &R,
+    alloc: Global,
+    program: &'p Program,
+    options: &RunOptions<'_>,
+    watch: &mut RunWatch<'_, '_, R, T>,
+) -> Result<Ended<'p>, Fault<'a>>
+    ensures left { IfOk result (λ ended. IsBoundedRun (image_of program.now) (bounds_of options.now) ended.turns ended.left) }
+    ensures ran { IfOk result (λ ended. let outcome = ended.outcome in
+        ∥ IsThreadRun (image_of program.now) ended.turns ended.left.lines.items outcome.report.items outcome.statuses.items ∥₁) }
+    ensures unrun { IfErr result IsUnrun }
+{
+    let bounds = Bounds {
+        turns: options.turns,
+        output: options.output_limit,
+    };
+    match run_program(rt, alloc, program, options.workers, bounds, watch) {
+        Ok(_) if watch.is_lacking() => Err(Fault::OutOfMemory),
+        Ok(ended) => Ok(ended),
+        Err(fault) => Err(fault_of(fault)),
+    }
+}
+
+/// What is told of what a run left: on standard output, by the status, and on standard error.
+fn told_of(
+    alloc: Global,
+    program: &Program,
+    options: &RunOptions<'_>,
+    source: &Source,
+    left: &Left<'_>,
+    outcome: RunReport,
+) -> Result<(Vec<u8>, Exit, Vec<u8>), AllocError>
+    ensures { IfOk result (λ told. IsJudged (image_of program.now) options.now.is_audited left.now
+        outcome.report.items outcome.statuses.items told.0.items told.1) }
+{
+    let RunReport { report, statuses } = outcome;
+    let (text, exit) = judge(alloc, program, options, left, report, statuses.as_slice())?;
+    let note = note_of(alloc, program, options, source, left, statuses.as_slice())?;
+    Ok((text, exit, note))
 }
 
 /// The report, with what an audit says where one is asked for, and the status.

@@ -4,34 +4,26 @@ ghost use Rattle.std.specs.Prelude.{◌≡◌, ◌⊎◌, [], IfErr, IfOk, None,
 ghost use Rattle.sc_serve.specs.Answer as spec;
 ghost use Rattle.std.specs.List.{list_any};
 ghost use Rattle.std.specs.Option.{option_map};
-ghost use Rattle.sc_class.specs.View.{root_of};
-ghost use Rattle.sc_lower.specs.Lowerings.{image_of};
-ghost use Rattle.sc_serve.specs.Answer.{IsAnswerOn, IsAnswerTo, IsRefusalOf, IsRejectedFor, too_long};
-ghost use Rattle.sc_serve.specs.Answer.{IsBadRecord, IsRecordUnread, IsReplayOn, IsReplayTo, IsUnansweredOn, IsUnplayed, IsUnplayedRecord, IsUnread, TellsBadRecord};
+ghost use Rattle.sc_serve.specs.Answer.{IsAnswerOn, IsAnswerTo, IsRefusalOf, IsRejectedFor, IsUnansweredOn, IsUnread, too_long};
 ghost use Rattle.sc_serve.specs.Served.{Answers, IsExplained, IsFormatted, IsGivenUp, IsHelp, IsResponse, IsServed, format_asked, format_of};
 
 use crate::delivery::deliver;
 use crate::json::answer_object;
 use crate::progress::{Progress, Tell};
 use crate::refusal::Refusal;
+use crate::replaying::answer_replay;
 use crate::running::answer_run;
 use crate::searching::answer_search;
-use crate::tracing::{Tracing, tracer_of};
-use sc_arguments::{
-    Command, Format, Invocation, ReplayOptions, UsageFault, ask_for_help, read_arguments,
-};
-use sc_audit::{ReadFault, Record, RecordLine, read_record};
+use sc_arguments::{Command, Format, Invocation, UsageFault, ask_for_help, read_arguments};
+use sc_audit::RecordLine;
 use sc_class::Root;
-use sc_code::Program;
-use sc_driver::replay;
 use sc_explain_refusal::{Related, diagnose};
-use sc_explain_run::{Limit, Played, run_note};
 use sc_explain_text::{Lines, find, left_out, list};
-use sc_frontend::{Rejection, check_text, load_text, print_text};
+use sc_frontend::{Rejection, check_text, print_text};
 use sc_model::Status;
 use sc_search::Watch;
 use sc_source::excerpt;
-use sc_source::files::{Files, NamedFile, read_source};
+use sc_source::files::{Files, read_source};
 use sc_source::reading::FileFault;
 use sc_source::source::{JoinFault, Place, Source, name_at};
 use sc_source::writing::Remains;
@@ -598,152 +590,12 @@ fn examine<'a>(alloc: Global, command: &Command, text: &str) -> Result<Answer<'a
     }
 }
 
-/// Plays a record with the system of the named files.
-fn answer_replay<'a, F: Files, T: Tell>(
-    alloc: Global,
-    options: &ReplayOptions<'a>,
-    files: &F,
-    names: &[&'a str],
-    teller: &mut T,
-) -> Result<Answer<'a>, Fault<'a>>
-    ensures answer { let named = map (λ name. name.now) names.now in
-        let held = map (λ name. F.bytes_of files.now name.now) names.now in
-        let recorded = F.bytes_of files.now options.now.record.now in
-        IfOk result (λ answer. IsReplayOn (root_of options.now.root) recorded named held answer.text.items answer.exit) }
-    ensures plain { IfOk result (λ answer. (answer.record ≡ None) × (answer.object ≡ None)) }
-    ensures unplayed { let held = map (λ name. F.bytes_of files.now name.now) names.now in
-        IfErr result (IsUnplayed options.now.record.now (map (λ name. name.now) names.now) held) }
-{
-    let source = match read_source(alloc, files, names) {
-        Ok(source) => source,
-        Err(fault) => return answer_unread(alloc, names, fault, options.is_explained),
-    };
-    match load_text(alloc, source.text(), &options.root) {
-        Ok(program) => play_record(alloc, &program, files, options, &source, teller),
-        Err(rejection) => {
-            let explained = root_if(options.is_explained, &options.root);
-            answer_explained(alloc, &source, &rejection, explained)
-        }
-    }
-}
-
-/// Plays with the program of a source text the record that the named file holds.
-#[tactic(auto, using(crate::proofs::AnswerLemmas::unplayed))]
-fn play_record<'a, F: Files, T: Tell>(
-    alloc: Global,
-    program: &Program,
-    files: &F,
-    options: &ReplayOptions<'a>,
-    source: &Source,
-    teller: &mut T,
-) -> Result<Answer<'a>, Fault<'a>>
-    ensures answer { let held = F.bytes_of files.now options.now.record.now in
-        IfOk result (λ answer. IsReplayTo (image_of program.now) held answer.text.items answer.exit) }
-    ensures plain { IfOk result (λ answer. (answer.record ≡ None) × (answer.object ≡ None)) }
-    ensures unread { IfErr result (IsUnplayedRecord options.now.record.now) }
-{
-    let name = options.record;
-    let record = match read_record(alloc, &mut NamedFile::new(files, name)) {
-        Ok(record) => record,
-        Err(fault) => return answer_no_record(alloc, name, fault, options.is_explained),
-    };
-    tell_turns(alloc, program, options, source, &record, teller)?;
-    let outcome = replay(alloc, program, &record)?;
-    let exit = exit_of(outcome.statuses.as_slice());
-    let note = note_of_replay(
-        alloc,
-        program,
-        options,
-        source,
-        &record,
-        outcome.statuses.as_slice(),
-    )?;
-    Ok(Answer {
-        text: outcome.report,
-        object: None,
-        exit,
-        note,
-        record: None,
-    })
-}
-
-/// Tells of the turns of a record, where that is asked for.
-fn tell_turns<T: Tell>(
-    alloc: Global,
-    program: &Program,
-    options: &ReplayOptions<'_>,
-    source: &Source,
-    record: &Record,
-    teller: &mut T,
-) -> Result<(), AllocError> {
-    let tracer = tracer_of(alloc, source, program, record.version, options.trace)?;
-    let mut tracing = Tracing::new(teller, tracer);
-    tracing.follow(record.lines.as_slice());
-    if tracing.is_lacking() {
-        return Err(AllocError);
-    }
-    Ok(())
-}
-
-/// What is said of a replay beside its report, where it is asked for.
-fn note_of_replay(
-    alloc: Global,
-    program: &Program,
-    options: &ReplayOptions<'_>,
-    source: &Source,
-    record: &Record,
-    statuses: &[Status],
-) -> Result<Vec<u8>, AllocError> {
-    if !options.is_explained {
-        return Ok(Vec::new(alloc));
-    }
-    let played = Played {
-        source,
-        program,
-        version: record.version,
-        lines: record.lines.as_slice(),
-        limit: Limit::Record,
-        may_refuse: true,
-    };
-    run_note(alloc, played, statuses)
-}
-
-/// What is answered where a file holds no record, and in which line of it, where that is asked for.
-fn answer_no_record<'a>(
-    alloc: Global,
-    name: &'a str,
-    fault: ReadFault,
-    is_explained: bool,
-) -> Result<Answer<'a>, Fault<'a>>
-    ensures refused { IfOk result (λ answer. TellsBadRecord answer.text.items answer.exit) }
-    ensures bad { OnOk result (IsBadRecord fault) }
-    ensures plain { IfOk result (λ answer. (answer.record ≡ None) × (answer.object ≡ None)) }
-    ensures unread { IfErr result (IsRecordUnread name.now fault) }
-{
-    match fault {
-        ReadFault::BadRecord { line } => {
-            let note = if is_explained {
-                bad_line_note(alloc, name, line)?
-            } else {
-                Vec::new(alloc)
-            };
-            answer_refused(alloc, b"refused A1 BadRecord\n", note)
-        }
-        ReadFault::Unreadable(error) => Err(Fault::CannotRead(name, FileFault::Unreadable(error))),
-        ReadFault::OutOfMemory => Err(Fault::OutOfMemory),
-    }
-}
-
-/// In which line a file that should hold a record goes wrong.
-fn bad_line_note(alloc: Global, name: &str, line: usize) -> Result<Vec<u8>, AllocError> {
-    let told = format!(in alloc;
-        "{name}:{line}: the record goes wrong in this line\n`scoop explain A1` says more\n"
-    )?;
-    Ok(told.into_bytes())
-}
-
 /// The answer of a line that tells a refusal, with what is added on standard error.
-fn answer_refused<'a>(alloc: Global, line: &[u8], note: Vec<u8>) -> Result<Answer<'a>, Fault<'a>>
+pub(crate) fn answer_refused<'a>(
+    alloc: Global,
+    line: &[u8],
+    note: Vec<u8>,
+) -> Result<Answer<'a>, Fault<'a>>
     ensures text { IfOk result (λ answer. answer.text.items ≡ line.now) }
     ensures exit { IfOk result (λ answer. answer.exit ≡ Exit.Refused) }
     ensures unrecorded { IfOk result (λ answer. answer.record ≡ None) }

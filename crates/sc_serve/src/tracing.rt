@@ -63,6 +63,18 @@ impl<'w, 'r, T: Tell> Tracing<'w, 'r, T> {
         self.seen = lines.len();
     }
 
+    /// Tells of the lines of a whole record.
+    ///
+    /// # Errors
+    /// Where memory was refused to what was to be told.
+    pub fn follow_all(&mut self, lines: &[RecordLine]) -> Result<(), AllocError> {
+        self.follow(lines);
+        if self.is_lacking {
+            return Err(AllocError);
+        }
+        Ok(())
+    }
+
     fn tell_line(&mut self, line: RecordLine) {
         if self.is_lacking {
             return;

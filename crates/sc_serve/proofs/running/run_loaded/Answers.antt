@@ -5,11 +5,11 @@ use Rattle.sc_serve.proofs.running.run_loaded.Goals as goal
 pub returns-clause-answer : goal.returns-clause-answer
 returns-clause-answer g c =
     record {
-      turns = c.in-Ok.ended.turns;
-      lines = c.in-Ok.ended.left.lines.items;
-      hows = c.in-Ok.ended.outcome.statuses.items;
-      report = c.in-Ok.ended.outcome.report.items;
-      is_run = c.in-Ok.ensures.ran;
-      told = (c.in-Ok.ended.left, c.in-Ok.ensures.left, refl, rw c.as_slice.ensures.value at c.in_ok-text.ensures);
+      turns = c.in_ok-left.field-0.turns;
+      lines = c.in_ok-left.field-0.left.lines.items;
+      hows = c.in_ok-left.field-0.outcome.statuses.items;
+      report = c.in_ok-left.field-0.outcome.report.items;
+      is_run = c.in_ok-left.ensures.ran;
+      told = (c.in_ok-left.field-0.left, c.in_ok-left.ensures.left, refl, c.in_ok-text.ensures);
       kept = c.recording_of.ensures;
     }
