@@ -93,17 +93,7 @@ impl<'s> RuleFault<'s> {
     ) -> bool {
         let purity = Purity::NotAsked;
         let context = context_of(alloc, tables, number, routine, &purity);
-        let mut walk = self.walk(&context);
-        match routine {
-            Some(routine) => {
-                walk.pass_routine(routine);
-                walk.push_found(lines)
-            }
-            None => {
-                pass_clauses(&mut walk.search, Context::Invariant, &class.invariant);
-                walk.push_found(lines) || walk.scope.push_creator(lines, &class.creators)
-            }
-        }
+        self.walk(&context).push_passed(lines, class, routine)
     }
 
     /// A walk through a text of this routine, in which no names are known as yet.
@@ -128,6 +118,26 @@ impl<'s> RuleFault<'s> {
 }
 
 impl<'s> Walk<'s> {
+    /// Passes this routine of a class, or else the invariant and the list of creators of that, and adds what is told of what
+    /// was looked for, where it was found there, and whether there is something.
+    fn push_passed(
+        &mut self,
+        lines: &mut Lines,
+        class: &'s Class,
+        routine: Option<&'s Routine>,
+    ) -> bool {
+        match routine {
+            Some(routine) => {
+                self.pass_routine(routine);
+                self.push_found(lines)
+            }
+            None => {
+                pass_clauses(&mut self.search, Context::Invariant, &class.invariant);
+                self.push_found(lines) || self.scope.push_creator(lines, &class.creators)
+            }
+        }
+    }
+
     /// Adds what is told of what was looked for, where it was found, and whether there is something.
     fn push_found(&mut self, lines: &mut Lines) -> bool {
         match &self.search.found {
