@@ -130,15 +130,43 @@ fn meets_clauses(clauses: &[Formula], attributes: &[Value]) -> bool
     clauses.is_empty() || meets_some(clauses, attributes)
 }
 
-/// The same where there are clauses. (A call of its own: there is room for all that an invariant may see, and it would be
-/// cleared for each class that has none.)
+/// The same where there are clauses. (A call of its own: there is room for what an invariant may see, which is cleared each time.
+/// So there is no more of it than a few attributes need, where there are few.)
 #[inline(never)]
 fn meets_some(clauses: &[Formula], attributes: &[Value]) -> bool
     requires { length attributes.now ≤ 256 }
     ensures { result ≡ all_hold (map plain_formula clauses.now) (atoms_of attributes.now) }
 {
-    let mut atoms = [Atom::Boolean(false); 256];
-    fill(&mut atoms, attributes);
+    if attributes.len() <= 8 {
+        let mut atoms = [Atom::Boolean(false); 8];
+        meets_in(&mut atoms, clauses, attributes)
+    } else {
+        meets_many(clauses, attributes)
+    }
+}
+
+/// The same, with room for as many attributes as there may be.
+#[inline(never)]
+fn meets_many(clauses: &[Formula], attributes: &[Value]) -> bool
+    requires { length attributes.now ≤ 256 }
+    ensures { result ≡ all_hold (map plain_formula clauses.now) (atoms_of attributes.now) }
+{
+    if attributes.len() <= 32 {
+        let mut atoms = [Atom::Boolean(false); 32];
+        meets_in(&mut atoms, clauses, attributes)
+    } else {
+        let mut atoms = [Atom::Boolean(false); 256];
+        meets_in(&mut atoms, clauses, attributes)
+    }
+}
+
+/// The same, where there is so much room for what the clauses see of the attributes.
+#[inline(always)]
+fn meets_in(atoms: &mut [Atom], clauses: &[Formula], attributes: &[Value]) -> bool
+    requires { length attributes.now ≤ length atoms.old }
+    ensures { result ≡ all_hold (map plain_formula clauses.now) (atoms_of attributes.now) }
+{
+    fill(atoms, attributes);
     sc_formula::meets(clauses, &atoms[..attributes.len()])
 }
 

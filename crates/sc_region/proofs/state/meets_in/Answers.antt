@@ -2,7 +2,7 @@ use Rattle.std.proofs.Common.{map, length, take, ap, ◌∙◌}
 use Rattle.sc_formula.specs.Plain.{plain_formula}
 use Rattle.sc_region.specs.Classes.{all_hold}
 use Rattle.sc_region.proofs.InvariantTests.{truth_is}
-use Rattle.sc_region.proofs.state.meets_some.Goals as goal
+use Rattle.sc_region.proofs.state.meets_in.Goals as goal
 
 pub returns : goal.returns
 returns c =
