@@ -68,6 +68,13 @@ impl<'r> RunSource<'r> {
 
     /// The clause at this number, from 0, of the joined invariant of a class.
     pub fn invariant_clause(&self, class: usize, number: usize) -> Option<ClauseText> {
-        self.class_text(class)?.invariant.get(number).copied()
+        let mut text = self.class_text(class)?;
+        for _class in self.program.classes() {
+            if number >= text.inherited_clauses {
+                return text.invariant.get(number - text.inherited_clauses).copied();
+            }
+            text = self.class_text(text.parent?)?;
+        }
+        None
     }
 }

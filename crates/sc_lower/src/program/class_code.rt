@@ -97,7 +97,7 @@ fn class_code(
         features: versions(alloc, numbering, &attributes, class, names)?,
         conforms: conforms(alloc, tables, class)?,
         invariant: formulas(alloc, &attributes, &clauses)?,
-        text: class_text(alloc, tables, class, &clauses)?,
+        text: class_text(alloc, tables, class, clauses.len())?,
     })
 }
 

@@ -1,6 +1,6 @@
 //! Where classes stand in the text, for what is told to people of their objects.
 
-use sc_class::Tables;
+use sc_class::{ClassId, Tables};
 use sc_code::{ClassText, ClauseText};
 use sc_text::Span;
 use sc_tree::Clause;
@@ -9,24 +9,26 @@ use std::alloc::{AllocError, Global};
 /// Where a part is that isn't there.
 const NOWHERE: Span = Span { start: 0, end: 0 };
 
-/// Where the class at the number stands, whose joined invariant has these clauses.
+/// Where the class at the number stands, whose joined invariant has so many clauses.
 pub fn class_text(
     alloc: Global,
     tables: &Tables,
     class: usize,
-    clauses: &[&Clause],
+    joined: usize,
 ) -> Result<ClassText, AllocError> {
-    let (span, name) = match tables.classes().get(class) {
-        Some(declared) => (declared.span, declared.name.span),
-        None => (NOWHERE, NOWHERE),
+    let (span, name, own): (Span, Span, &[Clause]) = match tables.classes().get(class) {
+        Some(declared) => (declared.span, declared.name.span, &declared.invariant),
+        None => (NOWHERE, NOWHERE, &[]),
     };
-    let mut invariant = Vec::with_capacity(alloc, clauses.len())?;
-    for clause in clauses {
+    let mut invariant = Vec::with_capacity(alloc, own.len())?;
+    for clause in own {
         invariant.push(clause_text(clause))?;
     }
     Ok(ClassText {
         span,
         name,
+        parent: tables.ancestors(ClassId::Declared(class)).get(1).copied(),
+        inherited_clauses: joined.saturating_sub(own.len()),
         invariant,
     })
 }

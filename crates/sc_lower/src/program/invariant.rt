@@ -28,7 +28,7 @@ pub fn clauses(
     requires { length attributes.now ≤ 256 }
     ensures { IfOk result (λ formulas. option_map (λ formulas. map plain_formula formulas.items) formulas ≡ over.clauses_over attributes.now clauses.now) }
 {
-    let mut formulas = Vec::new(alloc);
+    let mut formulas = Vec::with_capacity(alloc, clauses.len())?;
     for clause in clauses {
         let Some(formula) = formula(alloc, attributes, &clause.condition)? else {
             return Ok(None);
