@@ -30,3 +30,6 @@ pub mod Away
 pub mod Forms
 pub mod LastOperands
 pub mod Taken
+pub mod Constants
+pub mod Negations
+pub mod Decisions

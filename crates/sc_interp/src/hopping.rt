@@ -64,7 +64,7 @@ fn step_by(
 }
 
 /// An operation that asks nothing of the attributes of objects, and that `step_in_place` leaves.
-pub fn hop_in_place(
+fn hop_in_place(
     store: &mut Store<'_>,
     me: Reference,
     count: usize,

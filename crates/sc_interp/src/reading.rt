@@ -64,7 +64,8 @@ pub fn push_old(activation: &mut Activation, count: usize, number: usize) -> Res
 }
 
 /// The default of an entity.
-fn default_of(value: DefaultValue) -> Value
+#[inline(always)]
+pub fn default_of(value: DefaultValue) -> Value
     ensures { value_of result ≡ default_value value }
 {
     match value {

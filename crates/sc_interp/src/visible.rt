@@ -66,6 +66,7 @@ pub fn end_loop(activation: &mut Activation, back: usize) -> Hop
 }
 
 /// The last operand is the value of a clause of a precondition, which names the formals of the list of the number.
+#[inline(always)]
 fn demand_on(activation: &mut Activation, count: usize, number: usize) -> Hop
     ensures demands { Demands count number result (activation_of activation.old) (activation_of activation.new) }
     ensures stays { Stays (activation_of activation.old) (activation_of activation.new) }
@@ -83,6 +84,7 @@ fn demand_on(activation: &mut Activation, count: usize, number: usize) -> Hop
 }
 
 /// The same, where the program has such a list.
+#[inline(always)]
 pub fn demand(program: &Program, activation: &mut Activation, count: usize, number: usize) -> Hop
     ensures follows { FollowsOnEach program.now.image count (coded.Demand number) result (activation_of activation.old) (activation_of activation.new) }
     ensures stays { Stays (activation_of activation.old) (activation_of activation.new) }
