@@ -84,7 +84,7 @@ fn demand_on(activation: &mut Activation, count: usize, number: usize) -> Hop
 }
 
 /// The same, where the program has such a list.
-#[inline(always)]
+#[inline]
 pub fn demand(program: &Program, activation: &mut Activation, count: usize, number: usize) -> Hop
     ensures follows { FollowsOnEach program.now.image count (coded.Demand number) result (activation_of activation.old) (activation_of activation.new) }
     ensures stays { Stays (activation_of activation.old) (activation_of activation.new) }
