@@ -12,13 +12,6 @@ pub struct NameSpan {
     pub end: u32,
 }
 
-/// The number in 32 bits, or the greatest one that has room there.
-fn in_32_bits(number: usize) -> u32
-    ensures { result ≡ min number 4294967295 }
-{
-    number.min(4_294_967_295) as u32
-}
-
 impl NameSpan {
     /// The place of a name. What lies behind the first 4 GiB of a text is told as their end.
     pub fn of(span: Span) -> NameSpan
@@ -26,8 +19,8 @@ impl NameSpan {
         ensures end { result.end ≡ min span.end 4294967295 }
     {
         NameSpan {
-            start: in_32_bits(span.start),
-            end: in_32_bits(span.end),
+            start: span.start,
+            end: span.end,
         }
     }
 
@@ -36,8 +29,8 @@ impl NameSpan {
         ensures { result ≡ record { start = self.start; end = self.end } }
     {
         Span {
-            start: self.start as usize,
-            end: self.end as usize,
+            start: self.start,
+            end: self.end,
         }
     }
 }

@@ -156,7 +156,7 @@ fn push_caller(origin: &RunSource<'_>, lines: &mut Lines, caller: &Activation) {
 
 /// Adds the file, the line and the column at which a part of the text begins, behind these words: whether there is such a place.
 pub fn push_place(origin: &RunSource<'_>, lines: &mut Lines, before: &str, part: Span) -> bool {
-    let Some(Place { file, line, column }) = origin.source.place_of(part.start) else {
+    let Some(Place { file, line, column }) = origin.source.place_of(part.start as usize) else {
         return false;
     };
     lines.push_all(&[before, file]);

@@ -115,7 +115,7 @@ impl Beginning {
 fn up_to_end<'t>(text: &'t str, tokens: &[Token]) -> &'t str {
     match tokens.last() {
         None => "",
-        Some(token) => first_bytes(text, token.span.end),
+        Some(token) => first_bytes(text, token.span.end as usize),
     }
 }
 
@@ -134,7 +134,7 @@ fn are_begun(alloc: Global, lines: &mut Lines, tokens: &[Token], length: usize) 
             let_go(system);
             true
         }
-        Err(ParseFault::NotInGrammar { span }) => span.start >= end_of(tokens, length),
+        Err(ParseFault::NotInGrammar { span }) => span.start as usize >= end_of(tokens, length),
         Err(ParseFault::OutOfMemory) => {
             lines.lack();
             false
@@ -147,6 +147,6 @@ fn are_begun(alloc: Global, lines: &mut Lines, tokens: &[Token], length: usize) 
 fn end_of(tokens: &[Token], length: usize) -> usize {
     match tokens.last() {
         None => length,
-        Some(token) => token.span.end,
+        Some(token) => token.span.end as usize,
     }
 }

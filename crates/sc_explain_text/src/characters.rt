@@ -8,7 +8,7 @@ use sc_text::Span;
 /// Adds what is said of the character that begins here and begins no token, and what is written in its place, or why it
 /// can't stand there.
 pub fn explain_character(lines: &mut Lines, text: &str, span: Span) {
-    let from = text.get(span.start..).unwrap_or("");
+    let from = text.get(span.start as usize..).unwrap_or("");
     let character = first_character(from);
     if character.is_empty() || is_control(character) {
         lines.push("this begins no token\n");

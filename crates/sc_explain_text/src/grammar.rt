@@ -92,14 +92,14 @@ impl<'t> Stop<'t> {
     fn start(self, back: usize) -> usize {
         match self.token(back) {
             None => self.text.len(),
-            Some(token) => token.span.start,
+            Some(token) => token.span.start as usize,
         }
     }
 
     /// The text from the token that stands so many before that at fault to this place.
     fn text_between(self, back: usize, end: usize) -> &'t str {
         let start = self.start(back);
-        word_at(self.text, Span { start, end })
+        self.text.get(start..end).unwrap_or("")
     }
 
     /// The tokens before that which stands so many before that at fault.
@@ -208,7 +208,7 @@ impl<'t> Stop<'t> {
     fn is_in_line(self, number: usize) -> bool {
         match self.tokens.get(number) {
             None => false,
-            Some(token) => match self.text.get(token.span.start..self.span.start) {
+            Some(token) => match self.text.get(token.span.start as usize..self.span.start as usize) {
                 None => false,
                 Some(between) => !has_line_feed(between),
             },

@@ -91,7 +91,7 @@ impl Layout {
         let mut last = None;
         let mut is_value = false;
         for (number, token) in tokens.iter().enumerate() {
-            margin.go_on(text, token.span.start);
+            margin.go_on(text, token.span.start as usize);
             if is_value && begins_behind_value(token) {
                 layout.reach(number);
             }

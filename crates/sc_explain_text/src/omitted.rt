@@ -49,8 +49,8 @@ fn comment_count(text: &[u8], tokens: &[Token]) -> usize {
     let mut count = 0usize;
     let mut end = 0;
     for token in tokens {
-        count = count.saturating_add(comments_in(text, end, token.span.start));
-        end = token.span.end;
+        count = count.saturating_add(comments_in(text, end, token.span.start as usize));
+        end = token.span.end as usize;
     }
     count.saturating_add(comments_in(text, end, text.len()))
 }

@@ -38,16 +38,10 @@ fn parsed(alloc: Global, tokens: &[Token]) -> Result<Option<System>, AllocError>
 
 /// What a part of the text says; nothing where it begins or ends inside of a character.
 pub fn word_at(text: &str, span: Span) -> &str {
-    text.get(span.start..span.end).unwrap_or("")
+    text.get(span.start as usize..span.end as usize).unwrap_or("")
 }
 
 /// The first bytes of a text, so many; nothing where that is inside of a character or behind its end.
 pub fn first_bytes(text: &str, count: usize) -> &str {
-    word_at(
-        text,
-        Span {
-            start: 0,
-            end: count,
-        },
-    )
+    text.get(..count).unwrap_or("")
 }

@@ -69,7 +69,7 @@ impl<'a> Parser<'a> {
     fn calling(
         &mut self,
         target: Option<Box<Expr>>,
-        start: usize,
+        start: u32,
         room: u8,
     ) -> Result<(Expr, u8), ParseFault>
         ensures read { Reads expr_in (spec.calling (spec.nested room) start (target_in target) (ahead self.old))

@@ -8,6 +8,7 @@ use crate::look::{begins_with, is_word};
 use sc_text::{Span, Terminal, Token, TokenKind};
 use sc_tree::Name;
 use std::alloc::Global;
+use std::rc::Rc;
 
 /// The tokens that are still to be read, and where the one before them stands.
 #[derive(Drop)]
@@ -34,7 +35,7 @@ impl<'a> Parser<'a> {
     }
 
     /// Where the next token begins, or the last ends where none is left.
-    pub fn next_start(&self) -> usize
+    pub fn next_start(&self) -> u32
         ensures { result ≡ spec.begin (ahead self.now) }
     {
         match self.rest.first() {
@@ -54,7 +55,7 @@ impl<'a> Parser<'a> {
     }
 
     /// From where something began to the end of the last token.
-    pub fn span_from(&self, start: usize) -> Span
+    pub fn span_from(&self, start: u32) -> Span
         ensures { result ≡ spec.up_to start (ahead self.now) }
     {
         Span {
@@ -187,7 +188,7 @@ impl<'a> Parser<'a> {
     }
 
     /// Reads a manifest string.
-    pub fn text(&mut self) -> Result<String, ParseFault>
+    pub fn text(&mut self) -> Result<Rc<String>, ParseFault>
         ensures { Takes text_in (spec.text (ahead self.old)) result (ahead self.new) }
     {
         match self.take() {

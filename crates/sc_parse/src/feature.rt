@@ -108,7 +108,7 @@ impl<'a> Parser<'a> {
         let start = self.last.start;
         if self.sees(Terminal::CloseBrace) {
             self.take();
-            let text = String::from_str(self.alloc, "none")?;
+            let text = Rc::new(self.alloc, String::from_str(self.alloc, "none")?)?;
             let span = self.span_from(start);
             let mut names = Vec::new(self.alloc);
             names.push(Name { text, span })?;

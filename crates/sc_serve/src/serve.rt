@@ -486,7 +486,7 @@ fn push_excerpt(alloc: Global, lines: &mut Lines, source: &Source, span: Span) {
 
 /// Adds where a part of the source text stands that a fault goes with, and its line with carets.
 fn push_related(alloc: Global, lines: &mut Lines, source: &Source, related: Related) {
-    if let Some(Place { file, line, column }) = source.place_of(related.span.start) {
+    if let Some(Place { file, line, column }) = source.place_of(related.span.start as usize) {
         lines.push_all(&[file, ":"]);
         lines.push_number(line as u64);
         lines.push(":");

@@ -17,10 +17,10 @@ const LEFT_OUT: &str = "..";
 /// the text ends before the part.
 pub fn excerpt(alloc: Global, text: &[u8], span: Span) -> Result<Vec<u8>, AllocError> {
     let mut lines = String::new(alloc);
-    if let Some((before, after)) = text.split_at_checked(span.start) {
+    if let Some((before, after)) = text.split_at_checked(span.start as usize) {
         let before = last_line(before);
         let after = first_line(after);
-        let length = whole_length(after, span.end.saturating_sub(span.start));
+        let length = whole_length(after, span.end.saturating_sub(span.start) as usize);
         let (part, rest) = after.split_at_checked(length).unwrap_or((after, &[]));
         push_line(alloc, &mut lines, before, part, rest)?;
     }

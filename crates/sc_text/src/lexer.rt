@@ -8,6 +8,7 @@ ghost use Rattle.sc_text.specs.Reading.Answers.{Gives, GivesMarks};
 
 use crate::characters::{escape, is_white_space};
 use crate::fault::LexFault;
+use crate::names::Names;
 use crate::reserved_words::reserved;
 use crate::scan::{
     closing_quote, comment_length, integer_length, name_length, number, unmarked_length,
@@ -15,6 +16,7 @@ use crate::scan::{
 use crate::symbols::{long_symbol, short_symbol};
 use crate::token::{Span, Token, TokenKind};
 use std::alloc::Global;
+use std::rc::Rc;
 
 /// The greatest number of bytes of a text.
 pub const MAX_SOURCE_BYTES: usize = 1_048_576;
@@ -45,15 +47,15 @@ pub fn lex(alloc: Global, text: &str) -> Result<Vec<Token>, LexFault>
         return Err(LexFault::SourceTooLong);
     }
     let mut tokens = Vec::new(alloc);
+    let mut names = Names::new(alloc)?;
     let mut place = 0;
     while place < text.len() {
-        match piece_at(alloc, text, place)? {
+        match piece_at(alloc, &mut names, text, place)? {
             Piece::Gap { length } => place += length,
             Piece::Token { kind, length } => {
-                let end = place + length;
-                let span = Span { start: place, end };
+                let span = span_at(place, length);
                 tokens.push(Token { kind, span })?;
-                place = end;
+                place += length;
             }
         }
     }
@@ -62,18 +64,18 @@ pub fn lex(alloc: Global, text: &str) -> Result<Vec<Token>, LexFault>
 
 /// So many bytes from this place.
 fn span_at(place: usize, length: usize) -> Span
-    requires { place + length ≤ usize.MAX }
+    requires { place + length ≤ u32.MAX }
     ensures { result ≡ span_at place length }
 {
     Span {
-        start: place,
-        end: place + length,
+        start: place as u32,
+        end: (place + length) as u32,
     }
 }
 
 /// What stands at this place of the text.
 #[tactic(auto, unfolding(crate::specs::Reading::Front::front))]
-fn piece_at(alloc: Global, text: &str, place: usize) -> Result<Piece, LexFault>
+fn piece_at(alloc: Global, names: &mut Names, text: &str, place: usize) -> Result<Piece, LexFault>
     requires { place < length text.now }
     ensures { Gives (spec.front place (drop place text.now)) result }
 {
@@ -82,7 +84,7 @@ fn piece_at(alloc: Global, text: &str, place: usize) -> Result<Piece, LexFault>
     if is_white_space(first) {
         Ok(Piece::Gap { length: 1 })
     } else if first.is_ascii_alphabetic() {
-        word(alloc, text, place)
+        word(names, text, place)
     } else if first.is_ascii_digit() {
         integer(rest, place)
     } else if first == b'"' {
@@ -94,7 +96,7 @@ fn piece_at(alloc: Global, text: &str, place: usize) -> Result<Piece, LexFault>
 
 /// The name or the reserved word that the letter at this place begins.
 #[tactic(auto, unfolding(crate::specs::Reading::Front::word))]
-fn word(alloc: Global, text: &str, place: usize) -> Result<Piece, LexFault>
+fn word(names: &mut Names, text: &str, place: usize) -> Result<Piece, LexFault>
     requires within { place < length text.now }
     requires begins { IsTrue (is_letter (slice_index text.now place)) }
     ensures { Gives (spec.word (drop place text.now)) result }
@@ -104,7 +106,7 @@ fn word(alloc: Global, text: &str, place: usize) -> Result<Piece, LexFault>
     let (word, _) = rest.split_at(length);
     let kind = match reserved(word.as_bytes()) {
         Some(terminal) => TokenKind::Terminal(terminal),
-        None => TokenKind::Name(word.to_ascii_lowercase(alloc)?),
+        None => TokenKind::Name(names.lower_case(word)?),
     };
     Ok(Piece::Token { kind, length })
 }
@@ -112,7 +114,7 @@ fn word(alloc: Global, text: &str, place: usize) -> Result<Piece, LexFault>
 /// The integer at the front of the text, which stands at this place.
 #[tactic(auto, unfolding(crate::specs::Reading::Front::integer))]
 fn integer(text: &[u8], place: usize) -> Result<Piece, LexFault>
-    requires { place + length text.now ≤ usize.MAX }
+    requires { place + length text.now ≤ u32.MAX }
     ensures { Gives (spec.integer place text.now) result }
 {
     let length = integer_length(text);
@@ -141,7 +143,7 @@ fn manifest_string(alloc: Global, text: &str, place: usize) -> Result<Piece, Lex
         });
     };
     let (body, _) = rest.split_at(length);
-    let value = marks_read(alloc, body, place + 1)?;
+    let value = Rc::new(alloc, marks_read(alloc, body, place + 1)?)?;
     Ok(Piece::Token {
         kind: TokenKind::ManifestString(value),
         length: length + 2,
@@ -150,7 +152,7 @@ fn manifest_string(alloc: Global, text: &str, place: usize) -> Result<Piece, Lex
 
 /// The text between the quotes of a manifest string, with its marks read. It begins at this place.
 fn marks_read(alloc: Global, text: &str, place: usize) -> Result<String, LexFault>
-    requires { place + length text.now ≤ usize.MAX }
+    requires { place + length text.now ≤ u32.MAX }
     ensures { GivesMarks (spec.marks_read false [] place text.now) result }
 {
     let mut value = String::with_capacity(alloc, text.len())?;
@@ -193,7 +195,7 @@ fn mark(text: &[u8]) -> Option<u8>
 #[tactic(auto, unfolding(crate::specs::Reading::Front::symbol))]
 fn symbol(text: &[u8], place: usize) -> Result<Piece, LexFault>
     requires some { 0 < length text.now }
-    requires fits { place + length text.now ≤ usize.MAX }
+    requires fits { place + length text.now ≤ u32.MAX }
     ensures { Gives (spec.symbol place text.now) result }
 {
     let first = text[0];

@@ -7,6 +7,7 @@ mod characters;
 mod fault;
 mod laws;
 mod lexer;
+mod names;
 mod reserved_words;
 mod scan;
 mod symbols;

@@ -1,10 +1,12 @@
 //! What a source text is read as: tokens, each with the place where it stands.
 
+use std::rc::Rc;
+
 /// A range of bytes of the source text, from `start` up to but not including `end`.
 #[derive(Clone, Copy, Debug, PartialEq, Eq)]
 pub struct Span {
-    pub start: usize,
-    pub end: usize,
+    pub start: u32,
+    pub end: u32,
 }
 
 /// A terminal symbol of the grammar that is spelled in one way alone: a reserved word, in any letter
@@ -100,12 +102,12 @@ pub enum Terminal {
 /// What a token is.
 #[derive(Drop)]
 pub enum TokenKind {
-    /// An identifier, in lower case.
-    Name(String),
+    /// An identifier, in lower case. One that a text has again and again is mostly the same in memory.
+    Name(Rc<String>),
     /// The value of an integer, which is not negative.
     Integer(i64),
     /// A manifest string, with its marks read.
-    ManifestString(String),
+    ManifestString(Rc<String>),
     /// A reserved word or a special symbol.
     Terminal(Terminal),
 }

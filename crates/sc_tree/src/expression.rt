@@ -6,18 +6,19 @@ ghost use Rattle.sc_tree.specs.View.{expr_of};
 
 use crate::declaration::DeclaredType;
 use sc_text::Span;
+use std::rc::Rc;
 
 /// A name and where it stands, in lower case.
 #[derive(Drop)]
 pub struct Name {
-    pub text: String,
+    pub text: Rc<String>,
     pub span: Span,
 }
 
 impl Name {
     /// Whether it is `print`, the name of the feature that every class has.
     pub fn is_print(&self) -> bool
-        ensures { result ≡ properties.is_print (string_bytes self.now.text) }
+        ensures { result ≡ properties.is_print (string_bytes self.now.text.value) }
     {
         self.text.as_str() == "print"
     }

@@ -2,6 +2,7 @@
 
 use crate::expression::{Call, Expr, Name};
 use sc_text::Span;
+use std::rc::Rc;
 
 /// What an assignment or a creation changes.
 #[derive(Drop)]
@@ -38,7 +39,7 @@ pub enum Instr {
     /// `variable := value`
     Assign(Span, Variable, Expr),
     /// `print` of a manifest string, whose marks are read
-    PrintText(Span, String),
+    PrintText(Span, Rc<String>),
     /// A call of a procedure, as `print` of an expression is.
     Call(Call),
     /// `create variable`, with the call that follows it

@@ -92,7 +92,7 @@ impl Printer {
 
     /// A name.
     fn name(&mut self, name: &Name) -> Result<(), AllocError>
-        ensures { OnOk result (PutsPart self.old self.new (Token (NAME (string_bytes name.now.text)))) }
+        ensures { OnOk result (PutsPart self.old self.new (Token (NAME (string_bytes name.now.text.value)))) }
     {
         self.identifier(name.text.as_bytes())
     }
@@ -111,7 +111,7 @@ impl Printer {
     /// The name of a class, in upper case.
     #[tactic(auto, unfolding(crate::specs::Internal::Printer::put, crate::specs::Canonical::Layout::text_of_part, crate::specs::Canonical::Layout::opens, crate::specs::Canonical::Layout::closes))]
     fn class_name(&mut self, name: &Name) -> Result<(), AllocError>
-        ensures { OnOk result (PutsPart self.old self.new (ClassName (string_bytes name.now.text))) }
+        ensures { OnOk result (PutsPart self.old self.new (ClassName (string_bytes name.now.text.value))) }
     {
         self.gap(false)?;
         self.upper_case(name.text.as_bytes())?;
@@ -122,7 +122,7 @@ impl Printer {
     /// `<x.handler>`
     #[tactic(auto, unfolding(crate::specs::Internal::Printer::put, crate::specs::Canonical::Layout::text_of_part, crate::specs::Canonical::Layout::opens, crate::specs::Canonical::Layout::closes))]
     fn handler_of(&mut self, name: &Name) -> Result<(), AllocError>
-        ensures { OnOk result (PutsPart self.old self.new (HandlerOfName (string_bytes name.now.text))) }
+        ensures { OnOk result (PutsPart self.old self.new (HandlerOfName (string_bytes name.now.text.value))) }
     {
         self.token(b"<")?;
         self.text.extend_from_slice(name.text.as_bytes())?;

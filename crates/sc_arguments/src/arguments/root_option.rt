@@ -57,7 +57,7 @@ fn sole_name(tokens: &[Token], length: usize) -> Option<&str>
     ensures { option_map (λ name. name.now) result ≡ internal.sole_name length (lexemes_of tokens.now) }
 {
     match tokens {
-        [token] if token.span.start == 0 && token.span.end == length => match &token.kind {
+        [token] if token.span.start == 0 && token.span.end as usize == length => match &token.kind {
             TokenKind::Name(name) => Some(name.as_str()),
             _ => None,
         },

@@ -31,7 +31,7 @@ pub struct Numbering<'t, 's> {
 }
 
 /// Whether a name begins at this place in the text, and is this one.
-fn is_at(name: &Name, begin: usize, text: &str) -> bool
+fn is_at(name: &Name, begin: u32, text: &str) -> bool
     ensures { result ≡ name_begins (name_of name.now) begin text.now }
 {
     name.span.start == begin && name.text.as_str() == text
@@ -40,7 +40,7 @@ fn is_at(name: &Name, begin: usize, text: &str) -> bool
 /// How many of the features stand before the first of this name, where one is: that begins at the place in the text. So
 /// names that begin elsewhere aren't read.
 #[tactic(auto, unfolding(sc_tree::specs::View::feature_of))]
-fn place_of(name: &str, begin: usize, features: &[Feature]) -> Option<usize>
+fn place_of(name: &str, begin: u32, features: &[Feature]) -> Option<usize>
     requires { BeginsAt begin name.now (map feature_of features.now) }
     ensures { result ≡ number_among name.now (map (λ f. f.name) (map feature_of features.now)) }
 {
@@ -88,7 +88,7 @@ impl<'t, 's> Numbering<'t, 's> {
 
     /// The number of the feature of this name that the class at the number declares: its name begins at the place in the
     /// text. It looks at the places of the class's features in turn.
-    fn place_number(&self, class: usize, name: &str, begin: usize) -> Option<usize>
+    fn place_number(&self, class: usize, name: &str, begin: u32) -> Option<usize>
         requires { BeginsAt begin name.now (features_at (system_in self.now.tables.now) class) }
         ensures { result ≡ feature_number (system_in self.now.tables.now) (record { class = class; name = name.now }) }
     {
