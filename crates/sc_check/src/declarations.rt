@@ -170,7 +170,7 @@ impl<'t, 's> ClassText<'t, 's> {
     {
         match self
             .tables
-            .feature(ClassId::Declared(self.class), &name.text)
+            .feature(ClassId::Declared(self.class), name.as_str())
         {
             None => Err(refusal(Rule::UnknownName, name.span)),
             Some(entry) => { required(!is_query(&entry.feature.kind), Rule::ResultType, name.span) }

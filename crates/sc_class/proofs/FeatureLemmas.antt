@@ -66,7 +66,7 @@ feature_in s k n c fs o e f g =
 -- ---- along the ancestors
 
 module _ (redefined : List Name) (k : ℕ) (fs : List tree_feature.Feature) (i : ℕ) (x : tree_feature.Feature) (l : i < length fs) (g : x ≡ get_or fs i x) (total : List DeclaredFeature)
-    (y : List ℕ) (text : y ≡ string_bytes x.name.text) (b : Bool) (listed : b ≡ is_listed y redefined) where
+    (y : List ℕ) (text : y ≡ string_bytes x.name.text.value) (b : Bool) (listed : b ≡ is_listed y redefined) where
   -- the features from the one at the index on
   others : List DeclaredFeature
   others = not_redefined redefined (map (declared_in k) (map feature_of (drop (i + 1) fs)))

@@ -86,7 +86,7 @@ impl<'s> NameIndex<'s> {
         ensures pushed { OnOk result (self.new ≡ self.old ++ name_of name.now ∷ []) }
         ensures err { OnErr result (self.new ≡ self.old) }
     {
-        let text = name.text.as_str();
+        let text = name.as_str();
         let before = self.known.get(text).copied();
         let known = known_with(before, self.names.len(), name.span);
         self.names.reserve(1)?;
@@ -123,7 +123,7 @@ impl<'s> NameIndex<'s> {
         ensures { self.new ≡ take (length self.old - 1) self.old }
     {
         if let Some(last) = self.names.pop() {
-            let text = last.name.text.as_str();
+            let text = last.name.as_str();
             match last.before {
                 None => {
                     self.known.remove(text);

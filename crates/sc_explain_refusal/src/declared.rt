@@ -184,7 +184,7 @@ pub fn parent_of<'s>(system: &'s System, class: &Class) -> Option<&'s Class> {
 /// The feature of this name that a class declares.
 pub fn declared_in<'s>(class: &'s Class, name: &str) -> Option<&'s Feature> {
     for feature in class.features.iter() {
-        if feature.name.text.as_str() == name {
+        if feature.name.as_str() == name {
             return Some(feature);
         }
     }

@@ -276,7 +276,7 @@ impl<'s> Scope<'s> {
         match class {
             ClassId::Declared(number) => {
                 let first = self.routine.tables.creators(number).first()?;
-                Some(first.text.as_str())
+                Some(first.as_str())
             }
             _ => None,
         }
@@ -301,7 +301,7 @@ impl<'s> Scope<'s> {
 /// Adds the first of these features whose name is near to one, and whether there is one.
 fn push_near_among(lines: &mut Lines, features: &[FeatureEntry<'_>], name: &str) -> bool {
     for entry in features {
-        let known = &entry.feature.name.text;
+        let known = entry.feature.name.as_str();
         if is_slip(known.as_bytes(), name.as_bytes()) {
             push_meant(lines, known);
             return true;

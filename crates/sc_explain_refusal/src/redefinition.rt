@@ -30,7 +30,7 @@ fn push_for_relatives(
 ) {
     for other in system.classes.iter() {
         if other.span != class.span
-            && let Some(known) = declared_in(other, &feature.name.text)
+            && let Some(known) = declared_in(other, feature.name.as_str())
         {
             if inherits(system, class, other) {
                 return push_for_heir(lines, text, class, known, feature);
@@ -82,7 +82,7 @@ fn lacking_in_list(system: &System, class: &Class, span: Span) -> &'static str {
         Some(name) => {
             if inherited(system, class, name).is_none() {
                 "the parent has no such feature: leave it out under `redefine`"
-            } else if declared_in(class, &name.text).is_none() {
+            } else if declared_in(class, name.as_str()).is_none() {
                 "the class declares no feature of this name: declare one, or leave it out under `redefine`"
             } else {
                 "a name stands once under `redefine`"
@@ -122,5 +122,5 @@ fn listed_at(class: &Class, span: Span) -> Option<&Name> {
 
 /// The feature of this name that a class inherits.
 fn inherited<'s>(system: &'s System, class: &Class, name: &Name) -> Option<&'s Feature> {
-    feature_named(system, parent_of(system, class)?, &name.text)
+    feature_named(system, parent_of(system, class)?, name.as_str())
 }

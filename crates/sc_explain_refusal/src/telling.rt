@@ -222,7 +222,7 @@ impl<'s> Scope<'s> {
             return None;
         };
         for known in self.names.iter() {
-            if known.name == name.text.as_str() {
+            if known.name == name.as_str() {
                 return Some(known.role);
             }
         }
@@ -252,7 +252,7 @@ impl<'s> Scope<'s> {
         let Some(created) = self.type_of_variable(created) else {
             return false;
         };
-        let meaning = self.routine.qualified_meaning(created, &call.name.text);
+        let meaning = self.routine.qualified_meaning(created, call.name.as_str());
         match actual {
             None => self.tell_creator(lines, &meaning, created, call.actuals.len()),
             Some(number) => self.tell_actual(lines, &meaning, &call.actuals, number),

@@ -130,7 +130,7 @@ impl<'s> Walk<'s> {
     fn push_block_name(&mut self, head: &'s Head, given: Option<EntityType>) {
         let entity_type = block_type(blocks(&self.scope.names), given);
         let added = self.scope.names.push(Entity {
-            name: head.name.text.as_str(),
+            name: head.name.as_str(),
             entity_type,
             role: Role::Block,
         });

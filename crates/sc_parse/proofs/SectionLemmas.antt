@@ -27,9 +27,9 @@ same_texts [] [] e = refl
 same_texts [] (y ∷ ys) e = cc
 same_texts (x ∷ xs) [] e = cc
 same_texts (x ∷ xs) (y ∷ ys) e =
-    let head : string_bytes x.text ≡ string_bytes y.text = cc in
+    let head : string_bytes x.text.value ≡ string_bytes y.text.value = cc in
     let tail : map (λ n. n.text) (map name_of xs) ≡ map (λ n. n.text) (map name_of ys) = cc in
-    ap (λ t. bytes_eq t (string_bytes y.text) && same_list xs ys) head ∙ ap (λ b. b && same_list xs ys) (bytes_same (string_bytes y.text)) ∙ same_texts xs ys tail
+    ap (λ t. bytes_eq t (string_bytes y.text.value) && same_list xs ys) head ∙ ap (λ b. b && same_list xs ys) (bytes_same (string_bytes y.text.value)) ∙ same_texts xs ys tail
 
 pub same_names : (es : List plain.Name) (xs ys : List Name) → map name_of xs ≡ es → map name_of ys ≡ es → same_list xs ys ≡ true
 same_names es xs ys p q = same_texts xs ys (ap texts (p ∙ sym q))

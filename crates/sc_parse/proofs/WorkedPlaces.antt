@@ -2,6 +2,7 @@
 use Rattle.std.proofs.Common.{◌≡◌, ℕ, [], ◌∷◌, Ok, refl}
 use Rattle.std.specs.Prelude.{pos, string_bytes}
 use Rattle.std.specs.declared.string.String.{String}
+use Rattle.std.specs.declared.rc.Rc.{Rc}
 use Rattle.std.specs.declared.alloc.Global.{Global}
 use Rattle.sc_text.specs.declared.token.Span.{Span}
 use Rattle.sc_text.specs.declared.token.Token.{Token}
@@ -22,17 +23,17 @@ from start end = record { start = start; end = end }
 abbrev word : Terminal → ℕ → ℕ → Token
 word m start end = record { kind = kind.Terminal m; span = from start end }
 
-abbrev identifier : String Global → ℕ → ℕ → Token
+abbrev identifier : Rc (String Global) Global → ℕ → ℕ → Token
 identifier s start end = record { kind = kind.Name s; span = from start end }
 
-abbrev name : String Global → ℕ → ℕ → Name
-name s start end = record { text = string_bytes s; span = from start end }
+abbrev name : Rc (String Global) Global → ℕ → ℕ → Name
+name s start end = record { text = string_bytes s.value; span = from start end }
 
-abbrev query : String Global → ℕ → ℕ → Expr
+abbrev query : Rc (String Global) Global → ℕ → ℕ → Expr
 query s start end = Call (from start end) no_target (name s start end) no_exprs
 
 -- (a + b) * - c.f (1)
-abbrev row : String Global → String Global → String Global → String Global → Ahead
+abbrev row : Rc (String Global) Global → Rc (String Global) Global → Rc (String Global) Global → Rc (String Global) Global → Ahead
 row a b c f =
     record {
       last = from 0 0;
@@ -41,7 +42,7 @@ row a b c f =
           ∷ word terminal.OpenParenthesis 16 17 ∷ record { kind = kind.Integer (pos 1); span = from 17 18 } ∷ word terminal.CloseParenthesis 18 19 ∷ [];
     }
 
-row_read : (a b c f : String Global) → expr 3 6 (row a b c f) ≡ Ok (
+row_read : (a b c f : Rc (String Global) Global) → expr 3 6 (row a b c f) ≡ Ok (
   Binary (from 1 19) binary.Times (Binary (from 1 6) binary.Plus (query a 1 2) (query b 5 6))
       (Unary (from 10 19) unary.Minus (Call (from 12 19) (target (query c 12 13)) (name f 14 15) (expr_then (Integer (from 17 18) (pos 1)) no_exprs))),
   3,

@@ -24,7 +24,7 @@ fn exported_to(alloc: Global, names: Vec<Name>) -> Vec<Name>
     ensures { names_in result ≡ grammar.exported_to (names_in names) }
 {
     match names.as_slice() {
-        [name] if name.text.as_str() == "any" => Vec::new(alloc),
+        [name] if name.as_str() == "any" => Vec::new(alloc),
         _ => names,
     }
 }

@@ -19,7 +19,7 @@ behind_target : (c : Call) (t : Option (Box Expr Global)) → c.target ≡ t →
 behind_target c t e =
     ap names_in (expr_of-call c) ∙ ap (λ (t : Option (Box Expr Global)). names_in (plain.Call c.span (target_of t) (name_of c.name) (exprs_of c.actuals.items))) e
 
-pub names_in_own : (c : Call) → c.target ≡ None → names_in (expr_of (expr.Call c)) ≡ string_bytes c.name.text ∷ names_in_each (exprs_of c.actuals.items)
+pub names_in_own : (c : Call) → c.target ≡ None → names_in (expr_of (expr.Call c)) ≡ string_bytes c.name.text.value ∷ names_in_each (exprs_of c.actuals.items)
 names_in_own c e = behind_target c None e
 
 pub names_in_qualified : (c : Call) (a : Box Expr Global) → c.target ≡ Some a → names_in (expr_of (expr.Call c)) ≡ names_in (expr_of a.value) ++ names_in_each (exprs_of c.actuals.items)

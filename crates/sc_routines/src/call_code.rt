@@ -76,7 +76,7 @@ impl<'t, 's> Setting<'t, 's> {
         ensures told { IfOk result (λ l. l ≡ told_of_leaf (named.type_named (setting_in self.now) (map entity_of names.now) (name_of call.now.name).text)
             (olds + length (olds_of_each (exprs_of call.now.actuals.items)))) }
     {
-        let value = self.push_read(names, code, call_site(call), call.name.text.as_str())?;
+        let value = self.push_read(names, code, call_site(call), call.name.as_str())?;
         let passed = olds_in_each(self.context.alloc, &call.actuals)?;
         Ok(leaf(value, sum(olds, passed)?))
     }
@@ -92,7 +92,7 @@ impl<'t, 's> Setting<'t, 's> {
         ensures code { OnOk result (code.new ≡ code.old ++ routine_call_code (setting_in self.now) call.now actuals.now.types.items) }
         ensures told { IfOk result (λ l. l ≡ record { value = value; depth = max 1 actuals.now.depth; olds = actuals.now.olds; slots = 0 }) }
     {
-        let name = call.name.text.as_str();
+        let name = call.name.as_str();
         let site = call_site(call);
         self.push_routine_call(code, site, name, &actuals.types, call.actuals.len())?;
         Ok(Lowered {
@@ -115,7 +115,7 @@ impl<'t, 's> Setting<'t, 's> {
         ensures told { IfOk result (λ l. l ≡ told_of_feature_call
             (type_behind (system_in self.now.context.tables.now) (name_of call.now.name).text target.value) target actuals.now) }
     {
-        let name = call.name.text.as_str();
+        let name = call.name.as_str();
         self.push_feature_call(
             code,
             call_site(call),

@@ -87,7 +87,7 @@ impl<'t, 's> Setting<'t, 's> {
         ensures slots { IfOk result (λ l. l.slots ≡ 0) }
     {
         let Some(target) = &call.target else {
-            let Some(value) = self.routine_named(names, call.name.text.as_str()) else {
+            let Some(value) = self.routine_named(names, call.name.as_str()) else {
                 return self.lower_read(names, olds, code, call);
             };
             let passed = self.lower_actuals(names, olds, code, &call.actuals)?;

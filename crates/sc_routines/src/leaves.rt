@@ -274,7 +274,7 @@ impl<'t, 's> Setting<'t, 's> {
             },
         )?;
         names.push(Entity {
-            name: name.text.as_str(),
+            name: name.as_str(),
             entity_type: self.test_type(declared, tested.value),
             role: Role::Test,
         })?;

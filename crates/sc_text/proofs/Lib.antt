@@ -6,4 +6,5 @@ pub mod PartLengths
 pub mod Sound
 pub mod Strings
 pub mod Whole
+pub mod WordCases
 pub mod WordLengths

@@ -1,9 +1,10 @@
 -- The tokens of a whole text: what reading gives one after the other.
-use Rattle.std.proofs.Common.{◌≡◌, ℕ, zero, suc, ◌+◌, ◌-◌, ◌≤◌, ◌<◌, List, [], ◌∷◌, ◌++◌, length, take, drop, Result, Ok, Err, refl, ap, sym, ◌∙◌, subst, append-nil, length-append, length-drop, arith}
-use Rattle.std.specs.Prelude.{slice_range}
-use Rattle.std.proofs.lemmas.List.{take_at, drop_at, drop-drop, drop_all}
+use Rattle.std.proofs.Common.{◌≡◌, ℕ, zero, suc, ◌+◌, ◌-◌, ◌≤◌, ◌<◌, List, [], ◌∷◌, ◌++◌, length, take, drop, true, Result, Ok, Err, refl, ap, sym, ◌∙◌, subst, append-nil, length-append, length-drop, arith}
+use Rattle.std.specs.Prelude.{slice_index, slice_range}
+use Rattle.std.proofs.lemmas.List.{take_at, drop_at, drop-drop, drop_all, drop_more}
 use Rattle.sc_text.specs.declared.fault.LexFault.{LexFault}
 use Rattle.sc_text.specs.declared.fault.LexFault.TheVariants as fault
+use Rattle.sc_text.specs.Characters.{is_white_space}
 use Rattle.sc_text.specs.Kind.{Kind}
 use Rattle.sc_text.specs.Spelling.{max_source_bytes, Lexeme, IsGap, white_space, comment, IsToken, name, reserved_word, integer, manifest_string, long, short, IsWord, word, IsInteger, last_digit, digit, IsFault, bad_character, unclosed_string, bad_escape, integer_too_large, BeginsWith, here, gap, token, Spells, HasFault, IsRefused, StandInOrder}
 use Rattle.sc_text.specs.Reading.Front.{Front, Gap, Lexed, Flaw, front}
@@ -265,3 +266,12 @@ in_order (token {place} {end} {k} {cs} {text = t} {rest} {ts} h b) text split fi
 
 pub spelled_in_order : (text : List ℕ) (ts : List Lexeme) → Spells text ts → StandInOrder text 0 ts
 spelled_in_order text ts h = in_order h text refl (omega arith)
+
+white_ahead : (place c : ℕ) (cs : List ℕ) → is_white_space c ≡ true → front place (c ∷ cs) ≡ Gap 1
+unfolding front
+white_ahead place c cs e = rw e refl
+
+-- white space is read as a gap of one character
+pub white_front : (text : List ℕ) (place : ℕ) → place < length text → is_white_space (slice_index text place) ≡ true → front place (drop place text) ≡ Gap 1
+white_front text place within e =
+    subst (λ (cs : List ℕ). front place cs ≡ Gap 1) (sym (drop_more text place 0 within)) (white_ahead place (slice_index text place) (drop (place + 1) text) e)

@@ -13,9 +13,9 @@ pub data Kind : Type 0 where
   TERMINAL : Terminal → Kind
 
 abbrev pub kind_of : TokenKind → Kind
-kind_of (kind.Name s) = NAME (string_bytes s)
+kind_of (kind.Name s) = NAME (string_bytes s.value)
 kind_of (kind.Integer n) = INTEGER n
-kind_of (kind.ManifestString s) = STRING (string_bytes s)
+kind_of (kind.ManifestString s) = STRING (string_bytes s.value)
 kind_of (kind.Terminal t) = TERMINAL t
 
 -- the kinds of tokens, in order

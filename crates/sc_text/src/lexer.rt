@@ -8,13 +8,12 @@ ghost use Rattle.sc_text.specs.Reading.Answers.{Gives, GivesMarks};
 
 use crate::characters::{escape, is_white_space};
 use crate::fault::LexFault;
-use crate::names::Names;
-use crate::reserved_words::reserved;
 use crate::scan::{
-    closing_quote, comment_length, integer_length, name_length, number, unmarked_length,
+    closing_quote, comment_length, integer_length, name_ahead, number, unmarked_length,
 };
 use crate::symbols::{long_symbol, short_symbol};
 use crate::token::{Span, Token, TokenKind};
+use crate::words::Words;
 use std::alloc::Global;
 use std::rc::Rc;
 
@@ -47,10 +46,14 @@ pub fn lex(alloc: Global, text: &str) -> Result<Vec<Token>, LexFault>
         return Err(LexFault::SourceTooLong);
     }
     let mut tokens = Vec::new(alloc);
-    let mut names = Names::new(alloc)?;
+    let mut words = Words::new(alloc)?;
     let mut place = 0;
     while place < text.len() {
-        match piece_at(alloc, &mut names, text, place)? {
+        if is_white_space(text.as_bytes()[place]) {
+            place += 1;
+            continue;
+        }
+        match piece_at(alloc, &mut words, text, place)? {
             Piece::Gap { length } => place += length,
             Piece::Token { kind, length } => {
                 let span = span_at(place, length);
@@ -75,8 +78,9 @@ fn span_at(place: usize, length: usize) -> Span
 
 /// What stands at this place of the text.
 #[tactic(auto, unfolding(crate::specs::Reading::Front::front))]
-fn piece_at(alloc: Global, names: &mut Names, text: &str, place: usize) -> Result<Piece, LexFault>
-    requires { place < length text.now }
+fn piece_at(alloc: Global, words: &mut Words, text: &str, place: usize) -> Result<Piece, LexFault>
+    requires within { place < length text.now }
+    requires fits { length text.now ≤ u32.MAX }
     ensures { Gives (spec.front place (drop place text.now)) result }
 {
     let rest = &text.as_bytes()[place..];
@@ -84,7 +88,7 @@ fn piece_at(alloc: Global, names: &mut Names, text: &str, place: usize) -> Resul
     if is_white_space(first) {
         Ok(Piece::Gap { length: 1 })
     } else if first.is_ascii_alphabetic() {
-        word(names, text, place)
+        word(words, text, place)
     } else if first.is_ascii_digit() {
         integer(rest, place)
     } else if first == b'"' {
@@ -96,18 +100,15 @@ fn piece_at(alloc: Global, names: &mut Names, text: &str, place: usize) -> Resul
 
 /// The name or the reserved word that the letter at this place begins.
 #[tactic(auto, unfolding(crate::specs::Reading::Front::word))]
-fn word(names: &mut Names, text: &str, place: usize) -> Result<Piece, LexFault>
+fn word(words: &mut Words, text: &str, place: usize) -> Result<Piece, LexFault>
     requires within { place < length text.now }
     requires begins { IsTrue (is_letter (slice_index text.now place)) }
     ensures { Gives (spec.word (drop place text.now)) result }
 {
     let (_, rest) = text.split_at(place);
-    let length = name_length(rest.as_bytes());
+    let (length, mixed) = name_ahead(rest.as_bytes());
     let (word, _) = rest.split_at(length);
-    let kind = match reserved(word.as_bytes()) {
-        Some(terminal) => TokenKind::Terminal(terminal),
-        None => TokenKind::Name(names.lower_case(word)?),
-    };
+    let kind = words.token_kind(word, mixed)?;
     Ok(Piece::Token { kind, length })
 }
 
@@ -134,6 +135,7 @@ fn integer(text: &[u8], place: usize) -> Result<Piece, LexFault>
 fn manifest_string(alloc: Global, text: &str, place: usize) -> Result<Piece, LexFault>
     requires within { place < length text.now }
     requires opens { slice_index text.now place ≡ quote }
+    requires fits { length text.now ≤ u32.MAX }
     ensures { Gives (spec.manifest_string place (drop (place + 1) text.now)) result }
 {
     let (_, rest) = text.split_at(place + 1);

@@ -7,11 +7,11 @@ mod characters;
 mod fault;
 mod laws;
 mod lexer;
-mod names;
 mod reserved_words;
 mod scan;
 mod symbols;
 mod token;
+mod words;
 
 pub use fault::LexFault;
 pub use laws::{no_spelling_of_faults, one_fault, one_spelling};

@@ -11,16 +11,18 @@ use crate::characters::{ends_line, is_comment_part, is_name_part};
 /// The greatest integer.
 const MAX_INTEGER: u64 = 9_223_372_036_854_775_807;
 
-/// How many letters, digits and underscores the text begins with.
-pub fn name_length(text: &[u8]) -> usize
-    ensures { result ≡ prefix_len is_name_part text.now }
+/// How many letters, digits and underscores the text begins with, and a number that is mixed of them, whatever their case.
+pub fn name_ahead(text: &[u8]) -> (usize, usize)
+    ensures { result.0 ≡ prefix_len is_name_part text.now }
 {
+    let mut mixed: u32 = 0;
     for (at, byte) in text.iter().enumerate() {
         if !is_name_part(*byte) {
-            return at;
+            return (at, mixed as usize);
         }
+        mixed = mixed.wrapping_mul(31).wrapping_add(u32::from(*byte | 32));
     }
-    text.len()
+    (text.len(), mixed as usize)
 }
 
 /// How far the text goes on its first line.

@@ -7,7 +7,7 @@ use Rattle.sc_tree.specs.Plain.{Expr, Clause, Head, Instr, If, Loop, Check, Bloc
 use Rattle.sc_tree.specs.Bare.{nowhere, named}
 use Rattle.sc_tree.specs.Grammar as grammar
 use Rattle.sc_tree.specs.Grammar.{top, around, IsChain, IsClauses, IsHead, IsHeads, IsInstr, IsInstrs, IsBranches, IsElse}
-use Rattle.sc_tree.specs.Internal.Reading.{Read, ◌>>=◌, same_terminal, sees, expect, skip_semicolons, name, name_ahead, begins_instr, begins_expr, chain, nested, nested_clauses, instrs_push, branches_push, nested_chain, branch, branches, other, conditional, iteration, checked, checking, head, more_heads, heads, block, instr, instrs_from, body, instrs, nested_instrs}
+use Rattle.sc_tree.specs.Internal.Reading.{Read, ◌>>=◌, same_terminal, sees, expect, skip_semicolons, name_ahead, begins_instr, begins_expr, chain, nested, nested_clauses, instrs_push, branches_push, nested_chain, branch, branches, other, conditional, iteration, checked, checking, head, more_heads, heads, block, instr, instrs_from, body, instrs, nested_instrs}
 use Rattle.sc_tree.proofs.ReadingSteps.{behind_word, Comes, fits, deep, both, surely, lastly, along, needs, grown, where_true, choose_true, choose_false}
 use Rattle.sc_tree.proofs.Looks.{expect_self, sees_self}
 use Rattle.sc_tree.proofs.Lists.{some_tokens, instrs_joined, instrs_joined-push, instrs_joined-none, branches_joined, branches_joined-push, branches_joined-none, skip_one, skip_none, skip_shorter}

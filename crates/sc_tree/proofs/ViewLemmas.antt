@@ -40,10 +40,10 @@ use Rattle.sc_tree.specs.View.{name_of, handler_tag_of, type_of, type_if_any, de
 -- ---- types
 
 pub bare_type-is : (t : DeclaredType) →
-    bare_type (type_of t) ≡ record { span = nowhere; is_detachable = t.is_detachable; tag = bare_handler_tag (handler_tag_of t.tag); class = named (string_bytes t.class.value.text) }
+    bare_type (type_of t) ≡ record { span = nowhere; is_detachable = t.is_detachable; tag = bare_handler_tag (handler_tag_of t.tag); class = named (string_bytes t.class.value.text.value) }
 bare_type-is t = refl
 
-pub bare_declaration-is : (d : Declaration) → bare_declaration (declaration_of d) ≡ grammar.declared_as (bare_type (type_of d.declared_type)) (named (string_bytes d.name.text))
+pub bare_declaration-is : (d : Declaration) → bare_declaration (declaration_of d) ≡ grammar.declared_as (bare_type (type_of d.declared_type)) (named (string_bytes d.name.text.value))
 bare_declaration-is d = refl
 
 -- ---- expressions
@@ -125,7 +125,7 @@ unfolding bare_expr
 bare_call s t n es = refl
 
 pub bare_expr-call : (c : Call) →
-    bare_expr (expr_of (expr.Call c)) ≡ plain.Call nowhere (bare_target (target_of c.target)) (named (string_bytes c.name.text)) (bare_exprs (exprs_of c.actuals.items))
+    bare_expr (expr_of (expr.Call c)) ≡ plain.Call nowhere (bare_target (target_of c.target)) (named (string_bytes c.name.text.value)) (bare_exprs (exprs_of c.actuals.items))
 bare_expr-call c = ap bare_expr (expr_of-call c) ∙ bare_call c.span _ _ _
 
 pub bare_target-none : bare_target (target_of None) ≡ plain.no_target
@@ -146,7 +146,7 @@ unfolding expr_of bare_expr
 bare_expr-binary s op a b = refl
 
 pub bare_expr-object_test : (s : Span) (t : Option DeclaredType) (a : Box Expr Global) (n : Name) →
-    bare_expr (expr_of (expr.ObjectTest s t a n)) ≡ plain.ObjectTest nowhere (bare_type_if_any (type_if_any t)) (bare_expr (expr_of a.value)) (named (string_bytes n.text))
+    bare_expr (expr_of (expr.ObjectTest s t a n)) ≡ plain.ObjectTest nowhere (bare_type_if_any (type_if_any t)) (bare_expr (expr_of a.value)) (named (string_bytes n.text.value))
 unfolding expr_of bare_expr
 bare_expr-object_test s t a n = refl
 
@@ -181,7 +181,7 @@ pub instr_of-assign : (s : Span) (v : Variable) (e : Expr) → instr_of (instr.A
 unfolding instr_of
 instr_of-assign s v e = refl
 
-pub instr_of-print_text : (s : Span) (t : String Global) → instr_of (instr.PrintText s t) ≡ plain.PrintText s (string_bytes t)
+pub instr_of-print_text : (s : Span) (t : Rc (String Global) Global) → instr_of (instr.PrintText s t) ≡ plain.PrintText s (string_bytes t.value)
 unfolding instr_of
 instr_of-print_text s t = refl
 
@@ -220,12 +220,12 @@ pub bare_instr-assign : (s : Span) (v : Variable) (e : Expr) → bare_instr (ins
 unfolding instr_of bare_instr
 bare_instr-assign s v e = refl
 
-pub bare_instr-print_text : (s : Span) (t : String Global) → bare_instr (instr_of (instr.PrintText s t)) ≡ plain.PrintText nowhere (string_bytes t)
+pub bare_instr-print_text : (s : Span) (t : Rc (String Global) Global) → bare_instr (instr_of (instr.PrintText s t)) ≡ plain.PrintText nowhere (string_bytes t.value)
 unfolding instr_of bare_instr
 bare_instr-print_text s t = refl
 
 pub bare_instr-call : (c : Call) →
-    bare_instr (instr_of (instr.Call c)) ≡ plain.CallRoutine nowhere (bare_target (target_of c.target)) (named (string_bytes c.name.text)) (bare_exprs (exprs_of c.actuals.items))
+    bare_instr (instr_of (instr.Call c)) ≡ plain.CallRoutine nowhere (bare_target (target_of c.target)) (named (string_bytes c.name.text.value)) (bare_exprs (exprs_of c.actuals.items))
 unfolding instr_of bare_instr
 bare_instr-call c = refl
 
@@ -294,27 +294,27 @@ pub bare_clause-is : (c : Clause) → bare_clause (clause_of c) ≡ record { tag
 unfolding clause_of
 bare_clause-is c = refl
 
-pub bare_head-is : (h : Head) → bare_head (head_of h) ≡ record { value = bare_expr (expr_of h.value); name = named (string_bytes h.name.text) }
+pub bare_head-is : (h : Head) → bare_head (head_of h) ≡ record { value = bare_expr (expr_of h.value); name = named (string_bytes h.name.text.value) }
 unfolding head_of
 bare_head-is h = refl
 
 pub bare_feature-is : (f : Feature) →
-    bare_feature (feature_of f) ≡ record { exports = map bare_name (map name_of f.exports.value.items); name = named (string_bytes f.name.text); kind = bare_kind (kind_of f.kind) }
+    bare_feature (feature_of f) ≡ record { exports = map bare_name (map name_of f.exports.value.items); name = named (string_bytes f.name.text.value); kind = bare_kind (kind_of f.kind) }
 unfolding feature_of
 bare_feature-is f = refl
 
 pub bare_feature-attribute : (es : Rc (Vec Name Global) Global) (is_further : Bool) (n : Name) (t : DeclaredType) →
     bare_feature (feature_of (record { exports = es; is_further = is_further; name = n; kind = kind.Attribute t }))
-    ≡ grammar.attribute_of (map bare_name (map name_of es.value.items)) (bare_type (type_of t)) (named (string_bytes n.text))
+    ≡ grammar.attribute_of (map bare_name (map name_of es.value.items)) (bare_type (type_of t)) (named (string_bytes n.text.value))
 unfolding feature_of kind_of
 bare_feature-attribute es is_further n t = refl
 
-pub bare_parent-is : (p : Parent) → bare_parent (parent_of p) ≡ record { name = named (string_bytes p.name.text); redefined = map bare_name (map name_of p.redefined.items) }
+pub bare_parent-is : (p : Parent) → bare_parent (parent_of p) ≡ record { name = named (string_bytes p.name.text.value); redefined = map bare_name (map name_of p.redefined.items) }
 bare_parent-is p = refl
 
 pub bare_class-is : (c : Class) →
     bare_class (class_of c)
-    ≡ grammar.class_of (bare_mark (mark_if_any c.mark)) (named (string_bytes c.name.text)) (map bare_parent (map parent_of c.parents.items)) (map bare_name (map name_of c.creators.items))
+    ≡ grammar.class_of (bare_mark (mark_if_any c.mark)) (named (string_bytes c.name.text.value)) (map bare_parent (map parent_of c.parents.items)) (map bare_name (map name_of c.creators.items))
     (map bare_feature (map feature_of c.features.items)) (map bare_clause (map clause_of c.invariant.items))
 unfolding class_of
 bare_class-is c = refl

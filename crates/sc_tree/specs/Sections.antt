@@ -9,7 +9,7 @@ abbrev pub same_list : List Name → List Name → Bool
 same_list [] [] = true
 same_list [] (y ∷ ys) = false
 same_list (x ∷ xs) [] = false
-same_list (x ∷ xs) (y ∷ ys) = bytes_eq (string_bytes x.text) (string_bytes y.text) && same_list xs ys
+same_list (x ∷ xs) (y ∷ ys) = bytes_eq (string_bytes x.text.value) (string_bytes y.text.value) && same_list xs ys
 
 -- A feature that stands under the same `feature` as the one before it has its export list.
 abbrev pub shares_list : List Name → Feature → Bool

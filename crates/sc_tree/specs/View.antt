@@ -29,7 +29,7 @@ use Rattle.sc_tree.specs.declared.system.System.{System}
 use Rattle.sc_tree.specs.Plain as plain
 
 abbrev pub name_of : Name → plain.Name
-name_of n = record { text = string_bytes n.text; span = n.span }
+name_of n = record { text = string_bytes n.text.value; span = n.span }
 
 abbrev pub handler_tag_of : HandlerTag → plain.HandlerTag
 handler_tag_of handler.Own = plain.Own
@@ -96,7 +96,7 @@ head_of h = record { value = expr_of h.value; name = name_of h.name }
 unfoldable mutual
   pub instr_of : Instr → plain.Instr
   instr_of (instr.Assign s v e) = plain.Assign s (variable_of v) (expr_of e)
-  instr_of (instr.PrintText s t) = plain.PrintText s (string_bytes t)
+  instr_of (instr.PrintText s t) = plain.PrintText s (string_bytes t.value)
   instr_of (instr.Call c) = plain.CallRoutine c.span (target_of c.target) (name_of c.name) (exprs_of c.actuals.items)
   instr_of (instr.Create s v c) = plain.Create s (record { variable = variable_of v; call = creation_call_of c })
   instr_of (instr.If' s e body_shape body branches_shape branches other_shape other) =

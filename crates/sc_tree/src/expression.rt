@@ -16,6 +16,13 @@ pub struct Name {
 }
 
 impl Name {
+    /// Its text.
+    pub fn as_str(&self) -> &str
+        ensures value { result.now ≡ string_bytes self.now.text.value }
+    {
+        self.text.as_str()
+    }
+
     /// Whether it is `print`, the name of the feature that every class has.
     pub fn is_print(&self) -> bool
         ensures { result ≡ properties.is_print (string_bytes self.now.text.value) }

@@ -27,7 +27,7 @@ abbrev pub Passed : List ℕ → List tree_feature.Feature → ℕ → Type 0
 Passed x fs i = number_among x (names_of fs) ≡ option_map (λ k. i + k) (number_among x (names_of (drop i fs)))
 
 module _ (x : List ℕ) (begin : ℕ) (fs : List tree_feature.Feature) (i : ℕ) (f : tree_feature.Feature) (low : i < length fs) (here : f ≡ get_or fs i f) (before : Passed x fs i) where
-  from_here : (b : Bool) → bytes_eq (string_bytes f.name.text) x ≡ b →
+  from_here : (b : Bool) → bytes_eq (string_bytes f.name.text.value) x ≡ b →
       number_among x (names_of (drop i fs)) ≡ (if b then Some 0 else option_map (λ k. k + 1) (number_among x (names_of (drop (i + 1) fs))))
   unfolding feature_of
   from_here b e =
@@ -37,22 +37,22 @@ module _ (x : List ℕ) (begin : ℕ) (fs : List tree_feature.Feature) (i : ℕ)
   nothing_more : i + 0 ≡ i
   nothing_more = omega arith
 
-  is_first : bytes_eq (string_bytes f.name.text) x ≡ true → number_among x (names_of fs) ≡ Some i
+  is_first : bytes_eq (string_bytes f.name.text.value) x ≡ true → number_among x (names_of fs) ≡ Some i
   is_first e = before ∙ ap (option_map (λ k. i + k)) (from_here true e) ∙ ap Some nothing_more
 
-  begins : BeginsAt begin x (map feature_of fs) → bytes_eq (string_bytes f.name.text) x ≡ true → f.name.span.start ≡ begin
+  begins : BeginsAt begin x (map feature_of fs) → bytes_eq (string_bytes f.name.text.value) x ≡ true → f.name.span.start ≡ begin
   unfolding feature_of
   begins h e = h i (feature_of f) (is_first e) (item_in feature_of fs i f low here)
 
   pub found_at : name_begins (name_of f.name) begin x ≡ true → Some i ≡ number_among x (names_of fs)
-  found_at e = sym (is_first (second (f.name.span.start == begin) (bytes_eq (string_bytes f.name.text) x) e))
+  found_at e = sym (is_first (second (f.name.span.start == begin) (bytes_eq (string_bytes f.name.text.value) x) e))
     where
       second : (a b : Bool) → (a && b) ≡ true → b ≡ true
       second true b e = e
       second false b e = cc
 
   pub passed_at : BeginsAt begin x (map feature_of fs) → name_begins (name_of f.name) begin x ≡ false → Passed x fs (i + 1)
-  passed_at h e = by (bytes_eq (string_bytes f.name.text) x) refl
+  passed_at h e = by (bytes_eq (string_bytes f.name.text.value) x) refl
     where
       shifted : (o : Option ℕ) → option_map (λ k. i + k) (option_map (λ k. k + 1) o) ≡ option_map (λ k. (i + 1) + k) o
       shifted None = refl
@@ -67,9 +67,9 @@ module _ (x : List ℕ) (begin : ℕ) (fs : List tree_feature.Feature) (i : ℕ)
       both : (a b : Bool) → a ≡ true → b ≡ true → (a && b) ≡ false → ⊥
       both a b e f g = cc
 
-      by : (b : Bool) → bytes_eq (string_bytes f.name.text) x ≡ b → Passed x fs (i + 1)
+      by : (b : Bool) → bytes_eq (string_bytes f.name.text.value) x ≡ b → Passed x fs (i + 1)
       by false j = before ∙ ap (option_map (λ k. i + k)) (from_here false j) ∙ shifted (number_among x (names_of (drop (i + 1) fs)))
-      by true j = absurd (both (f.name.span.start == begin) (bytes_eq (string_bytes f.name.text) x) (same f.name.span.start begin (begins h j)) j e)
+      by true j = absurd (both (f.name.span.start == begin) (bytes_eq (string_bytes f.name.text.value) x) (same f.name.span.start begin (begins h j)) j e)
 
 -- ---- the features of a class
 

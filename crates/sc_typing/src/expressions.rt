@@ -183,7 +183,7 @@ impl<'t, 's> RoutineContext<'t, 's> {
                 self.judge_tested(declared)?;
                 let tested = self.expression(context, Position::Plain, names, tested)?;
                 names.push(Entity {
-                    name: name.text.as_str(),
+                    name: name.as_str(),
                     entity_type: self.test_type(declared, tested.entity_type),
                     role: Role::Test,
                 })?;

@@ -73,7 +73,7 @@ fn is_hidden(exports: &[Name]) -> bool
 {
     match exports {
         [] => false,
-        [first, ..] => first.text.as_str() == "none",
+        [first, ..] => first.as_str() == "none",
     }
 }
 
@@ -222,10 +222,10 @@ impl<'t, 's> RoutineContext<'t, 's> {
             (name_of name.now) }
     {
         match target {
-            None => self.unqualified_meaning(names, &name.text),
+            None => self.unqualified_meaning(names, name.as_str()),
             Some(_) => match target_type {
                 None => Meaning::TargetUntyped,
-                Some(target) => self.qualified_meaning(target, &name.text),
+                Some(target) => self.qualified_meaning(target, name.as_str()),
             },
         }
     }

@@ -5,6 +5,7 @@ use Rattle.std.specs.Prelude.{◌||◌}
 use Rattle.std.specs.declared.vec.Vec.{Vec}
 use Rattle.std.specs.declared.alloc.Global.{Global}
 use Rattle.std.specs.declared.string.String.{String}
+use Rattle.std.specs.declared.rc.Rc.{Rc}
 use Rattle.sc_text.specs.declared.token.Span.{Span}
 use Rattle.sc_tree.specs.declared.expression.UnaryOperator.{UnaryOperator}
 use Rattle.sc_tree.specs.declared.expression.BinaryOperator.{BinaryOperator}
@@ -244,7 +245,7 @@ module _ (h : RoutineContext) (n : Entities) (i : Instr) where
       (ap (λ (b : Bool). judging.side_effect_if b ++ judging.effects h context.Body Source n (expr_of e)) (bq ∙ ap judging.is_to_attribute tq)
       ∙ instr_effects _ (instr.Assign s v e) q (instr_of-assign s v e))
 
-  pub print_effects : (s : Span) (x : String Global) → i ≡ instr.PrintText s x → judging.side_effect_if true ≡ judging.effects_of_instr h n (instr_of i)
+  pub print_effects : (s : Span) (x : Rc (String Global) Global) → i ≡ instr.PrintText s x → judging.side_effect_if true ≡ judging.effects_of_instr h n (instr_of i)
   unfolding judging.effects_of_instr
   print_effects s x q = instr_effects _ (instr.PrintText s x) q (instr_of-print_text s x)
 

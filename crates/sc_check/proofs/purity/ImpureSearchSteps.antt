@@ -257,17 +257,17 @@ entry_stands s fs n x e l g = by_feature (slice_get (all_features s) n) refl
     by_feature (Some d) h i = record { feature = d; is_there = h; is_named = some_is (routine_of d) (routine_of (entry_of x)) i }
 
 -- the name that the code reads is that of the routine
-pub entry_name : (e : FeatureEntry) (x : List ℕ) → x ≡ string_bytes e.feature.now.name.text → x ≡ (routine_of (entry_of e)).name
+pub entry_name : (e : FeatureEntry) (x : List ℕ) → x ≡ string_bytes e.feature.now.name.text.value → x ≡ (routine_of (entry_of e)).name
 unfolding feature_of
 entry_name e x n = n
 
 -- and so is the number that goes by it
-pub entry_number : (s : System) (e : FeatureEntry) (x : List ℕ) (o : Option ℕ) → x ≡ string_bytes e.feature.now.name.text → o ≡ feature_number s (record { class = e.class; name = x }) →
+pub entry_number : (s : System) (e : FeatureEntry) (x : List ℕ) (o : Option ℕ) → x ≡ string_bytes e.feature.now.name.text.value → o ≡ feature_number s (record { class = e.class; name = x }) →
     o ≡ feature_number s (routine_of (entry_of e))
 entry_number s e x o n m = m ∙ ap (λ (x : List ℕ). feature_number s (record { class = e.class; name = x })) (entry_name e x n)
 
 -- and so are the effects
-pub entry_effects : (s : System) (e : FeatureEntry) (x : List ℕ) (read ds : List held.Effect) → x ≡ string_bytes e.feature.now.name.text → read ≡ ds →
+pub entry_effects : (s : System) (e : FeatureEntry) (x : List ℕ) (read ds : List held.Effect) → x ≡ string_bytes e.feature.now.name.text.value → read ≡ ds →
     map effect_of ds ≡ all_effects s (record { class = e.class; name = x }) → map effect_of read ≡ all_effects s (routine_of (entry_of e))
 entry_effects s e x read ds n i m = ap (map effect_of) i ∙ m ∙ ap (λ (x : List ℕ). all_effects s (record { class = e.class; name = x })) (entry_name e x n)
 

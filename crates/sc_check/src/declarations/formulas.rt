@@ -85,7 +85,7 @@ fn is_value_attribute(tables: &Tables, class: usize, call: &Call) -> bool
     match &call.target {
         Some(_) => false,
         None => match call.actuals.as_slice() {
-            [] => is_value_type(attribute_type_named(tables, class, &call.name.text)),
+            [] => is_value_type(attribute_type_named(tables, class, call.name.as_str())),
             [_, ..] => false,
         },
     }
@@ -100,7 +100,7 @@ fn is_reference_call(tables: &Tables, class: usize, call: &Call) -> bool
     match &call.target {
         Some(_) => false,
         None => match call.actuals.as_slice() {
-            [] => is_reference_type(attribute_type_named(tables, class, &call.name.text)),
+            [] => is_reference_type(attribute_type_named(tables, class, call.name.as_str())),
             [_, ..] => false,
         },
     }

@@ -41,7 +41,7 @@ fn judge_head<'s>(
     let conforms = conforms_if_any(routine.tables, value.entity_type, Some(separate_any()));
     required(conforms, Rule::ArgumentType, head.value.span())?;
     Ok(Entity {
-        name: head.name.text.as_str(),
+        name: head.name.as_str(),
         entity_type: block_type(number, value.entity_type),
         role: Role::Block,
     })

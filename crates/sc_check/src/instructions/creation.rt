@@ -61,7 +61,7 @@ fn is_made_by(tables: &Tables, class: ClassId, name: &Name) -> bool
     ensures { result ≡ text.is_made_by (system_in tables.now) class (name_of name.now) }
 {
     match class {
-        ClassId::Declared(number) => tables.is_creator(number, &name.text),
+        ClassId::Declared(number) => tables.is_creator(number, name.as_str()),
         ClassId::Any | ClassId::None | ClassId::Integer | ClassId::Boolean => false,
     }
 }
@@ -97,7 +97,7 @@ fn creation_meaning<'s>(
 {
     match created {
         None => Meaning::TargetUntyped,
-        Some(created) => routine.qualified_meaning(created, &name.text),
+        Some(created) => routine.qualified_meaning(created, name.as_str()),
     }
 }
 

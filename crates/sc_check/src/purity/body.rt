@@ -115,7 +115,7 @@ fn add_heads<'s>(
         )?;
         let number = blocks(known);
         known.push(Entity {
-            name: head.name.text.as_str(),
+            name: head.name.as_str(),
             entity_type: block_type(number, judged_type(value)),
             role: Role::Block,
         })?;

@@ -76,7 +76,7 @@ fn record_effect(
             Ok(())
         }
         Effect::RoutineCall(called) => {
-            let Some(called) = numbering.number(called.class, &called.feature.name.text) else {
+            let Some(called) = numbering.number(called.class, called.feature.name.as_str()) else {
                 return Ok(());
             };
             callers.add(called, number)?;
@@ -104,7 +104,7 @@ fn collect_effects(
         alloc,
         numbering.tables,
         entry.class,
-        &entry.feature.name.text,
+        entry.feature.name.as_str(),
     )?;
     for effect in &effects {
         record_effect(numbering, search, callers, number, *effect)?;
@@ -130,7 +130,7 @@ fn mark_runners(
     mark_all(search, callers.of(number))?;
     let entry = numbering.features[number];
     let classes = numbering.tables.ancestors(ClassId::Declared(entry.class));
-    mark_named(search, numbering, classes, &entry.feature.name.text)?;
+    mark_named(search, numbering, classes, entry.feature.name.as_str())?;
     Ok(())
 }
 

@@ -235,7 +235,7 @@ pub fn add_condition<'s>(
         Expr::ObjectTest(_, declared, tested, name) => {
             let tested = add_expression(routine, context, Position::Plain, names, tested, effects)?;
             names.push(Entity {
-                name: name.text.as_str(),
+                name: name.as_str(),
                 entity_type: routine.test_type(declared, judged_type(tested)),
                 role: Role::Test,
             })?;

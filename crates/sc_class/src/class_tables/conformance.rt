@@ -88,7 +88,7 @@ fn is_same_tag(one: &HandlerTag, other: &HandlerTag) -> bool
         HandlerTag::Own => matches!(other, HandlerTag::Own),
         HandlerTag::Separate => matches!(other, HandlerTag::Separate),
         HandlerTag::HandlerOf(name) => match other {
-            HandlerTag::HandlerOf(other) => is_same_text(&name.text, &other.text),
+            HandlerTag::HandlerOf(other) => is_same_text(name.as_str(), other.as_str()),
             HandlerTag::Own | HandlerTag::Separate => false,
         },
     }
@@ -108,7 +108,7 @@ fn tag_conforms(one: &HandlerTag, other: &HandlerTag) -> bool
 pub fn is_same_type(one: &DeclaredType, other: &DeclaredType) -> bool
     ensures { result ≡ conformance.is_same_type (type_of one.now) (type_of other.now) }
 {
-    is_same_text(&one.class.text, &other.class.text)
+    is_same_text(one.class.as_str(), other.class.as_str())
         && one.is_detachable == other.is_detachable
         && is_same_tag(&one.tag, &other.tag)
 }
@@ -133,8 +133,8 @@ pub fn type_conforms(hierarchy: &Hierarchy, one: &DeclaredType, other: &Declared
     is_same_type(one, other)
         || (known_conforms(
             hierarchy,
-            type_class(hierarchy, &one.class.text),
-            type_class(hierarchy, &other.class.text),
+            type_class(hierarchy, one.class.as_str()),
+            type_class(hierarchy, other.class.as_str()),
         ) && (!one.is_detachable || other.is_detachable)
             && tag_conforms(&one.tag, &other.tag))
 }

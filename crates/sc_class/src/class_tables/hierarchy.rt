@@ -38,7 +38,7 @@ fn parent_class(names: &NameIndex, class: &Class) -> Option<usize>
 {
     match class.parents.as_slice() {
         [] => None,
-        [parent, ..] => class_number(names, &parent.name.text),
+        [parent, ..] => class_number(names, parent.name.as_str()),
     }
 }
 

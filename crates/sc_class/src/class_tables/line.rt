@@ -138,7 +138,7 @@ impl<'s> Line<'s> {
         ensures { let x = (name_of name.now).text in
             change_of result ≡ record { text = x; features = known_by x self.now.known } }
     {
-        let text = name.text.as_str();
+        let text = name.as_str();
         let features = self.named(text);
         Change { text, features }
     }

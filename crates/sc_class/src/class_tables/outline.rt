@@ -191,7 +191,7 @@ impl<'s> Outline<'s> {
             return Ok(());
         };
         for feature in &text.features {
-            if !redefined.contains(&feature.name.text) {
+            if !redefined.contains(feature.name.as_str()) {
                 features.push(FeatureEntry { class, feature })?;
             }
         }

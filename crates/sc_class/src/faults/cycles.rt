@@ -65,7 +65,7 @@ fn is_below_none(hierarchy: &Hierarchy, ranks: &[usize], number: usize, parents:
 fn is_not_below(hierarchy: &Hierarchy, ranks: &[usize], number: usize, parent: &Parent) -> bool
     ensures { OnTrue result (IsNotBelow (in_hierarchy hierarchy.now) ranks.now number (parent_of parent.now)) }
 {
-    match hierarchy.number(&parent.name.text) {
+    match hierarchy.number(parent.name.as_str()) {
         None => true,
         Some(above) => rank(ranks, above) <= rank(ranks, number),
     }
@@ -122,7 +122,7 @@ fn name_leads_to(
     ensures { IfOk result (λ leads. IsTrue leads
         ↔ NameLeadsTo (in_hierarchy hierarchy.now) number (parent_of parent.now)) }
 {
-    match hierarchy.number(&parent.name.text) {
+    match hierarchy.number(parent.name.as_str()) {
         None => Ok(false),
         Some(start) => {
             if rank(ranks, start) < rank(ranks, number) {
@@ -211,7 +211,7 @@ impl Search {
             OnOk result (Grows is_it self.old.seen.items self.old.todo.items self.new.seen.items self.new.todo.items
             × ((k : ℕ) → is_it k → IsSeen self.new.seen.items k)) }
     {
-        match hierarchy.number(&parent.name.text) {
+        match hierarchy.number(parent.name.as_str()) {
             None => Ok(()),
             Some(number) => self.see(number),
         }

@@ -124,7 +124,7 @@ fn is_plain_export(exports: &[Name]) -> bool
 {
     match exports {
         [] => true,
-        [only] => is_any(&only.text) || is_none(&only.text),
+        [only] => is_any(only.as_str()) || is_none(only.as_str()),
         [_, _, ..] => false,
     }
 }

@@ -33,7 +33,7 @@ fn taken_name(hierarchy: &Hierarchy, number: usize, name: &Name) -> Option<Span>
         result ≡ (if is_built_in n.text || not (option_eq nat_eq number_of_name (Some number))
         then Some n.span else None) }
 {
-    let text = &name.text;
+    let text = name.as_str();
     if is_built_in(text) || hierarchy.names.number(text) != Some(number) {
         Some(name.span)
     } else {
@@ -71,10 +71,10 @@ fn unknown(hierarchy: &Hierarchy, parent: &Parent) -> Option<Span>
     ensures { FindsFirstPlace (UnknownParentAt (in_hierarchy hierarchy.now) (parent_of parent.now)) result }
 {
     let name = &parent.name;
-    if is_any(&name.text) {
+    if is_any(name.as_str()) {
         return None;
     }
-    match hierarchy.number(&name.text) {
+    match hierarchy.number(name.as_str()) {
         None => Some(name.span),
         Some(_) => None,
     }

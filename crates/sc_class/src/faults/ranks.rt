@@ -62,7 +62,7 @@ impl Walk {
             return Ok(());
         };
         for parent in &text.parents {
-            if let Some(above) = hierarchy.number(&parent.name.text) {
+            if let Some(above) = hierarchy.number(parent.name.as_str()) {
                 self.todo.push(Step::Enter(above))?;
             }
         }
@@ -99,7 +99,7 @@ impl Walk {
             return lowest;
         };
         for parent in &text.parents {
-            if let Some(above) = hierarchy.number(&parent.name.text) {
+            if let Some(above) = hierarchy.number(parent.name.as_str()) {
                 lowest = lowest.min(self.lowest.get(above).copied().unwrap_or(lowest));
             }
         }

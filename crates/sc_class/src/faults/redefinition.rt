@@ -42,10 +42,10 @@ fn badly_redefined(outline: &Outline, line: &Line, number: usize, name: &Name) -
     ensures { FindsFirstPlace (redefinition.NameBadlyRedefined (in_outline outline.now) number (name_of
         name.now)) result }
 {
-    let Some(inherited) = line.inherited(outline, number, &name.text) else {
+    let Some(inherited) = line.inherited(outline, number, name.as_str()) else {
         return Some(name.span);
     };
-    let Some(declared) = outline.declared(number, &name.text) else {
+    let Some(declared) = outline.declared(number, name.as_str()) else {
         return Some(name.span);
     };
     if can_redefine(
@@ -111,7 +111,7 @@ fn result_fits(
 fn is_same_formal(declared: &Declaration, inherited: &Declaration) -> bool
     ensures { result ≡ redefinition.is_same_formal (declaration_of declared.now) (declaration_of inherited.now) }
 {
-    is_same_text(&declared.name.text, &inherited.name.text)
+    is_same_text(declared.name.as_str(), inherited.name.as_str())
         && is_same_type(&declared.declared_type, &inherited.declared_type)
 }
 

@@ -57,7 +57,7 @@ fn declared_attribute<'s>(tables: &Tables<'s>, feature: &'s Feature) -> Option<A
         FeatureKind::Attribute(declared) => match declared_type(tables, &[], declared) {
             None => None,
             Some(entity_type) => Some(Attribute {
-                name: feature.name.text.as_str(),
+                name: feature.name.as_str(),
                 span: feature.name.span,
                 entity_type,
             }),

@@ -106,7 +106,7 @@ fn call_formula(attributes: &[Attribute<'_>], call: &Call) -> Option<Formula>
     match &call.target {
         None => match call.actuals.as_slice() {
             [] => {
-                let (number, class) = find(attributes, call.name.text.as_str())?;
+                let (number, class) = find(attributes, call.name.as_str())?;
                 boolean_attribute(number, class)
             }
             [_, ..] => None,
@@ -143,7 +143,7 @@ fn call_void_test(attributes: &[Attribute<'_>], call: &Call) -> Option<usize>
     match &call.target {
         None => match call.actuals.as_slice() {
             [] => {
-                let (number, _) = find(attributes, call.name.text.as_str())?;
+                let (number, _) = find(attributes, call.name.as_str())?;
                 Some(number)
             }
             [_, ..] => None,
@@ -208,7 +208,7 @@ fn call_term(attributes: &[Attribute<'_>], call: &Call) -> Option<Term>
     match &call.target {
         None => match call.actuals.as_slice() {
             [] => {
-                let (number, class) = find(attributes, call.name.text.as_str())?;
+                let (number, class) = find(attributes, call.name.as_str())?;
                 integer_attribute(number, class)
             }
             [_, ..] => None,

@@ -22,7 +22,7 @@ fn is_listed(names: &[Name], text: &str) -> bool
     ensures { result ≡ listing.is_listed text.now (map name_of names.now) }
 {
     for name in names {
-        if name.text.as_str() == text {
+        if name.as_str() == text {
             return true;
         }
     }
@@ -89,7 +89,7 @@ fn routine_of<'s>(kind: &'s FeatureKind) -> Option<&'s Routine>
 pub fn source<'s>(tables: &Tables<'s>, entry: FeatureEntry<'s>) -> Option<RoutineSource<'s>>
     ensures { option_map (source_in (system_in tables.now)) result ≡ routines.routine_of (system_in tables.now) (entry_of entry.entry) }
 {
-    let name = entry.feature.name.text.as_str();
+    let name = entry.feature.name.as_str();
     let origin = origin(
         tables,
         name,

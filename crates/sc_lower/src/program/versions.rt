@@ -26,7 +26,7 @@ fn feature_version(
     requires { map binding_of attributes.now ≡ fresh_attributes (system_in numbering.now.tables.now) (features (system_in numbering.now.tables.now) class) }
     ensures { result ≡ entry_of_kind (system_in numbering.now.tables.now) class (entry_of entry.entry) (entry_of entry.entry).feature.kind }
 {
-    let name = entry.feature.name.text.as_str();
+    let name = entry.feature.name.as_str();
     match &entry.feature.kind {
         FeatureKind::Attribute(_) => match find(attributes, name) {
             None => None,

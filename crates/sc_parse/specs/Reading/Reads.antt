@@ -3,6 +3,7 @@ use Rattle.std.specs.Prelude.{◌≡◌, ℕ, max, ◌==◌, Bool, true, false, 
 use Rattle.std.specs.declared.vec.Vec.{Vec}
 use Rattle.std.specs.declared.boxed.Box.{Box}
 use Rattle.std.specs.declared.string.String.{String}
+use Rattle.std.specs.declared.rc.Rc.{Rc}
 use Rattle.std.specs.declared.alloc.Global.{Global}
 use Rattle.sc_text.specs.Kind.{Kind}
 use Rattle.sc_text.specs.declared.token.Terminal.{Terminal}
@@ -49,8 +50,8 @@ ahead p = record { last = p.last; rest = p.rest.now }
 abbrev pub name_in : Name → plain.Name
 name_in n = name_of n
 
-abbrev pub text_in : String Global → List ℕ
-text_in s = string_bytes s
+abbrev pub text_in : Rc (String Global) Global → List ℕ
+text_in s = string_bytes s.value
 
 abbrev pub names_in : Vec Name Global → List plain.Name
 names_in v = map name_of v.items

@@ -41,9 +41,9 @@ fn push_store_to_name<'s>(
     match assigned {
         Assignee::Unknown | Assignee::NotAssignable => Ok(()),
         Assignee::Attribute(_) => {
-            code.push(site, UnlinkedOperation::StoreAttribute(name.text.as_str()))
+            code.push(site, UnlinkedOperation::StoreAttribute(name.as_str()))
         }
-        Assignee::Local(_) => match slot_named(&name.text, names) {
+        Assignee::Local(_) => match slot_named(name.as_str(), names) {
             None => Ok(()),
             Some((slot, _)) => code.push(site, UnlinkedOperation::StoreSlot(slot)),
         },

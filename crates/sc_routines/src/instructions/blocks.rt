@@ -60,7 +60,7 @@ pub fn add_heads<'s>(
 {
     for place in 0..heads.len().min(types.len()) {
         names.push(Entity {
-            name: heads[place].name.text.as_str(),
+            name: heads[place].name.as_str(),
             entity_type: block_type(blocks(names), Some(types[place])),
             role: Role::Block,
         })?;

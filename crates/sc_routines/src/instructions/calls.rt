@@ -37,7 +37,7 @@ fn push_own_call<'s>(
         let span = site.span;
         code.push(TextSite { span, kind }, UnlinkedOperation::Print)
     } else {
-        setting.push_routine_call(code, site, name.text.as_str(), types, count)
+        setting.push_routine_call(code, site, name.as_str(), types, count)
     }
 }
 

@@ -45,7 +45,7 @@ fn procedure_of<'s>(call: &'s Option<CreationCall>) -> Option<&'s str>
 {
     match call {
         None => None,
-        Some(call) => Some(call.name.text.as_str()),
+        Some(call) => Some(call.name.as_str()),
     }
 }
 

@@ -43,7 +43,7 @@ fn lower_locals<'s>(
                 },
             )?;
             names.push(Entity {
-                name: local.name.text.as_str(),
+                name: local.name.as_str(),
                 entity_type: Some(entity_type),
                 role: Role::Local,
             })?;

@@ -69,7 +69,7 @@ fn add_formals_in_call(
 {
     match &call.target {
         None => {
-            add_formal(names, slots, &call.name.text)?;
+            add_formal(names, slots, call.name.as_str())?;
             add_formals_in_each(names, slots, &call.actuals)
         }
         Some(target) => {

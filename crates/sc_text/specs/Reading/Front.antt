@@ -19,10 +19,14 @@ pub data Front : Type 0 where
 
 -- ---- each part
 
+-- a name in lower case, or a reserved word
+abbrev pub kind_of_lower : List ℕ → Option Terminal → Kind
+kind_of_lower cs None = NAME cs
+kind_of_lower cs (Some t) = TERMINAL t
+
 -- a name, or a reserved word
 abbrev pub kind_of_word : List ℕ → Option Terminal → Kind
-kind_of_word cs None = NAME (map to_ascii_lowercase cs)
-kind_of_word cs (Some t) = TERMINAL t
+kind_of_word cs t = kind_of_lower (map to_ascii_lowercase cs) t
 
 abbrev pub word_of : List ℕ → Front
 word_of cs = Lexed (kind_of_word cs (reserved cs)) (length cs)

@@ -105,7 +105,7 @@ impl<'t, 's> RoutineContext<'t, 's> {
             ≡ spec.assignee (routine_in self.now) (map entity_of names.now) (variable_of variable.now) }
     {
         match variable {
-            Variable::Named(name) => self.assignee_named(names, &name.text),
+            Variable::Named(name) => self.assignee_named(names, name.as_str()),
             Variable::Result(_) => assignee_of_result(self.result),
         }
     }

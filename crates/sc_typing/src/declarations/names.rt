@@ -83,7 +83,7 @@ pub fn add_formals<'s>(
         let formal = &formals[index];
         let declared = declared_type(tables, formals, &formal.declared_type);
         names.push(Entity {
-            name: formal.name.text.as_str(),
+            name: formal.name.as_str(),
             entity_type: reserved_if_any(index, declared),
             role: Role::Formal,
         })?;
@@ -103,7 +103,7 @@ pub fn add_locals<'s>(
 {
     for local in locals {
         names.push(Entity {
-            name: local.name.text.as_str(),
+            name: local.name.as_str(),
             entity_type: declared_type(tables, formals, &local.declared_type),
             role: Role::Local,
         })?;

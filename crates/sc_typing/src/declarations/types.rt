@@ -48,7 +48,7 @@ fn number_of_named(name: &str, formals: &[Declaration]) -> Option<usize>
 {
     for index in 0..formals.len() {
         let formal = &formals[index];
-        if formal.name.text.as_str() == name {
+        if formal.name.as_str() == name {
             return if is_nameable(formal) {
                 Some(index)
             } else {
@@ -66,7 +66,7 @@ fn declared_tag(formals: &[Declaration], tag: &HandlerTag) -> Option<Tag>
     match tag {
         HandlerTag::Own => Some(Tag::Own),
         HandlerTag::Separate => Some(Tag::Any),
-        HandlerTag::HandlerOf(name) => match number_of_named(&name.text, formals) {
+        HandlerTag::HandlerOf(name) => match number_of_named(name.as_str(), formals) {
             None => None,
             Some(number) => Some(Tag::With(Reserved::Formal(number))),
         },
@@ -107,7 +107,7 @@ pub fn declared_type(
 {
     typed(
         declared,
-        tables.type_class(&declared.class.text),
+        tables.type_class(declared.class.as_str()),
         declared_tag(formals, &declared.tag),
     )
 }
@@ -132,7 +132,7 @@ pub fn judge_type(
     ensures { Passes (judging.judge_type (system_in tables.now) (map declaration_of formals.now)
         (type_of declared.now)) result }
 {
-    let class = tables.type_class(&declared.class.text);
+    let class = tables.type_class(declared.class.as_str());
     required(class.is_some(), Rule::UnknownName, declared.class.span)?;
     let typed = declared_type(tables, formals, declared);
     required(typed.is_some(), Rule::TagName, declared.span)

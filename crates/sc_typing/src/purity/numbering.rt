@@ -34,7 +34,7 @@ pub struct Numbering<'t, 's> {
 fn is_at(name: &Name, begin: u32, text: &str) -> bool
     ensures { result ≡ name_begins (name_of name.now) begin text.now }
 {
-    name.span.start == begin && name.text.as_str() == text
+    name.span.start == begin && name.as_str() == text
 }
 
 /// How many of the features stand before the first of this name, where one is: that begins at the place in the text. So

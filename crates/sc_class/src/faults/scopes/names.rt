@@ -32,8 +32,8 @@ pub fn name_clash(features: &Features, known: &NameIndex, name: &Name) -> Option
     if name.is_print() {
         return Some(name.span);
     }
-    let feature = last_place_if_any(features.place(&name.text), name.span);
-    let entity = last_place_if_any(known.place(&name.text), name.span);
+    let feature = last_place_if_any(features.place(name.as_str()), name.span);
+    let entity = last_place_if_any(known.place(name.as_str()), name.span);
     first_place(feature, entity)
 }
 

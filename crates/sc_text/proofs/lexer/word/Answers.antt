@@ -4,5 +4,5 @@ use Rattle.sc_text.proofs.lexer.word.Goals as goal
 
 pub split_at-requires-2 : goal.split_at-requires-2
 split_at-requires-2 c =
-    name_ends c.args.text.now c.split_at.result.1.now c.as_bytes.result.now c.args.place c.name_length-length.result c.requires.within c.requires.begins (subst IsUtf8 c.as_bytes.ensures.value c.as_bytes.ensures.utf8) c.as_bytes.ensures.value
-    c.split_at.ensures.back c.name_length-length.ensures
+    name_ends c.args.text.now c.split_at.result.1.now c.as_bytes.result.now c.args.place c.name_ahead-length.result.0 c.requires.within c.requires.begins (subst IsUtf8 c.as_bytes.ensures.value c.as_bytes.ensures.utf8) c.as_bytes.ensures.value
+    c.split_at.ensures.back c.name_ahead-length.ensures

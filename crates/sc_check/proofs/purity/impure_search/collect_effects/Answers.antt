@@ -23,7 +23,7 @@ loop-effect-preserved c =
     let s = system_in c.args.numbering.now.tables.now in
     collecting_read s c.args.number c.deref-effect-items.result.now c.loop-effect.effect-index (routine_of (entry_of c.index-entry.result.now))
     (entry_stands s c.args.numbering.now.features.items c.args.number c.index-entry.result.now c.args.numbering.now.are_all c.requires.in_range c.index-entry.ensures)
-    (entry_effects s c.index-entry.result.now c.deref.result.now c.deref-effect-items.result.now c.in_ok-effects.effects.items c.deref.ensures c.deref-effect-items.ensures.value c.in_ok-effects.ensures.effects)
+    (entry_effects s c.index-entry.result.now c.as_str.result.now c.deref-effect-items.result.now c.in_ok-effects.effects.items c.as_str.ensures.value c.deref-effect-items.ensures.value c.in_ok-effects.ensures.effects)
     c.loop-effect.search.impure.items c.record_effect.new.search.impure.items c.loop-effect.search.todo.items c.record_effect.new.search.todo.items c.loop-effect.callers.lists.items c.record_effect.new.callers.lists.items
     c.effect-item.result c.loop-effect-test.true c.effect-item.is c.loop-effect.invariant c.in_ok-record_effect.ensures
 
@@ -32,5 +32,5 @@ returns-clause-collected c =
     let s = system_in c.args.numbering.now.tables.now in
     collecting_end s c.args.number c.deref-effect-items.result.now c.loop-effect.effect-index (routine_of (entry_of c.index-entry.result.now))
     (entry_stands s c.args.numbering.now.features.items c.args.number c.index-entry.result.now c.args.numbering.now.are_all c.requires.in_range c.index-entry.ensures)
-    (entry_effects s c.index-entry.result.now c.deref.result.now c.deref-effect-items.result.now c.in_ok-effects.effects.items c.deref.ensures c.deref-effect-items.ensures.value c.in_ok-effects.ensures.effects)
+    (entry_effects s c.index-entry.result.now c.as_str.result.now c.deref-effect-items.result.now c.in_ok-effects.effects.items c.as_str.ensures.value c.deref-effect-items.ensures.value c.in_ok-effects.ensures.effects)
     c.loop-effect.search.impure.items c.loop-effect.search.todo.items c.loop-effect.callers.lists.items c.loop-effect-test.false c.loop-effect.invariant

@@ -21,5 +21,5 @@ returns c =
     let s = system_in c.args.numbering.now.tables.now in
     let st = entry_stands s c.args.numbering.now.features.items c.args.number c.index-entry.result.now c.args.numbering.now.are_all c.requires.in_range c.index-entry.ensures in
     runners_read s c.args.number (routine_of (entry_of c.index-entry.result.now)) st c.args.search.now.impure.items c.mark_all.new.search.impure.items c.mark_named.new.search.impure.items
-    c.args.search.now.todo.items c.mark_all.new.search.todo.items c.mark_named.new.search.todo.items c.args.callers.now.lists.items c.of.result.now c.ancestors-classes.result.now c.deref.result.now
-    c.requires.callers c.of.ensures c.ancestors-classes.ensures (entry_name c.index-entry.result.now c.deref.result.now c.deref.ensures) c.in_ok-mark_all.ensures c.in_ok-mark_named.ensures
+    c.args.search.now.todo.items c.mark_all.new.search.todo.items c.mark_named.new.search.todo.items c.args.callers.now.lists.items c.of.result.now c.ancestors-classes.result.now c.as_str.result.now
+    c.requires.callers c.of.ensures c.ancestors-classes.ensures (entry_name c.index-entry.result.now c.as_str.result.now c.as_str.ensures.value) c.in_ok-mark_all.ensures c.in_ok-mark_named.ensures

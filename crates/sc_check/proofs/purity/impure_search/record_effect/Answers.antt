@@ -16,13 +16,13 @@ returns-in_default c =
     subst (λ (d : held.Effect). IsRecorded s c.args.search.now.impure.items c.args.search.now.todo.items c.args.callers.now.lists.items c.args.search.now.impure.items c.args.search.now.todo.items
     c.args.callers.now.lists.items c.args.number (effect_of d)) (sym c.in-RoutineCall.is)
     (recorded_nothing s c.args.search.now.impure.items c.args.search.now.todo.items c.args.callers.now.lists.items c.args.number (routine_of (entry_of c.in-RoutineCall.called))
-    (entry_number s c.in-RoutineCall.called c.deref.result.now None c.deref.ensures c.in_default.ensures))
+    (entry_number s c.in-RoutineCall.called c.as_str.result.now None c.as_str.ensures.value c.in_default.ensures))
 
 pub add-requires : goal.add-requires
 add-requires c =
     let s = system_in c.args.numbering.now.tables.now in
     number_within s (routine_of (entry_of c.in-RoutineCall.called)) c.number.result
-    (entry_number s c.in-RoutineCall.called c.deref.result.now c.number.result c.deref.ensures c.number.ensures) (length c.args.callers.now.lists.items) c.requires.as_many c.in-Some.called c.in-Some.is
+    (entry_number s c.in-RoutineCall.called c.as_str.result.now c.number.result c.as_str.ensures.value c.number.ensures) (length c.args.callers.now.lists.items) c.requires.as_many c.in-Some.called c.in-Some.is
 
 pub returns-in_ok-add-in-RoutineCall : goal.returns-in_ok-add-in-RoutineCall
 returns-in_ok-add-in-RoutineCall c =
@@ -30,7 +30,7 @@ returns-in_ok-add-in-RoutineCall c =
     subst (λ (d : held.Effect). IsRecorded s c.args.search.now.impure.items c.args.search.now.todo.items c.args.callers.now.lists.items c.args.search.now.impure.items c.args.search.now.todo.items
     c.add.new.self.lists.items c.args.number (effect_of d)) (sym c.in-RoutineCall.is)
     (recorded_call s c.args.search.now.impure.items c.args.search.now.todo.items c.args.callers.now.lists.items c.add.new.self.lists.items c.args.number c.in-Some.called
-    (routine_of (entry_of c.in-RoutineCall.called)) (entry_number s c.in-RoutineCall.called c.deref.result.now (Some c.in-Some.called) c.deref.ensures c.in-Some.ensures)
+    (routine_of (entry_of c.in-RoutineCall.called)) (entry_number s c.in-RoutineCall.called c.as_str.result.now (Some c.in-Some.called) c.as_str.ensures.value c.in-Some.ensures)
     c.in_ok-add-in-RoutineCall.ensures.many c.in_ok-add-in-RoutineCall.ensures.added)
 
 pub returns-in_ok-mark_impure-in-SideEffect : goal.returns-in_ok-mark_impure-in-SideEffect

@@ -18,7 +18,7 @@ pub instr-returns-in_ok-instrs-in-If-2 : goal.instr-returns-in_ok-instrs-in-If-2
 instr-returns-in_ok-instrs-in-If-2 t c =
     subst (λ o. OnOk c.word_line.result (output_of c.word_line.new.self ≡ o))
     (if_done c.args.indent _ c.in-If.field-0 c.in-If.condition c.in-If.body c.in-If.other c.in-If.branches _ _ _ _ (output_of c.args.self.now) _ _ _ _ _ c.in_ok-inner.ensures
-    c.deref.ensures.value c.deref-in-If.ensures.value c.deref-in-If-2.ensures.value c.deref-in-If-3.ensures.value
+    c.deref-in-If.ensures.value c.deref-in-If-2.ensures.value c.deref-in-If-3.ensures.value c.deref-in-If-4.ensures.value
     c.in_ok-guard-in-If.ensures c.in_ok-instrs-in-If.ensures c.in_ok-branches-in-If.ensures c.in_ok-other-in-If.ensures c.in_ok-instrs-in-If-2.ensures
     ∙ ap (λ i. put_lines (output_of c.args.self.now) (instr_lines c.args.indent (instr_of i))) (sym c.in-If.is)) c.word_line.ensures
 
