@@ -103,7 +103,9 @@ fn name_of_block<'n>(names: &[Entity<'n>], number: usize) -> &'n str {
 
 /// The text of a part, where it is a short one on one line and closes what it opens; else nothing.
 pub fn part_of(text: &str, span: Span) -> &str {
-    let part = text.get(span.start as usize..span.end as usize).unwrap_or("");
+    let part = text
+        .get(span.start as usize..span.end as usize)
+        .unwrap_or("");
     if part.len() > 60 || !is_closed(part) {
         ""
     } else {

@@ -16,7 +16,10 @@ pub struct RunSource<'r> {
 impl<'r> RunSource<'r> {
     /// A part of the text, with the letters that stand there.
     pub fn written(&self, span: Span) -> &'r str {
-        self.source.text().get(span.start as usize..span.end as usize).unwrap_or("..")
+        self.source
+            .text()
+            .get(span.start as usize..span.end as usize)
+            .unwrap_or("..")
     }
 
     /// The name of the class at a number.

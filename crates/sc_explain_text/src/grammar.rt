@@ -208,7 +208,10 @@ impl<'t> Stop<'t> {
     fn is_in_line(self, number: usize) -> bool {
         match self.tokens.get(number) {
             None => false,
-            Some(token) => match self.text.get(token.span.start as usize..self.span.start as usize) {
+            Some(token) => match self
+                .text
+                .get(token.span.start as usize..self.span.start as usize)
+            {
                 None => false,
                 Some(between) => !has_line_feed(between),
             },

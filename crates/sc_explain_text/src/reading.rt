@@ -38,7 +38,8 @@ fn parsed(alloc: Global, tokens: &[Token]) -> Result<Option<System>, AllocError>
 
 /// What a part of the text says; nothing where it begins or ends inside of a character.
 pub fn word_at(text: &str, span: Span) -> &str {
-    text.get(span.start as usize..span.end as usize).unwrap_or("")
+    text.get(span.start as usize..span.end as usize)
+        .unwrap_or("")
 }
 
 /// The first bytes of a text, so many; nothing where that is inside of a character or behind its end.

@@ -30,7 +30,10 @@ impl Refusal {
     {
         let code = self.code.code();
         let name = self.code.name();
-        match self.span.and_then(|span| source.place_of(span.start as usize)) {
+        match self
+            .span
+            .and_then(|span| source.place_of(span.start as usize))
+        {
             Some(Place { file, line, column }) => {
                 format!(in alloc; "refused {code} {name} {file}:{line}:{column}\n")
             }

@@ -131,7 +131,10 @@ impl<'t, 's> RoutineContext<'t, 's> {
         match routine {
             None => true,
             Some(entry) => {
-                !wants_pure(context) || self.purity.is_pure(entry.class, entry.feature.name.as_str())
+                !wants_pure(context)
+                    || self
+                        .purity
+                        .is_pure(entry.class, entry.feature.name.as_str())
             }
         }
     }
