@@ -1,5 +1,5 @@
 use Rattle.std.proofs.Common.{◌≡◌, ◌<◌, ◌≤◌, refl, ◌+◌, ◌-◌, ◌++◌, ◌∷◌, [], ℕ, List, OnOk, IfOk, drop, map, max, length, sym, ap, subst, ◌∙◌, arith, add-one}
-use Rattle.std.specs.Prelude.{slice_set}
+use Rattle.std.specs.Prelude.{slice_set, string_bytes}
 use Rattle.std.specs.List.{All}
 use Rattle.std.proofs.lemmas.List.{at_drop_more, length-map}
 use Rattle.std.proofs.Math.Nat.{max_comm}
@@ -98,12 +98,12 @@ lower_instruction-land_jumps-requires t c =
     let h = setting_in c.args.setting.now in
     let n = map entity_of c.args.names.now.items in
     let e = expr_of c.in-If.condition in
-    let body = instrs_of c.deref.result.now in
+    let body = instrs_of c.deref-in-If.result.now in
     let first = c.in_ok-first-in-If.ensures in
     let further = c.in_ok-further-in-If.ensures in
     let last = c.in_ok-last-in-If.ensures in
-    subst (All (λ place. place < length c.lower_instructions.new.code)) (sym c.deref-in-If-3.ensures.value)
-    (if_jumps h n (map entity_of c.lower_branch.new.names.items) (map entity_of c.lower_branches.new.names.items) e body (branches_of c.deref-in-If.result.now) (instrs_of c.deref-in-If-2.result.now)
+    subst (All (λ place. place < length c.lower_instructions.new.code)) (sym c.deref-in-If-4.ensures.value)
+    (if_jumps h n (map entity_of c.lower_branch.new.names.items) (map entity_of c.lower_branches.new.names.items) e body (branches_of c.deref-in-If-2.result.now) (instrs_of c.deref-in-If-3.result.now)
     c.args.code.now c.lower_branch.new.code c.lower_branches.new.code c.lower_instructions.new.code c.lower_branch.new.jumps.items c.lower_branches.new.jumps.items
     first.code (first.jumps ∙ ap (λ (l : List ℕ). l ++ jump_of (length c.args.code.now) (expr_code h n 0 e) (instrs_code h (names_given h n 0 e) body) ∷ []) c.new-jumps.ensures.items)
     first.names further.code further.jumps further.names last.code)
@@ -113,9 +113,9 @@ lower_instruction-returns-in_ok-last-in-If t c =
     let h = setting_in c.args.setting.now in
     let n = map entity_of c.args.names.now.items in
     let e = expr_of c.in-If.condition in
-    let body = instrs_of c.deref.result.now in
-    let bs = branches_of c.deref-in-If.result.now in
-    let other = instrs_of c.deref-in-If-2.result.now in
+    let body = instrs_of c.deref-in-If.result.now in
+    let bs = branches_of c.deref-in-If-2.result.now in
+    let other = instrs_of c.deref-in-If-3.result.now in
     let n1 = map entity_of c.lower_branch.new.names.items in
     let n2 = map entity_of c.lower_branches.new.names.items in
     let first = c.in_ok-first-in-If.ensures in
@@ -128,11 +128,11 @@ lower_instruction-returns-in_ok-last-in-If t c =
     let a = c.in_ok-first-in-If.first in
     let b = c.in_ok-further-in-If.further in
     let z = c.in_ok-last-in-If.last in
-    let q = sym (if_is c.args.instruction.now c.in-If.span c.in-If.condition c.in-If.body c.in-If.branches c.in-If.other c.deref.result.now c.deref-in-If.result.now c.deref-in-If-2.result.now
-    c.in-If.is c.deref.ensures.value c.deref-in-If.ensures.value c.deref-in-If-2.ensures.value) in
+    let q = sym (if_is c.args.instruction.now c.in-If.span c.in-If.condition c.in-If.body c.in-If.branches c.in-If.other c.deref-in-If.result.now c.deref-in-If-2.result.now c.deref-in-If-3.result.now
+    c.in-If.is c.deref-in-If.ensures.value c.deref-in-If-2.ensures.value c.deref-in-If-3.ensures.value) in
     record {
       code = subst (λ (p : plain.Instr). c.land_jumps.new.code ≡ c.args.code.now ++ instr_code h n p) q
-          (c.land_jumps.ensures ∙ ap (λ (ks : List ℕ). landed ks c.lower_instructions.new.code) c.deref-in-If-3.ensures.value
+          (c.land_jumps.ensures ∙ ap (λ (ks : List ℕ). landed ks c.lower_instructions.new.code) c.deref-in-If-4.ensures.value
           ∙ if_landed h n n1 n2 e body bs other
           c.args.code.now c.lower_branch.new.code c.lower_branches.new.code c.lower_instructions.new.code c.lower_branch.new.jumps.items c.lower_branches.new.jumps.items
           first.code (first.jumps ∙ ap (λ (l : List ℕ). l ++ jump_of (length c.args.code.now) (expr_code h n 0 e) (instrs_code h (names_given h n 0 e) body) ∷ []) c.new-jumps.ensures.items)
@@ -379,7 +379,7 @@ lower_instruction-returns-in_ok-push-in-PrintText t c =
     let q = sym (ap instr_of c.in-PrintText.is ∙ instr_of-print_text c.in-PrintText.span c.in-PrintText.text) in
     record {
       code = subst (λ (p : plain.Instr). c.push.new.self ≡ c.args.code.now ++ instr_code h n p) q
-          (c.in_ok-push-in-PrintText.ensures ∙ ap (λ (x : List ℕ). c.args.code.now ++ PrintText x ∷ []) c.as_str.ensures.value);
+          (c.in_ok-push-in-PrintText.ensures ∙ ap (λ (x : List ℕ). c.args.code.now ++ PrintText x ∷ []) (c.as_str.ensures.value ∙ ap string_bytes c.deref.ensures));
       names = refl;
       depth = subst (λ (p : plain.Instr). c.of_operands.result.depth ≡ instr_depth h n p) q none.depth;
       slots = subst (λ (p : plain.Instr). c.of_operands.result.slots ≡ instr_slots h n p) q none.slots;

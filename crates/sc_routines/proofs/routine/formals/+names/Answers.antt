@@ -25,11 +25,11 @@ add_formals_in-returns-in_ok-add_formals_in-in-Binary t c =
 pub add_formals_in_call-returns-in_ok-add_formal-in-None : goal.add_formals_in_call-returns-in_ok-add_formal-in-None
 add_formals_in_call-returns-in_ok-add_formal-in-None t c =
     both_added c.add_formals_in_each.result (λ (x : List ℕ). formal_slot x (map entity_of c.args.names.now)) c.args.slots.now.items c.add_formal.new.slots.items
-    c.add_formals_in_each.new.slots.items (c.deref.result.now ∷ []) (names_in_each (exprs_of c.deref-in-None.result.now)) _
+    c.add_formals_in_each.new.slots.items (c.as_str.result.now ∷ []) (names_in_each (exprs_of c.deref.result.now)) _
     c.in_ok-add_formal-in-None.ensures c.add_formals_in_each.ensures
     (names_in_own c.args.call.now c.in-None.is
-    ∙ ap (λ (x : List ℕ). x ∷ names_in_each (exprs_of c.args.call.now.actuals.items)) (sym c.deref.ensures)
-    ∙ ap (λ (es : List Expr). c.deref.result.now ∷ names_in_each (exprs_of es)) (sym c.deref-in-None.ensures.value))
+    ∙ ap (λ (x : List ℕ). x ∷ names_in_each (exprs_of c.args.call.now.actuals.items)) (sym c.as_str.ensures.value)
+    ∙ ap (λ (es : List Expr). c.as_str.result.now ∷ names_in_each (exprs_of es)) (sym c.deref.ensures.value))
 
 pub add_formals_in_call-returns-in_ok-add_formals_in-in-Some : goal.add_formals_in_call-returns-in_ok-add_formals_in-in-Some
 add_formals_in_call-returns-in_ok-add_formals_in-in-Some t c =
