@@ -9,6 +9,7 @@ pub mod Lowered
 pub mod View
 pub mod Attributes
 pub mod Programs
+pub mod JoinedInvariants
 pub mod RequestRoom
 pub mod CheckedImages
 pub mod Invariants

@@ -20,7 +20,6 @@ use Rattle.sc_rules.specs.FeatureNumbers.{all_features, feature_number}
 use Rattle.sc_model.specs.Values.{Value, default_of}
 use Rattle.sc_model.specs.Environments.{Binding}
 use Rattle.sc_model.specs.Objects.{fresh_attributes}
-use Rattle.sc_model.specs.Invariants.{formulas_of}
 use Rattle.sc_model.specs.Routines.{Routine, routine_of, version_of}
 use Rattle.sc_code.specs.declared.program.ConstantPool.{ConstantPool}
 use Rattle.sc_code.specs.declared.program.ClassCode.{ClassCode}
@@ -35,7 +34,7 @@ use Rattle.sc_code.specs.Places.{known_type}
 use Rattle.sc_code.specs.Emitted.{formals_of, routine_code, routine_depth, routine_slots}
 use Rattle.sc_code.specs.Room.{routine_olds, routine_blocks}
 use Rattle.sc_code.specs.View.{Pool, default_value, operation_of}
-use Rattle.sc_code.specs.Attributes.{attribute_number, known_formulas}
+use Rattle.sc_code.specs.Attributes.{attribute_number, invariant_classes, own_formulas}
 
 -- ---- tables
 
@@ -127,12 +126,13 @@ code_length s = length_of_codes s (all_features s)
 -- ---- classes
 
 -- A class: the defaults of its attributes and whether they are of an attached type, by number; what each name is here;
--- to which classes it conforms; and its joined invariant.
+-- to which classes it conforms; the clauses of its own invariant; and the classes whose clauses make up its joined one.
 pub record PlainClass : Type 0 where
   pub attributes : List (Value × Bool)
   pub features : List (Option FeatureCode)
   pub conforms : List Bool
   pub invariant : List PlainFormula
+  pub invariant_classes : List ℕ
 
 abbrev pub attribute_in : AttributeCode → Value × Bool
 attribute_in a = (default_value a.default, a.is_attached)
@@ -145,6 +145,7 @@ class_in c =
       features = c.features.items;
       conforms = c.conforms.items;
       invariant = map plain_formula c.invariant.items;
+      invariant_classes = c.invariant_classes.items;
     }
 
 -- an attribute by its number in the class, a routine by its number among all features
@@ -168,16 +169,20 @@ class_code_of s names k = record {
   attributes = map (λ (b : Binding). (b.value, b.type.attached)) (fresh_attributes s (features s k));
   features = map (version_entry s k) names;
   conforms = map (λ j. class_conforms s (class.Declared k) (class.Declared j)) (range_with_len 0 (length s.classes));
-  invariant = known_formulas (formulas_of s k);
+  invariant = own_formulas s k;
+  invariant_classes = invariant_classes s k;
 }
+
+-- the classes of the system, where names have these numbers
+abbrev pub class_codes_of : System → List (List ℕ) → List PlainClass
+class_codes_of s names = map (class_code_of s names) (range_with_len 0 (length s.classes))
 
 -- ---- programs
 
 -- The image is the system in flat code, run from the root.
 pub record IsProgramOf (s : System) (root : Root) (p : Image) : Type 0 where
   pub routines : map (option_map (routine_in (pool_of p.pool))) p.routines.items ≡ codes_of s (all_features s)
-  pub classes : map class_in p.classes.items ≡ map (class_code_of s (pool_of p.pool).names)
-      (range_with_len 0 (length s.classes))
+  pub classes : map class_in p.classes.items ≡ class_codes_of s (pool_of p.pool).names
   pub root_class : number_of s root.class ≡ Some p.root_class
   pub root_procedure : slice_get (pool_of p.pool).names p.root_procedure ≡ Some root.procedure
   pub instructions : p.instructions ≡ code_length s

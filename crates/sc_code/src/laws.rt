@@ -1,5 +1,5 @@
 //! What holds of the code of every routine and class, each the contract of a function that does nothing.
-ghost use Rattle.sc_code.specs.Invariants.{InvariantsAreKnown};
+ghost use Rattle.sc_code.specs.Invariants.{InvariantsAreJoined, InvariantsAreKnown};
 ghost use Rattle.sc_code.specs.Lowered.{EntriesBegin, LoweredStands, MovesFollow, ObjectsMayChange, RoutinesAreTyped, RoutinesFollow, RoutinesStand};
 
 /// At its first place a routine's code stands for the routine, where each of its expressions has its type.
@@ -40,7 +40,12 @@ pub fn checked_routines_follow()
     ensures { RoutinesFollow }
 {}
 
-/// In an accepted system the formulas that a class has in flat code are its joined invariant.
+/// In an accepted system the clauses of the joined invariant of a class are formulas.
 pub fn invariants_are_known()
     ensures { InvariantsAreKnown }
+{}
+
+/// In an accepted system the formulas that a class and its ancestors have in flat code make up its joined invariant.
+pub fn invariants_are_joined()
+    ensures { InvariantsAreJoined }
 {}

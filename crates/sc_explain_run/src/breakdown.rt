@@ -114,7 +114,7 @@ fn site_of(text: &RoutineText, place: usize, cause: Cause, is_behind: bool) -> O
 /// Adds which clause of a class invariant is false.
 fn push_invariant(origin: &RunSource<'_>, lines: &mut Lines, broken: &BrokenInvariant) {
     let class = broken.class as usize;
-    if let Some(clause) = origin.invariant_clause(class, broken.clause)
+    if let Some(clause) = origin.own_clause(broken.declarer, broken.clause)
         && let Some(around) = origin.class_around(clause.span)
         && begin_place(origin, lines, clause.span)
     {

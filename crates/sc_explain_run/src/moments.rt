@@ -258,7 +258,7 @@ impl<'o> Before<'o> {
     /// The attributes that a clause of an invariant names, which the object that the handler was at has broken.
     fn tell_attributes(&self, broken: BrokenInvariant, moment: &mut Moment) {
         let origin = self.origin;
-        if let Some(clause) = origin.invariant_clause(broken.class as usize, broken.clause)
+        if let Some(clause) = origin.own_clause(broken.declarer, broken.clause)
             && let Some(region) = self.world.region(moment.handler)
             && let Some(object) = region.store().current()
             && object.class == broken.class

@@ -69,15 +69,8 @@ impl<'r> RunSource<'r> {
         }
     }
 
-    /// The clause at this number, from 0, of the joined invariant of a class.
-    pub fn invariant_clause(&self, class: usize, number: usize) -> Option<ClauseText> {
-        let mut text = self.class_text(class)?;
-        for _class in self.program.classes() {
-            if number >= text.inherited_clauses {
-                return text.invariant.get(number - text.inherited_clauses).copied();
-            }
-            text = self.class_text(text.parent?)?;
-        }
-        None
+    /// The clause at this number, from 0, of those that a class declares itself.
+    pub fn own_clause(&self, class: usize, number: usize) -> Option<ClauseText> {
+        self.class_text(class)?.invariant.get(number).copied()
     }
 }

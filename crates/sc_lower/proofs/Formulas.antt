@@ -1,6 +1,5 @@
 -- Clauses as formulas, one after the other.
 use Rattle.std.proofs.Common.{◌≡◌, ℕ, suc, ◌+◌, ◌<◌, ◌≤◌, List, [], ◌∷◌, ◌++◌, Option, Some, None, length, map, drop, get_or, drop-cons, append_assoc, refl, sym, ap, ◌∙◌, arith}
-use Rattle.std.specs.Borrow.{Bor}
 use Rattle.std.specs.Option.{option_map, option_or}
 use Rattle.sc_text.specs.declared.token.Span.{Span}
 use Rattle.sc_formula.specs.declared.formula.Formula.{Formula}
@@ -40,15 +39,15 @@ dropped xs i x l e =
     let next : suc i ≡ i + 1 = omega arith in
     drop-cons xs i x l ∙ ap (λ y. y ∷ drop (suc i) xs) (sym e) ∙ ap (λ n. x ∷ drop n xs) next
 
-abbrev clauses_at : List (Bor Clause) → List plain.Clause
-clauses_at cs = map (λ c. clause_of c.now) cs
+abbrev clauses_at : List Clause → List plain.Clause
+clauses_at cs = map clause_of cs
 
 -- a clause's formula comes before those of the others
-pub clause_here : (attributes : List Binding) (cs : List (Bor Clause)) (i : ℕ) (c : Bor Clause) → i < length cs → c ≡ get_or cs i c →
-    clauses_of attributes (clauses_at (drop i cs)) ≡ with_clause (formula_of attributes (expr_of c.now.condition)) (clauses_of attributes (clauses_at (drop (i + 1) cs)))
+pub clause_here : (attributes : List Binding) (cs : List Clause) (i : ℕ) (c : Clause) → i < length cs → c ≡ get_or cs i c →
+    clauses_of attributes (clauses_at (drop i cs)) ≡ with_clause (formula_of attributes (expr_of c.condition)) (clauses_of attributes (clauses_at (drop (i + 1) cs)))
 clause_here attributes cs i c l e =
     ap (λ r. clauses_of attributes (clauses_at r)) (dropped cs i c l e)
-    ∙ ap (λ x. with_clause (formula_of attributes x) (clauses_of attributes (clauses_at (drop (i + 1) cs)))) (clause_condition c.now)
+    ∙ ap (λ x. with_clause (formula_of attributes x) (clauses_of attributes (clauses_at (drop (i + 1) cs)))) (clause_condition c)
 
 map_push : (fs : List Formula) (f : Formula) → map plain_formula (fs ++ f ∷ []) ≡ map plain_formula fs ++ plain_formula f ∷ []
 map_push [] f = refl

@@ -1,6 +1,5 @@
 -- Class invariants as formulas over the attributes of a class that is lowered.
 use Rattle.std.specs.Prelude.{List, Option, Some, map}
-use Rattle.std.specs.Borrow.{Bor}
 use Rattle.std.specs.Option.{option_map}
 use Rattle.sc_formula.specs.declared.connective.Connective.{Connective}
 use Rattle.sc_formula.specs.declared.formula.Formula.{Formula}
@@ -16,8 +15,8 @@ use Rattle.sc_lower.specs.declared.program.attributes.Attribute.{Attribute}
 use Rattle.sc_lower.specs.AttributeBindings.{binding_of}
 
 -- the clauses over these attributes, if each is a formula
-abbrev pub clauses_over : List Attribute → List (Bor Clause) → Option (List PlainFormula)
-clauses_over attributes clauses = clauses_of (map binding_of attributes) (map (λ c. clause_of c.now) clauses)
+abbrev pub clauses_over : List Attribute → List Clause → Option (List PlainFormula)
+clauses_over attributes clauses = clauses_of (map binding_of attributes) (map clause_of clauses)
 
 -- the comparison of these two over the attributes, if it is one
 abbrev pub comparison_over : List Attribute → BinaryOperator → Expr → Expr → Option PlainFormula

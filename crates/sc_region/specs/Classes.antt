@@ -5,12 +5,13 @@ use Rattle.std.specs.Option.{option_and_then}
 use Rattle.sc_formula.specs.declared.atom.Atom.{Atom}
 use Rattle.sc_formula.specs.Formula.{PlainFormula, truth_of}
 use Rattle.sc_formula.specs.Invariant.{Meets}
-use Rattle.sc_formula.specs.Plain.{plain_formula}
 use Rattle.sc_region.specs.declared.value.Value.{Value}
 use Rattle.sc_code.specs.declared.program.Image.{Image}
 use Rattle.sc_code.specs.declared.program.RoutineCode.{RoutineCode}
 use Rattle.sc_code.specs.declared.program.ClassCode.{ClassCode}
 use Rattle.sc_code.specs.declared.program.AttributeCode.{AttributeCode}
+use Rattle.sc_code.specs.JoinedInvariants.{joined_in, joined_invariant}
+use Rattle.sc_code.specs.Programs.{PlainClass, class_in}
 use Rattle.sc_region.specs.Values.{default_value, atoms_of}
 use Rattle.sc_region.specs.Objects.{PlainObject}
 
@@ -29,13 +30,16 @@ defaults_of (Some c) = map (λ (a : AttributeCode). default_value a.default) c.a
 abbrev pub fresh_object : Image → ℕ → PlainObject
 fresh_object p k = record { class = k; attributes = defaults_of (class_at p k) }
 
-abbrev pub clauses_of : Option ClassCode → List PlainFormula
-clauses_of None = []
-clauses_of (Some c) = map plain_formula c.invariant.items
+abbrev pub classes_of : Image → List PlainClass
+classes_of p = map class_in p.classes.items
+
+-- the joined invariant of a class
+abbrev pub joined_of : Image → ClassCode → List PlainFormula
+joined_of p c = joined_in (classes_of p) (Some (class_in c))
 
 -- the joined invariant of the class at the number
 abbrev pub invariant_of : Image → ℕ → List PlainFormula
-invariant_of p k = clauses_of (class_at p k)
+invariant_of p k = joined_invariant (classes_of p) k
 
 -- The object meets its class invariant (ECMA-367, 8.9.16).
 abbrev pub MeetsInvariant : Image → PlainObject → Type 0

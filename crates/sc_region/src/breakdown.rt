@@ -14,7 +14,9 @@ pub struct Point {
 pub struct BrokenInvariant {
     /// The number of the object's class.
     pub class: ClassNumber,
-    /// The first clause that wasn't true, counted from 0, an ancestor's clauses first.
+    /// The number of the class that declares the first clause that wasn't true, an ancestor's clauses first.
+    pub declarer: usize,
+    /// Which of that class's own clauses it is, counted from 0.
     pub clause: usize,
 }
 

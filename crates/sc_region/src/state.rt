@@ -1,8 +1,8 @@
 //! What a store is made of, and what its calls do, whatever its objects meet.
-ghost use Rattle.std.specs.Prelude.{◌≡◌, ◌<◌, ◌≤◌, ◌+◌, ◌^◌, ◌++◌, [], ◌∷◌, OnOk, OnErr, IsTrue, Some, false, length, map, take};
-ghost use Rattle.sc_formula.specs.Plain.{plain_formula};
+ghost use Rattle.std.specs.Prelude.{◌≡◌, ◌<◌, ◌≤◌, ◌+◌, ◌-◌, ◌^◌, ◌++◌, [], ◌∷◌, OnOk, OnErr, IsTrue, Some, false, drop, length, slice_get, take};
+ghost use Rattle.sc_code.specs.JoinedInvariants.{kept_from};
 ghost use Rattle.sc_region.specs.Objects.{object_of, object_numbered};
-ghost use Rattle.sc_region.specs.Classes.{meets_invariant, all_hold, object_meets, object_breaks, routine_at};
+ghost use Rattle.sc_region.specs.Classes.{all_hold, classes_of, joined_of, meets_invariant, object_meets, object_breaks, routine_at};
 ghost use Rattle.sc_region.specs.Calls.{calls, top_operands};
 ghost use Rattle.sc_region.specs.Stores.{failed, is_settled, settled, written, entered, left, with_new, born, born_for, made, made_for, max_frames, printed};
 ghost use Rattle.sc_region.specs.States.{state_of};
@@ -15,7 +15,7 @@ use crate::object::{Object, Objects};
 use crate::program::{class_at, routine_at};
 use crate::stack::Stack;
 use crate::value::{ObjectNumber, Reference, Value};
-use sc_code::{ClassNumber, Program, RoutineCode};
+use sc_code::{ClassCode, ClassNumber, Program, RoutineCode};
 use sc_formula::{Atom, Formula};
 use sc_lockpass::HandlerNumber;
 use sc_model::Cause;
@@ -116,58 +116,89 @@ fn meets_invariant(program: &Program, object: &Object) -> bool
     ensures { result ≡ meets_invariant program.now.image (object_of object.now) }
 {
     match class_at(program, object.class) {
-        Some(class) => meets_clauses(&class.invariant, &object.attributes),
+        Some(class) => meets_joined(program, class, &object.attributes),
         None => true,
     }
 }
 
-/// Whether each clause is true of the attributes, of which there are at most 256.
+/// Whether each clause of the joined invariant of a class is true of the attributes, of which there are at most 256.
 #[inline(always)]
-fn meets_clauses(clauses: &[Formula], attributes: &[Value]) -> bool
+fn meets_joined(program: &Program, class: &ClassCode, attributes: &[Value]) -> bool
     requires { length attributes.now ≤ 256 }
-    ensures { result ≡ all_hold (map plain_formula clauses.now) (atoms_of attributes.now) }
+    ensures { result ≡ all_hold (joined_of program.now.image class.now) (atoms_of attributes.now) }
 {
-    clauses.is_empty() || meets_some(clauses, attributes)
+    class.invariant_classes.is_empty() || meets_some(program, class, attributes)
 }
 
 /// The same where there are clauses. (A call of its own: there is room for what an invariant may see, which is cleared each time.
 /// So there is no more of it than a few attributes need, where there are few.)
 #[inline(never)]
-fn meets_some(clauses: &[Formula], attributes: &[Value]) -> bool
+fn meets_some(program: &Program, class: &ClassCode, attributes: &[Value]) -> bool
     requires { length attributes.now ≤ 256 }
-    ensures { result ≡ all_hold (map plain_formula clauses.now) (atoms_of attributes.now) }
+    ensures { result ≡ all_hold (joined_of program.now.image class.now) (atoms_of attributes.now) }
 {
     if attributes.len() <= 8 {
         let mut atoms = [Atom::Boolean(false); 8];
-        meets_in(&mut atoms, clauses, attributes)
+        meets_in(&mut atoms, program, class, attributes)
     } else {
-        meets_many(clauses, attributes)
+        meets_many(program, class, attributes)
     }
 }
 
 /// The same, with room for as many attributes as there may be.
 #[inline(never)]
-fn meets_many(clauses: &[Formula], attributes: &[Value]) -> bool
+fn meets_many(program: &Program, class: &ClassCode, attributes: &[Value]) -> bool
     requires { length attributes.now ≤ 256 }
-    ensures { result ≡ all_hold (map plain_formula clauses.now) (atoms_of attributes.now) }
+    ensures { result ≡ all_hold (joined_of program.now.image class.now) (atoms_of attributes.now) }
 {
     if attributes.len() <= 32 {
         let mut atoms = [Atom::Boolean(false); 32];
-        meets_in(&mut atoms, clauses, attributes)
+        meets_in(&mut atoms, program, class, attributes)
     } else {
         let mut atoms = [Atom::Boolean(false); 256];
-        meets_in(&mut atoms, clauses, attributes)
+        meets_in(&mut atoms, program, class, attributes)
     }
 }
 
 /// The same, where there is so much room for what the clauses see of the attributes.
 #[inline(always)]
-fn meets_in(atoms: &mut [Atom], clauses: &[Formula], attributes: &[Value]) -> bool
+fn meets_in(atoms: &mut [Atom], program: &Program, class: &ClassCode, attributes: &[Value]) -> bool
     requires { length attributes.now ≤ length atoms.old }
-    ensures { result ≡ all_hold (map plain_formula clauses.now) (atoms_of attributes.now) }
+    ensures { result ≡ all_hold (joined_of program.now.image class.now) (atoms_of attributes.now) }
 {
     fill(atoms, attributes);
-    sc_formula::meets(clauses, &atoms[..attributes.len()])
+    meets_each(program, class, &atoms[..attributes.len()])
+}
+
+/// Whether the atoms meet the invariant of each class whose clauses make up the joined one.
+fn meets_each(program: &Program, class: &ClassCode, atoms: &[Atom]) -> bool
+    ensures { result ≡ all_hold (joined_of program.now.image class.now) atoms.now }
+{
+    let count = class.attributes.len();
+    class
+        .invariant_classes
+        .iter()
+        .all(|declarer| meets_own(program, *declarer, count, atoms))
+}
+
+/// Whether an object with so many attributes keeps the clauses that the class of the number declares itself.
+#[inline(always)]
+fn meets_own(program: &Program, declarer: usize, count: usize, atoms: &[Atom]) -> bool
+    ensures { result ≡ all_hold (kept_from count (slice_get (classes_of program.now.image) declarer)) atoms.now }
+{
+    match program.classes().get(declarer) {
+        Some(class) => sc_formula::meets(&class.invariant, seen_by(class, count, atoms)),
+        None => true,
+    }
+}
+
+/// What the clauses of a class see of an object with so many attributes: the last ones, as many as the class has.
+#[inline(always)]
+fn seen_by<'a>(class: &ClassCode, count: usize, atoms: &'a [Atom]) -> &'a [Atom]
+    ensures { result.now ≡ drop (count - length class.now.attributes.items) atoms.now }
+{
+    let first = count.saturating_sub(class.attributes.len());
+    &atoms[first.min(atoms.len())..]
 }
 
 /// Writes what an invariant sees of each attribute.
@@ -184,15 +215,28 @@ fn fill(atoms: &mut [Atom], attributes: &[Value])
 fn broken_invariant(state: &State<'_>, number: usize) -> Option<BrokenInvariant> {
     let object = state.objects.get(number)?;
     let class = class_at(state.program, object.class)?;
-    for clause in 0..class.invariant.len() {
-        if !meets_clauses(&class.invariant[clause..=clause], &object.attributes) {
+    let mut atoms = [Atom::Boolean(false); 256];
+    fill(&mut atoms, &object.attributes);
+    let atoms = &atoms[..object.attributes.len()];
+    for declarer in class.invariant_classes.iter().rev() {
+        let declared = state.program.classes().get(*declarer)?;
+        let seen = seen_by(declared, class.attributes.len(), atoms);
+        if let Some(clause) = broken_clause(&declared.invariant, seen) {
             return Some(BrokenInvariant {
                 class: object.class,
+                declarer: *declarer,
                 clause,
             });
         }
     }
     None
+}
+
+/// The first of the clauses that isn't true, counted from 0.
+fn broken_clause(clauses: &[Formula], atoms: &[Atom]) -> Option<usize> {
+    clauses
+        .iter()
+        .position(|clause| sc_formula::eval(clause, atoms) != Some(true))
 }
 
 /// Where the object of the number is settled now and breaks its invariant, the store fails.

@@ -3,13 +3,15 @@
 ghost use Rattle.std.specs.Prelude.{◌≡◌, ◌<◌, ◌≤◌, IfOk, length, map, string_bytes};
 ghost use Rattle.sc_formula.specs.Plain.{plain_formula};
 ghost use Rattle.std.specs.Prelude.{None};
+ghost use Rattle.sc_tree.specs.View.{clause_of};
 ghost use Rattle.sc_class.specs.SystemIn.{system_in};
+ghost use Rattle.sc_class.specs.Tables.Features.{declared_invariant};
 ghost use Rattle.sc_model.specs.Environments.{Binding};
 ghost use Rattle.sc_lower.specs.AttributeBindings.{binding_of};
-ghost use Rattle.sc_lower.specs.ClassCodes.{class_codes_of, conforming};
+ghost use Rattle.sc_lower.specs.ClassCodes.{conforming};
 ghost use Rattle.sc_lower.specs.Formulas.{clauses_over};
-ghost use Rattle.sc_code.specs.Attributes.{known_formulas};
-ghost use Rattle.sc_code.specs.Programs.{attribute_in, class_in, class_code_of};
+ghost use Rattle.sc_code.specs.Attributes.{invariant_classes, known_formulas};
+ghost use Rattle.sc_code.specs.Programs.{attribute_in, class_in, class_code_of, class_codes_of};
 
 use crate::program::attributes::{Attribute, attributes_of};
 use crate::program::class_text::class_text;
@@ -57,7 +59,7 @@ fn conforms(alloc: Global, tables: &Tables, class: usize) -> Result<Vec<bool>, A
 fn formulas(
     alloc: Global,
     attributes: &[Attribute],
-    clauses: &[&Clause],
+    clauses: &[Clause],
 ) -> Result<Vec<Formula>, AllocError>
     requires { length attributes.now ≤ 256 }
     ensures { IfOk result (λ formulas. map plain_formula formulas.items ≡ known_formulas (clauses_over attributes.now clauses.now)) }
@@ -78,6 +80,34 @@ fn never_met(alloc: Global) -> Result<Vec<Formula>, AllocError>
     Ok(formulas)
 }
 
+/// The clauses that the class at the number declares itself.
+fn own_clauses<'s>(tables: &Tables<'s>, class: usize) -> &'s [Clause]
+    ensures { map clause_of result.now ≡ declared_invariant (system_in tables.now) class }
+{
+    match tables.class(class) {
+        Some(text) => &text.invariant,
+        None => &[],
+    }
+}
+
+/// The classes whose clauses make up the joined invariant of the class at the number, itself first.
+fn invariant_classes(
+    alloc: Global,
+    tables: &Tables,
+    class: usize,
+) -> Result<Vec<usize>, AllocError>
+    requires { class < length (system_in tables.now).classes }
+    ensures { IfOk result (λ classes. classes.items ≡ invariant_classes (system_in tables.now) class) }
+{
+    let mut classes = Vec::new(alloc);
+    for ancestor in tables.ancestors(ClassId::Declared(class)) {
+        if !own_clauses(tables, *ancestor).is_empty() {
+            classes.push(*ancestor)?;
+        }
+    }
+    Ok(classes)
+}
+
 /// The tables of the class at the number, where names have these numbers.
 fn class_code(
     alloc: Global,
@@ -91,13 +121,13 @@ fn class_code(
     let tables = numbering.tables;
     let features = tables.features(alloc, ClassId::Declared(class))?;
     let attributes = attributes_of(alloc, tables, &features)?;
-    let clauses = tables.invariant_of(alloc, ClassId::Declared(class))?;
     Ok(ClassCode {
         attributes: attribute_codes(alloc, &attributes)?,
         features: versions(alloc, numbering, &attributes, class, names)?,
         conforms: conforms(alloc, tables, class)?,
-        invariant: formulas(alloc, &attributes, &clauses)?,
-        text: class_text(alloc, tables, class, clauses.len())?,
+        invariant: formulas(alloc, &attributes, own_clauses(tables, class))?,
+        invariant_classes: invariant_classes(alloc, tables, class)?,
+        text: class_text(alloc, tables, class)?,
     })
 }
 

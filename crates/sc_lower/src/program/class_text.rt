@@ -1,6 +1,6 @@
 //! Where classes stand in the text, for what is told to people of their objects.
 
-use sc_class::{ClassId, Tables};
+use sc_class::Tables;
 use sc_code::{ClassText, ClauseText};
 use sc_text::Span;
 use sc_tree::Clause;
@@ -9,13 +9,8 @@ use std::alloc::{AllocError, Global};
 /// Where a part is that isn't there.
 const NOWHERE: Span = Span { start: 0, end: 0 };
 
-/// Where the class at the number stands, whose joined invariant has so many clauses.
-pub fn class_text(
-    alloc: Global,
-    tables: &Tables,
-    class: usize,
-    joined: usize,
-) -> Result<ClassText, AllocError> {
+/// Where the class at the number stands.
+pub fn class_text(alloc: Global, tables: &Tables, class: usize) -> Result<ClassText, AllocError> {
     let (span, name, own): (Span, Span, &[Clause]) = match tables.classes().get(class) {
         Some(declared) => (declared.span, declared.name.span, &declared.invariant),
         None => (NOWHERE, NOWHERE, &[]),
@@ -27,8 +22,6 @@ pub fn class_text(
     Ok(ClassText {
         span,
         name,
-        parent: tables.ancestors(ClassId::Declared(class)).get(1).copied(),
-        inherited_clauses: joined.saturating_sub(own.len()),
         invariant,
     })
 }

@@ -23,7 +23,7 @@ use std::alloc::{AllocError, Global};
 pub fn clauses(
     alloc: Global,
     attributes: &[Attribute<'_>],
-    clauses: &[&Clause],
+    clauses: &[Clause],
 ) -> Result<Option<Vec<Formula>>, AllocError>
     requires { length attributes.now ≤ 256 }
     ensures { IfOk result (λ formulas. option_map (λ formulas. map plain_formula formulas.items) formulas ≡ over.clauses_over attributes.now clauses.now) }

@@ -8,5 +8,5 @@ use Rattle.sc_lower.proofs.program.invariant.clauses.Given as goal
 
 abbrev pub invariant-loop-clause : goal.invariant-loop-clause
 invariant-loop-clause l =
-    clauses_of (map binding_of l.attributes) (map (λ c. clause_of c.now) l.clauses)
-    ≡ option_map (λ others. map plain_formula l.formulas.items ++ others) (clauses_of (map binding_of l.attributes) (map (λ c. clause_of c.now) (drop l.clause-index l.clauses)))
+    clauses_of (map binding_of l.attributes) (map clause_of l.clauses)
+    ≡ option_map (λ others. map plain_formula l.formulas.items ++ others) (clauses_of (map binding_of l.attributes) (map clause_of (drop l.clause-index l.clauses)))
