@@ -24,6 +24,11 @@ pub mod TypingOrigins
 pub mod TypingRoutines
 pub mod ProgramRows
 pub mod InvariantFormulas
+mod DistinctFeatures
+pub mod MovedFormulas
+pub mod HeirFormulas
+pub mod InheritedAttributes
+pub mod JoinedInvariants
 pub mod Joins
 pub mod JoinFacts
 pub mod SuperinstructionRows
