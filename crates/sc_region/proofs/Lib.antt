@@ -2,6 +2,7 @@ pub mod Stacks
 pub mod Numbered
 pub mod Placed
 pub mod InvariantTests
+pub mod JoinedClauses
 pub mod SettledObjects
 pub mod FilledSlots
 pub mod DeeperOperands

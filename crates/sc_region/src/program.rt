@@ -12,7 +12,16 @@ pub fn class_at(program: &Program, class: ClassNumber) -> Option<&ClassCode>
     ensures class { option_map (λ code. code.now) result ≡ at.class_at program.now.image class }
     ensures few { IfSome result (λ code. vec_len code.now.attributes ≤ 256) }
 {
-    program.classes().get(usize::from(class))
+    class_numbered(program, usize::from(class))
+}
+
+/// The same, whatever the number is.
+#[inline(always)]
+pub fn class_numbered(program: &Program, number: usize) -> Option<&ClassCode>
+    ensures class { option_map (λ code. code.now) result ≡ at.class_at program.now.image number }
+    ensures few { IfSome result (λ code. vec_len code.now.attributes ≤ 256) }
+{
+    program.classes().get(number)
 }
 
 /// The default of each attribute of a class.

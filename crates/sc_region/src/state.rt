@@ -12,7 +12,7 @@ ghost use Rattle.sc_model.specs.declared.cause.Cause.TheVariants as cause;
 use crate::breakdown::{Breakdown, BrokenInvariant, Point};
 use crate::frame::{Activation, Origin, OwnCall};
 use crate::object::{Object, Objects};
-use crate::program::{class_at, routine_at};
+use crate::program::{class_at, class_numbered, routine_at};
 use crate::stack::Stack;
 use crate::value::{ObjectNumber, Reference, Value};
 use sc_code::{ClassCode, ClassNumber, Program, RoutineCode};
@@ -186,7 +186,7 @@ fn meets_each(program: &Program, class: &ClassCode, atoms: &[Atom]) -> bool
 fn meets_own(program: &Program, declarer: usize, count: usize, atoms: &[Atom]) -> bool
     ensures { result ≡ all_hold (kept_from count (slice_get (classes_of program.now.image) declarer)) atoms.now }
 {
-    match program.classes().get(declarer) {
+    match class_numbered(program, declarer) {
         Some(class) => sc_formula::meets(&class.invariant, seen_by(class, count, atoms)),
         None => true,
     }
@@ -219,7 +219,7 @@ fn broken_invariant(state: &State<'_>, number: usize) -> Option<BrokenInvariant>
     fill(&mut atoms, &object.attributes);
     let atoms = &atoms[..object.attributes.len()];
     for declarer in class.invariant_classes.iter().rev() {
-        let declared = state.program.classes().get(*declarer)?;
+        let declared = class_numbered(state.program, *declarer)?;
         let seen = seen_by(declared, class.attributes.len(), atoms);
         if let Some(clause) = broken_clause(&declared.invariant, seen) {
             return Some(BrokenInvariant {

@@ -10,7 +10,7 @@ ghost use Rattle.sc_model.specs.Environments.{Binding};
 ghost use Rattle.sc_lower.specs.AttributeBindings.{binding_of};
 ghost use Rattle.sc_lower.specs.ClassCodes.{conforming};
 ghost use Rattle.sc_lower.specs.Formulas.{clauses_over};
-ghost use Rattle.sc_code.specs.Attributes.{invariant_classes, known_formulas};
+ghost use Rattle.sc_code.specs.Attributes.{has_clauses, known_formulas, with_clauses};
 ghost use Rattle.sc_code.specs.Programs.{attribute_in, class_in, class_code_of, class_codes_of};
 
 use crate::program::attributes::{Attribute, attributes_of};
@@ -90,22 +90,26 @@ fn own_clauses<'s>(tables: &Tables<'s>, class: usize) -> &'s [Clause]
     }
 }
 
-/// The classes whose clauses make up the joined invariant of the class at the number, itself first.
-fn invariant_classes(
+/// Whether it declares any.
+fn has_clauses(tables: &Tables, class: usize) -> bool
+    ensures { result ≡ has_clauses (system_in tables.now) class }
+{
+    !own_clauses(tables, class).is_empty()
+}
+
+/// Those of the classes that declare clauses.
+fn with_clauses(
     alloc: Global,
     tables: &Tables,
-    class: usize,
+    classes: &[usize],
 ) -> Result<Vec<usize>, AllocError>
-    requires { class < length (system_in tables.now).classes }
-    ensures { IfOk result (λ classes. classes.items ≡ invariant_classes (system_in tables.now) class) }
+    ensures { IfOk result (λ kept. kept.items ≡ with_clauses (system_in tables.now) classes.now) }
 {
-    let mut classes = Vec::new(alloc);
-    for ancestor in tables.ancestors(ClassId::Declared(class)) {
-        if !own_clauses(tables, *ancestor).is_empty() {
-            classes.push(*ancestor)?;
-        }
-    }
-    Ok(classes)
+    classes
+        .iter()
+        .copied()
+        .filter(|class| has_clauses(tables, *class))
+        .collect(alloc)
 }
 
 /// The tables of the class at the number, where names have these numbers.
@@ -121,12 +125,13 @@ fn class_code(
     let tables = numbering.tables;
     let features = tables.features(alloc, ClassId::Declared(class))?;
     let attributes = attributes_of(alloc, tables, &features)?;
+    let ancestors = tables.ancestors(ClassId::Declared(class));
     Ok(ClassCode {
         attributes: attribute_codes(alloc, &attributes)?,
         features: versions(alloc, numbering, &attributes, class, names)?,
         conforms: conforms(alloc, tables, class)?,
         invariant: formulas(alloc, &attributes, own_clauses(tables, class))?,
-        invariant_classes: invariant_classes(alloc, tables, class)?,
+        invariant_classes: with_clauses(alloc, tables, ancestors)?,
         text: class_text(alloc, tables, class)?,
     })
 }

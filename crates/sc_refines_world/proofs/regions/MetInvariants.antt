@@ -7,7 +7,6 @@ use Rattle.std.specs.Prelude.{◌==◌, ◌&&◌, nat_lt, slice_get, if◌then�
 use Rattle.std.specs.List.{range_with_len}
 use Rattle.std.specs.Option.{is_none, option_map, option_map_or, option_and_then}
 use Rattle.sc_formula.specs.declared.atom.Atom.{Atom}
-use Rattle.sc_formula.specs.Formula.{PlainFormula}
 use Rattle.sc_tree.specs.Plain.{System, Class}
 use Rattle.sc_class.specs.ClassNames.{Root}
 use Rattle.sc_class.specs.Tables.Ancestors.{ancestors_within, parent_number, parent_of}
@@ -28,12 +27,14 @@ use Rattle.sc_code.specs.declared.program.ClassCode.{ClassCode}
 use Rattle.sc_code.specs.declared.program.Image.{Image}
 use Rattle.sc_code.specs.declared.program.FeatureCode.{FeatureCode}
 use Rattle.sc_code.specs.Attributes.{known_formulas}
-use Rattle.sc_code.specs.Programs.{IsProgramOf, PlainClass, attribute_in, class_code_of, class_in, entry_of_feature, pool_of, version_entry}
+use Rattle.sc_code.specs.JoinedInvariants.{joined_in, joined_invariant}
+use Rattle.sc_code.specs.Programs.{IsProgramOf, PlainClass, attribute_in, class_code_of, class_codes_of, class_in, entry_of_feature, pool_of, version_entry}
 use Rattle.sc_code.specs.View as view
 use Rattle.sc_code.proofs.InvariantFormulas.{invariants_are_known}
+use Rattle.sc_code.proofs.JoinedInvariants.{invariants_are_joined}
 use Rattle.sc_region.specs.declared.value.Value.{Value}
 use Rattle.sc_region.specs.declared.value.Value.TheVariants.{Integer, Boolean, Void, Attached}
-use Rattle.sc_region.specs.Classes.{all_hold, class_at, clauses_of, defaults_of, invariant_of, meets_invariant, object_breaks, object_meets}
+use Rattle.sc_region.specs.Classes.{all_hold, class_at, defaults_of, invariant_of, meets_invariant, object_breaks, object_meets}
 use Rattle.sc_region.specs.Frames as frames
 use Rattle.sc_region.specs.Objects.{PlainObject, object_numbered}
 use Rattle.sc_region.specs.Stores as store
@@ -123,13 +124,6 @@ attributes_seen (Some c) = refl
 abbrev firsts_of : Option PlainClass → List values.Value
 firsts_of o = map (λ (q : values.Value × Bool). q.0) (option_map_or (λ (c : PlainClass). c.attributes) o [])
 
-abbrev invariant_in : Option PlainClass → List PlainFormula
-invariant_in o = option_map_or (λ (c : PlainClass). c.invariant) o []
-
-clauses_seen : (o : Option ClassCode) → clauses_of o ≡ invariant_in (option_map class_in o)
-clauses_seen None = refl
-clauses_seen (Some c) = refl
-
 defaults_seen : (o : Option ClassCode) → values_of (defaults_of o) ≡ firsts_of (option_map class_in o)
 defaults_seen None = refl
 defaults_seen (Some c) = defaults_same c.attributes.items
@@ -149,18 +143,6 @@ module _ (s : System) (root : Root) (p : Image) (is : IsProgramOf s root p) wher
   class_told : (k : ℕ) → option_map class_in (class_at p k) ≡ option_map (class_code_of s names) (slice_get (range_with_len 0 (length s.classes)) k)
   class_told k =
       sym (mapped_get class_in p.classes.items k) ∙ ap (λ cs. slice_get cs k) is.classes ∙ mapped_get (class_code_of s names) (range_with_len 0 (length s.classes)) k
-
-  -- the formulas of the class at the number
-  clauses_are : (k : ℕ) → invariant_of p k ≡ known_formulas (formulas_of s k)
-  clauses_are k = clauses_seen (class_at p k) ∙ ap invariant_in (class_told k) ∙ by (nat_lt k (length s.classes)) refl
-    where
-      by : (b : Bool) → nat_lt k (length s.classes) ≡ b →
-          invariant_in (option_map (class_code_of s names) (slice_get (range_with_len 0 (length s.classes)) k)) ≡ known_formulas (formulas_of s k)
-      by true e = ap (λ o. invariant_in (option_map (class_code_of s names) o)) (range_at (length s.classes) k (ltb-true k (length s.classes) e))
-      by false e =
-          let past = ltb-false k (length s.classes) e in
-          ap (λ o. invariant_in (option_map (class_code_of s names) o)) (range_past 0 (length s.classes) k past)
-          ∙ sym (ap (λ cs. known_formulas (model.clauses_of (fresh_attributes s (features s k)) cs)) (invariant_past s (length s.classes) k past))
 
   -- the values of a new object of the class at the number
   pub fresh_values : (k : ℕ) → values_of (defaults_of (class_at p k)) ≡ map (λ (b : Binding). b.value) (fresh_attributes s (features s k))
@@ -206,6 +188,23 @@ module _ (s : System) (root : Root) (p : Image) (is : IsProgramOf s root p) wher
           ap (λ o. version_at (option_map (class_code_of s names) o) n) (range_past 0 (length s.classes) k past)
           ∙ sym (ap (λ fs. entry_of_feature s k (named_among name fs)) (features_past s (length s.classes) k past))
 
+-- the formulas that make up the invariant of the class at the number
+clauses_are : (s : System) (p : Image) → IsProgramFor s p → (k : ℕ) → invariant_of p k ≡ known_formulas (formulas_of s k)
+clauses_are s p is k = ap (λ cs. joined_invariant cs k) is.program.classes ∙ by (nat_lt k (length s.classes)) refl
+  where
+    coded : ℕ → PlainClass
+    coded = class_code_of s (pool_of p.pool).names
+
+    by : (b : Bool) → nat_lt k (length s.classes) ≡ b → joined_invariant (class_codes_of s (pool_of p.pool).names) k ≡ known_formulas (formulas_of s k)
+    by true e =
+        let purity = purity_stands s in
+        invariants_are_joined s is.root purity.0 is.faultless is.well_formed purity.1 (pool_of p.pool).names k (ltb-true k (length s.classes) e)
+    by false e =
+        let past = ltb-false k (length s.classes) e in
+        ap (joined_in (class_codes_of s (pool_of p.pool).names))
+        (mapped_get coded (range_with_len 0 (length s.classes)) k ∙ ap (option_map coded) (range_past 0 (length s.classes) k past))
+        ∙ sym (ap (λ cs. known_formulas (model.clauses_of (fresh_attributes s (features s k)) cs)) (invariant_past s (length s.classes) k past))
+
 -- ---- objects
 
 atom_same : (v : Value) → model.atom_of (value_of v) ≡ atom_of v
@@ -239,7 +238,7 @@ meets_same s p is o whole =
     let known = invariants_are_known s is.root purity.0 is.faultless is.well_formed purity.1 o.class in
     let many = fresh_many s is.root p is.program o.class in
     let atoms = atoms_same bs o.attributes (omega (arith, whole, many)) in
-    ap (λ cs. all_hold cs (atoms_of o.attributes)) (clauses_are s is.root p is.program o.class)
+    ap (λ cs. all_hold cs (atoms_of o.attributes)) (clauses_are s p is o.class)
     ∙ ap (λ us. all_hold (known_formulas (formulas_of s o.class)) us) atoms.same
     ∙ invariant_sees s o.class (model.atoms_of (valued bs (values_of o.attributes))) atoms.more atoms.many
     ∙ ap (λ cs. meets_clauses cs (model.atoms_of (valued bs (values_of o.attributes)))) (sym known)
