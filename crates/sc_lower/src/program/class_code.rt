@@ -81,6 +81,7 @@ fn never_met(alloc: Global) -> Result<Vec<Formula>, AllocError>
 }
 
 /// The clauses that the class at the number declares itself.
+#[tactic(auto, unfolding(sc_tree::specs::View::class_of))]
 fn own_clauses<'s>(tables: &Tables<'s>, class: usize) -> &'s [Clause]
     ensures { map clause_of result.now ≡ declared_invariant (system_in tables.now) class }
 {

@@ -13,7 +13,7 @@ returns-in_default c =
     let next = clauses_of bs (map clause_of (drop (c.loop-clause.clause-index + 1) c.args.clauses.now)) in
     let join = option_map (λ others. map plain_formula c.loop-clause.formulas.items ++ others) in
     ap (λ f. join (with_clause f next)) (ap (option_map plain_formula) (sym c.in_default.is) ∙ c.in_ok-formula.ensures)
-    ∙ ap join (sym (clause_here bs c.args.clauses.now c.loop-clause.clause-index c.clause.now c.loop-clause-test.true c.clause-item.is))
+    ∙ ap join (sym (clause_here bs c.args.clauses.now c.loop-clause.clause-index c.clause-item.result c.loop-clause-test.true c.clause-item.is))
     ∙ sym c.loop-clause.invariant
 
 pub loop-clause-preserved : goal.loop-clause-preserved
@@ -22,7 +22,7 @@ loop-clause-preserved c =
     let next = clauses_of bs (map clause_of (drop (c.loop-clause.clause-index + 1) c.args.clauses.now)) in
     let join = option_map (λ others. map plain_formula c.loop-clause.formulas.items ++ others) in
     c.loop-clause.invariant
-    ∙ ap join (clause_here bs c.args.clauses.now c.loop-clause.clause-index c.clause.now c.loop-clause-test.true c.clause-item.is)
+    ∙ ap join (clause_here bs c.args.clauses.now c.loop-clause.clause-index c.clause-item.result c.loop-clause-test.true c.clause-item.is)
     ∙ ap (λ f. join (with_clause f next)) (sym c.in_ok-formula.ensures ∙ ap (option_map plain_formula) c.in-Some.is)
     ∙ clause_pushed c.loop-clause.formulas.items c.in-Some.formula next
     ∙ ap (λ items. option_map (λ others. map plain_formula items ++ others) next) (sym c.in_ok-push.ensures.items)
