@@ -99,11 +99,7 @@ fn has_clauses(tables: &Tables, class: usize) -> bool
 }
 
 /// Those of the classes that declare clauses.
-fn with_clauses(
-    alloc: Global,
-    tables: &Tables,
-    classes: &[usize],
-) -> Result<Vec<usize>, AllocError>
+fn with_clauses(alloc: Global, tables: &Tables, classes: &[usize]) -> Result<Vec<usize>, AllocError>
     ensures { IfOk result (λ kept. kept.items ≡ with_clauses (system_in tables.now) classes.now) }
 {
     classes
