@@ -13,7 +13,7 @@ use Rattle.sc_class.specs.Faults.ClassRules.{IsFaultless}
 use Rattle.sc_class.specs.Faults.Redefinition.{can_redefine}
 use Rattle.sc_class.specs.Faults.Scopes.{feature_names}
 use Rattle.sc_class.specs.Tables.Ancestors.{parent_number}
-use Rattle.sc_class.specs.Tables.Features.{DeclaredFeature, declared_features, feature_named, features, features_along, named_among, not_redefined, redefined_names}
+use Rattle.sc_class.specs.Tables.Features.{DeclaredFeature, declared_features, features, features_along, named_among, not_redefined, redefined_names}
 use Rattle.sc_class.proofs.Acyclic.{ancestors_climb}
 use Rattle.sc_class.proofs.Heirs.{Next, OneDown, inherits, declares_again, one_down}
 use Rattle.sc_rules.specs.declared.entity_types.entity_type.EntityType.{EntityType}

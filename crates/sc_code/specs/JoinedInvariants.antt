@@ -1,5 +1,5 @@
--- The joined invariant of a class in flat code (ECMA-367, 8.9.16). The attributes that its heirs declare stand in front of a
--- class's own, so what it says of its own holds of them in each heir at other numbers.
+-- The joined invariant of a class in flat code (ECMA-367, 8.9.16). In an heir's object the attributes that the heir
+-- declares stand in front of those that it inherits, so that clauses of these speak of other numbers there.
 use Rattle.std.specs.Prelude.{ℕ, ◌+◌, ◌-◌, List, [], ◌∷◌, ◌++◌, Option, Some, None, length, map, slice_get}
 use Rattle.sc_formula.specs.Formula.{PlainFormula, Constant, Attribute, IsVoid, NotVoid, Not, Compared, Connected}
 use Rattle.sc_formula.specs.Term as term
