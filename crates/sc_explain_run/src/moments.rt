@@ -319,7 +319,7 @@ impl<'o> Before<'o> {
         for place in 0..count.min(MOST_DROPPED) {
             if let Some(request) = core.asked_at(handler, place.saturating_add(first)) {
                 lines.push(if place == 0 { ": " } else { ", " });
-                push_request(self.origin, lines, self.world, &asked_by(request))
+                push_request(self.origin, lines, self.world, &asked_by(&request))
             }
         }
         if count > MOST_DROPPED {

@@ -1,4 +1,5 @@
 pub mod Handlers
+pub mod Actuals
 pub mod Picking
 pub mod Changes
 pub mod Fits

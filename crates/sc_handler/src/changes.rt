@@ -5,7 +5,8 @@ ghost use Rattle.sc_handler.specs.Changes.{placed, answered, fallen, takes, take
 ghost use Rattle.sc_handler.specs.InMemory.{answer_of, cleared, handler_with, posted_as, reserves_at, served, service_of};
 
 use crate::handler::{Answer, Handler, HandlerStage, Posting};
-use crate::postings::{append, stand_over, take_all, take_first, write_first};
+use crate::postings::{append, stand_over, take_all, take_first};
+use crate::spare_places::SparePlaces;
 use sc_lockpass::wait_conditions::Mark;
 use sc_lockpass::{Passed, post};
 use sc_model::Cause;
@@ -83,21 +84,22 @@ impl Handler {
         }
     }
 
-    /// A request stands as its callback, or at its queue's end, in this node.
+    /// A request stands as its callback, or at its queue's end, in one of these places.
     pub fn place(
         &mut self,
         is_callback: bool,
-        mut node: LinkedList<Posting>,
         request: &Request,
         is_waited: bool,
         passed: &mut Option<Passed>,
+        spare: &mut SparePlaces,
     )
-        requires node { length node ≡ 1 }
+        requires spare { 1 ≤ spare.old }
         requires room { is_callback ≡ false → length self.old.queue + 1 < 2 ^ 63 }
         ensures handler { (n : ℕ) → handler_with n self.new ≡ placed is_callback (posted_as request.now is_waited passed.old) (handler_with n self.old) }
         ensures out { self.new.out ≡ self.old.out }
+        ensures places { spare.old ≤ spare.new + 1 }
     {
-        write_first(&mut node, request, is_waited, passed);
+        let node = spare.take(request, is_waited, passed);
         post(is_callback, node, &mut self.queue, &mut self.callback);
     }
 

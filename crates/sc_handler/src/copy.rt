@@ -1,5 +1,5 @@
 //! Copies of what takes no memory of its own.
-ghost use Rattle.std.specs.Prelude.{◌≡◌};
+ghost use Rattle.std.specs.Prelude.{◌≡◌, ◌≤◌, length};
 
 use arrayvec::ArrayVec;
 use sc_lockpass::HandlerNumber;
@@ -25,16 +25,18 @@ pub(crate) fn write_request(place: &mut Request, request: &Request, is_waited: b
     place.poster = request.poster;
     place.target = request.target;
     place.errand = request.errand;
-    write_values(&mut place.actuals, &request.actuals);
+    write_values(&mut place.actuals, request.actuals.as_slice());
     place.is_waited = is_waited;
 }
 
-fn write_values(place: &mut ArrayVec<Value, 16>, values: &ArrayVec<Value, 16>)
-    ensures { place.new ≡ values.now }
+/// Makes values the same as these.
+pub(crate) fn write_values(place: &mut ArrayVec<Value, 16>, values: &[Value])
+    requires { length values.now ≤ 16 }
+    ensures { place.new ≡ record { items = values.now } }
 {
     place.clear();
     if !values.is_empty() {
-        let _ = place.try_extend_from_slice(values.as_slice());
+        let _ = place.try_extend_from_slice(values);
     }
 }
 

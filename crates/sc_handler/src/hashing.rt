@@ -1,8 +1,9 @@
 //! Numbers by which handlers are told apart at a glance.
 
 use crate::handler::{Answer, Handler, HandlerStage, Posting};
+use crate::posted_request::PostedRequest;
 use sc_lockpass::HandlerNumber;
-use sc_region::{Errand, NameNumber, Reference, Request, Value};
+use sc_region::{Errand, NameNumber, Reference, Value};
 use std::hash::{FoldHasher, Hasher};
 
 /// Adds what is kept of a handler to a number. Nothing is promised of that. It takes time for each request that stands at
@@ -31,11 +32,11 @@ fn write_posting(hasher: &mut FoldHasher, posting: &Posting) {
     write_request(hasher, &posting.request);
 }
 
-fn write_request(hasher: &mut FoldHasher, request: &Request) {
+fn write_request(hasher: &mut FoldHasher, request: &PostedRequest) {
     hasher.write_u64(errand_word(request.errand));
     hasher.write_u64(word_of(request.poster) | (request.is_waited as u64) << 32);
     hasher.write_u64(reference_word(request.target));
-    for actual in request.actuals.as_slice() {
+    for actual in request.actuals() {
         hasher.write_u64(value_word(*actual));
     }
 }

@@ -4,6 +4,7 @@ ghost use Rattle.std.specs.Option.{option_map};
 ghost use Rattle.sc_region.specs.declared.job.Job.TheVariants as job;
 
 use crate::copy::{copy_handlers, copy_request, write_request};
+use crate::posted_request::PostedRequest;
 use sc_lockpass::HandlerNumber;
 use sc_region::{Job, Request, Value};
 use std::marker::Model;
@@ -73,10 +74,10 @@ impl JobSlot {
     }
 
     /// It takes this request.
-    pub fn set_take(&mut self, request: &Request)
+    pub fn set_take(&mut self, request: &PostedRequest)
         ensures { self.new ≡ Some (job.Take request.now) }
     {
-        write_take(&mut self.job, request);
+        write_posted(&mut self.job, request);
         self.is_full = true;
     }
 
@@ -165,6 +166,23 @@ fn renew_take(place: &mut Job, request: &Request)
     ensures { place.new ≡ job.Take request.now }
 {
     *place = Job::Take(copy_request(request));
+}
+
+/// The job that takes a request that stands at a handler.
+fn write_posted(place: &mut Job, request: &PostedRequest)
+    ensures { place.new ≡ job.Take request.now }
+{
+    match place {
+        Job::Take(kept) => request.write_to(kept),
+        _ => renew_posted(place, request),
+    }
+}
+
+#[inline(never)]
+fn renew_posted(place: &mut Job, request: &PostedRequest)
+    ensures { place.new ≡ job.Take request.now }
+{
+    *place = Job::Take(request.to_request());
 }
 
 fn write_reply(place: &mut Job, value: Option<Value>)

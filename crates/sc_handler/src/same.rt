@@ -7,9 +7,10 @@ ghost use Rattle.sc_handler.specs.Same.{AreAskedAlike, StandAlike};
 
 use crate::agreement::same_errand;
 use crate::handler::{Handler, HandlerStage, Posting};
+use crate::passing::Passing;
+use crate::posted_request::PostedRequest;
 use arrayvec::ArrayVec;
-use sc_lockpass::{HandlerNumber, Passed};
-use sc_region::{Request, Value};
+use sc_lockpass::HandlerNumber;
 use std::collections::LinkedList;
 
 /// Whether the same is kept of two handlers, but for the counts of their sessions and the jobs that they are out with.
@@ -113,28 +114,28 @@ fn same_posting(a: &Posting, b: &Posting) -> bool
     same_request(&a.request, &b.request) && same_passed(&a.passed, &b.passed)
 }
 
-fn same_passed(a: &Option<Passed>, b: &Option<Passed>) -> bool
+fn same_passed(a: &Passing, b: &Passing) -> bool
     ensures { IsTrue result ↔ option_map passed_of a.now ≡ option_map passed_of b.now }
 {
-    match (a, b) {
+    match (a.get(), b.get()) {
         (Some(passed), Some(its)) => passed.is_same(its),
         (None, None) => true,
         _ => false,
     }
 }
 
-fn same_request(a: &Request, b: &Request) -> bool
+fn same_request(a: &PostedRequest, b: &PostedRequest) -> bool
     ensures { IsTrue result ↔ a.now ≡ b.now }
 {
     a.poster == b.poster
         && a.target == b.target
         && same_errand(a.errand, b.errand)
-        && same_values(&a.actuals, &b.actuals)
+        && same_actuals(a, b)
         && a.is_waited == b.is_waited
 }
 
-fn same_values(a: &ArrayVec<Value, 16>, b: &ArrayVec<Value, 16>) -> bool
-    ensures { IsTrue result ↔ a.now ≡ b.now }
+fn same_actuals(a: &PostedRequest, b: &PostedRequest) -> bool
+    ensures { IsTrue result ↔ a.now.actuals ≡ b.now.actuals }
 {
-    a.as_slice() == b.as_slice()
+    a.actuals() == b.actuals()
 }

@@ -7,7 +7,7 @@ use Rattle.sc_request.specs.declared.settlement.SettleFault.TheVariants.{NotOut,
 -- There is room to settle each handler that is out, and so many more: a place in some queue, and in the log an entry,
 -- a packed settlement and as many values as the two lists of a settlement may have, with a number of 32 bits for each.
 pub record HasRoomFor (more : ℕ) (c : coded.Core) : Type 0 where
-  pub places : c.outs + more ≤ length c.spare
+  pub places : c.outs + more ≤ c.spare
   pub entries : vec_len c.log.entries + (c.outs + more) ≤ vec_capacity c.log.entries
   pub packed : vec_len c.log.packed + (c.outs + more) ≤ vec_capacity c.log.packed
   pub values : vec_len c.log.values + 32 * (c.outs + more) ≤ vec_capacity c.log.values

@@ -12,12 +12,11 @@ ghost use Rattle.sc_request.specs.Sound.{IsSound};
 use crate::handler_set::HandlerSet;
 use crate::state::State;
 use arrayvec::ArrayVec;
-use sc_handler::{Handler, Log, Posting};
+use sc_handler::{Handler, Log, SparePlaces};
 use sc_lockpass::{HandlerNumber, Rights, Version};
 use sc_model::Status;
 use sc_region::{ClassNumber, Errand, Job, NameNumber, Reference, Request};
 use std::alloc::{AllocError, Global};
-use std::collections::LinkedList;
 
 /// The half of the world that moves requests and rights between handlers.
 ///
@@ -36,8 +35,8 @@ pub struct Core {
     /// The handler that was picked last.
     pub(crate) last: HandlerNumber,
     pub(crate) log: Log,
-    /// Places for what is posted, each in a node of a queue: one for each settlement that was made room for.
-    pub(crate) spare: LinkedList<Posting>,
+    /// Places for what is posted: one for each settlement that was made room for.
+    pub(crate) spare: SparePlaces,
     /// Those that may have something to do: all that have, and some that were not tried since they might.
     pub(crate) candidates: HandlerSet,
     /// Those that wait to reserve: all whose next step is a reserve step.
@@ -88,7 +87,7 @@ impl Core {
             outs: 0,
             last: version.most_handlers() - 1,
             log: Log::new(alloc),
-            spare: LinkedList::new(alloc),
+            spare: SparePlaces::new(alloc),
             candidates,
             reserving: HandlerSet::new(),
             crowds: vec![in alloc; HandlerSet::new(); 512]?,

@@ -11,8 +11,8 @@ ghost use Rattle.sc_request.specs.Settling.{ends, may_post_to_all};
 ghost use Rattle.sc_request.specs.Sound.{IsSound, placed_poster};
 
 use crate::state::State;
-use sc_handler::{Answer, Posting, recycle};
-use sc_lockpass::{HandlerNumber, Passed};
+use sc_handler::{Answer, Passing, Posting, SparePlaces};
+use sc_lockpass::HandlerNumber;
 use sc_model::Cause;
 use sc_region::Value;
 use std::collections::LinkedList;
@@ -26,7 +26,7 @@ impl State {
         reply: Option<Value>,
         released: &[HandlerNumber],
         refused: bool,
-        spare: &mut LinkedList<Posting>,
+        spare: &mut SparePlaces,
     )
         requires there { handler < 512 }
         requires sound { IsSound (2 ^ 64 - 2) (2 ^ 63) (plain self.old) }
@@ -34,7 +34,7 @@ impl State {
         ensures plain { plain self.new ≡ ends handler reply released.now refused ((plain self.old).handlers handler).services (plain self.old) }
         ensures outs { outs_of self.new ≡ outs_of self.old }
         ensures version { self.new.rights.version ≡ self.old.rights.version }
-        ensures places { length spare.old ≤ length spare.new }
+        ensures places { spare.old ≤ spare.new }
     {
         let mut service = self.pop_service(handler, refused);
         let Some(first) = service.front_mut() else {
@@ -44,7 +44,7 @@ impl State {
         self.end_sessions(released);
         let answer = answer_by(reply, refused);
         self.finish(first, answer);
-        recycle(spare, service);
+        spare.recycle(service);
     }
 
     /// Takes the request that a handler serves, which stands then as it did when it took that. A refusal is counted
@@ -73,7 +73,7 @@ impl State {
     }
 
     /// What was passed with a request returns. Mostly there is nothing, and then nothing is moved.
-    fn return_rights(&mut self, passed: &mut Option<Passed>)
+    fn return_rights(&mut self, passed: &mut Passing)
         ensures plain { plain self.new ≡ return_rights (option_map passed_of passed.old) (plain self.old) }
         ensures outs { outs_of self.new ≡ outs_of self.old }
         ensures version { self.new.rights.version ≡ self.old.rights.version }
@@ -85,7 +85,7 @@ impl State {
 
     /// What was passed returns, where it was.
     #[inline(never)]
-    fn give_back(&mut self, passed: &mut Option<Passed>)
+    fn give_back(&mut self, passed: &mut Passing)
         ensures plain { plain self.new ≡ return_rights (option_map passed_of passed.old) (plain self.old) }
         ensures outs { outs_of self.new ≡ outs_of self.old }
         ensures version { self.new.rights.version ≡ self.old.rights.version }

@@ -9,10 +9,9 @@ ghost use Rattle.sc_request.specs.Tables.{CountsUp};
 ghost use Rattle.sc_request.specs.Sound.{ArePlaced, IsHeldBelow, IsSound, placed_poster};
 
 use crate::state::State;
-use sc_handler::{Answer, Dropped, Posting};
+use sc_handler::{Answer, Dropped, PostedRequest, Posting};
 use sc_lockpass::{HandlerNumber, Rights};
 use sc_model::Cause;
-use sc_region::Request;
 use std::collections::LinkedList;
 
 impl State {
@@ -60,14 +59,14 @@ impl State {
     }
 
     /// The poster of a request hears the answer, if it waits.
-    pub(crate) fn answer_to(&mut self, request: &Request, answer: Answer)
+    pub(crate) fn answer_to(&mut self, request: &PostedRequest, answer: Answer)
         requires { placed_poster request.now.poster ≡ true }
         ensures plain { plain self.new ≡ answer_to request.now.is_waited request.now.poster (answer_of answer) (plain self.old) }
         ensures outs { outs_of self.new ≡ outs_of self.old }
         ensures version { self.new.rights.version ≡ self.old.rights.version }
     {
-        if request.is_waited {
-            match request.poster {
+        if request.is_waited() {
+            match request.poster() {
                 Some(poster) => self.hear_at(poster, answer),
                 None => {}
             }

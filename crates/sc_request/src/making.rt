@@ -9,11 +9,10 @@ ghost use Rattle.sc_request.specs.Sound.{IsSound};
 use crate::sessions::give_new;
 use crate::state::State;
 use arrayvec::ArrayVec;
-use sc_handler::{HandlerStage, Posting, copy_values};
+use sc_handler::{HandlerStage, SparePlaces, copy_values};
 use sc_lockpass::HandlerNumber;
 use sc_model::Cause;
 use sc_region::{ClassNumber, Errand, NameNumber, Reference, Request, Value};
-use std::collections::LinkedList;
 
 impl State {
     /// A handler makes another one, if there may be one more, and asks it for this creation.
@@ -24,13 +23,13 @@ impl State {
         procedure: Option<NameNumber>,
         actuals: &ArrayVec<Value, 16>,
         passes: bool,
-        spare: &mut LinkedList<Posting>,
+        spare: &mut SparePlaces,
     )
         requires there { handler < most_handlers self.old.rights.version }
-        requires spare { 1 ≤ length spare.old }
+        requires spare { 1 ≤ spare.old }
         requires sound { IsSound (2 ^ 64 - 2) (2 ^ 63) (plain self.old) }
         ensures plain { plain self.new ≡ creates (most_handlers self.old.rights.version) handler class procedure actuals.now passes (plain self.old) }
-        ensures places { length spare.old ≤ length spare.new + 1 }
+        ensures places { spare.old ≤ spare.new + 1 }
         ensures outs { outs_of self.new ≡ outs_of self.old }
         ensures version { self.new.rights.version ≡ self.old.rights.version }
     {
@@ -68,14 +67,14 @@ impl State {
         handler: HandlerNumber,
         made: HandlerNumber,
         request: Request,
-        spare: &mut LinkedList<Posting>,
+        spare: &mut SparePlaces,
     )
         requires there { handler < most_handlers self.old.rights.version }
         requires made { made < 512 }
-        requires spare { 1 ≤ length spare.old }
+        requires spare { 1 ≤ spare.old }
         requires new { ((plain self.old).handlers made).queue ≡ [] }
         ensures plain { plain self.new ≡ creates_with true handler made request (plain self.old) }
-        ensures places { length spare.old ≤ length spare.new + 1 }
+        ensures places { spare.old ≤ spare.new + 1 }
         ensures outs { outs_of self.new ≡ outs_of self.old }
         ensures version { self.new.rights.version ≡ self.old.rights.version }
     {
@@ -94,15 +93,15 @@ impl State {
         handler: HandlerNumber,
         made: HandlerNumber,
         request: Request,
-        spare: &mut LinkedList<Posting>,
+        spare: &mut SparePlaces,
     )
         requires there { handler < most_handlers self.old.rights.version }
         requires made { made < 512 }
-        requires spare { 1 ≤ length spare.old }
+        requires spare { 1 ≤ spare.old }
         requires new { ((plain self.old).handlers made).queue ≡ [] }
         requires room { (k : ℕ) → slice_index self.old.sessions.items k + 1 < 2 ^ 64 }
         ensures plain { plain self.new ≡ creates_with false handler made request (plain self.old) }
-        ensures places { length spare.old ≤ length spare.new + 1 }
+        ensures places { spare.old ≤ spare.new + 1 }
         ensures outs { outs_of self.new ≡ outs_of self.old }
         ensures version { self.new.rights.version ≡ self.old.rights.version }
     {

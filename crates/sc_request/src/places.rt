@@ -9,12 +9,11 @@ ghost use Rattle.sc_request.specs.Settling.{reserves};
 
 use crate::state::State;
 use arrayvec::ArrayVec;
-use sc_handler::{Answer, Dropped, HandlerStage, Posting, copy_handlers};
+use sc_handler::{Answer, Dropped, HandlerStage, SparePlaces, copy_handlers};
 use sc_lockpass::wait_conditions::Mark;
 use sc_lockpass::{HandlerNumber, Passed};
 use sc_model::Cause;
 use sc_region::Request;
-use std::collections::LinkedList;
 
 impl State {
     /// The handler takes the next of its queue or its callback, as it stands.
@@ -94,25 +93,26 @@ impl State {
         self.handlers[handler as usize].hear(answer);
     }
 
-    /// A request stands as the handler's callback, or at its queue's end, in this node.
+    /// A request stands as the handler's callback, or at its queue's end, in one of these places.
     pub(crate) fn place_at(
         &mut self,
         handler: HandlerNumber,
         is_callback: bool,
-        node: LinkedList<Posting>,
         request: &Request,
         is_waited: bool,
         passed: &mut Option<Passed>,
+        spare: &mut SparePlaces,
     )
         requires there { handler < 512 }
-        requires node { length node ≡ 1 }
+        requires spare { 1 ≤ spare.old }
         requires room { is_callback ≡ false → length ((plain self.old).handlers handler).queue + 1 < 2 ^ 63 }
         ensures plain { plain self.new ≡ send is_callback handler (posted_as request.now is_waited passed.old) (plain self.old) }
         ensures outs { outs_of self.new ≡ outs_of self.old }
         ensures rights { self.new.rights ≡ self.old.rights }
         ensures sessions { self.new.sessions ≡ self.old.sessions }
+        ensures places { spare.old ≤ spare.new + 1 }
     {
-        self.handlers[handler as usize].place(is_callback, node, request, is_waited, passed);
+        self.handlers[handler as usize].place(is_callback, request, is_waited, passed, spare);
     }
 
     /// The handler has no frames and nothing that it is asked for, as it fails.

@@ -4,7 +4,6 @@ ghost use Rattle.sc_handler.specs.Logged.{HasPlaces};
 ghost use Rattle.sc_request.specs.Rooms.{HasRoomFor};
 
 use crate::center::Core;
-use sc_handler::add_places;
 use std::alloc::AllocError;
 
 impl Core {
@@ -22,14 +21,14 @@ impl Core {
     {
         let wanted = self.outs + 1;
         self.log.reserve(wanted)?;
-        add_places(&mut self.spare, wanted)
+        self.spare.add_places(wanted)
     }
 
     /// Makes room for one settlement, where there is none.
     pub(crate) fn make_room_for_one(&mut self) -> Result<(), AllocError>
-        ensures places { OnOk result (1 ≤ length self.new.spare) }
+        ensures places { OnOk result (1 ≤ self.new.spare) }
         ensures entries { OnOk result (HasPlaces 1 self.new.log) }
-        ensures room { OnErr result (1 ≤ length self.old.spare → HasPlaces 1 self.old.log → ⊥) }
+        ensures room { OnErr result (1 ≤ self.old.spare → HasPlaces 1 self.old.log → ⊥) }
         ensures center { center_of self.new ≡ center_of self.old }
         ensures log { log_of self.new ≡ log_of self.old }
         ensures outs { self.new.outs ≡ self.old.outs }
@@ -37,6 +36,6 @@ impl Core {
         ensures version { self.new.state.rights.version ≡ self.old.state.rights.version }
     {
         self.log.reserve(1)?;
-        add_places(&mut self.spare, 1)
+        self.spare.add_places(1)
     }
 }

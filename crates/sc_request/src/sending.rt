@@ -13,11 +13,10 @@ ghost use Rattle.sc_request.specs.Sound.{IsSound};
 
 use crate::failing::holds;
 use crate::state::State;
-use sc_handler::{HandlerStage, Posting, take_first};
+use sc_handler::{HandlerStage, SparePlaces};
 use sc_lockpass::{HandlerNumber, Passed};
 use sc_model::Cause;
 use sc_region::Request;
-use std::collections::LinkedList;
 
 /// How many requests a queue may have.
 const MAX_QUEUE: usize = 4096;
@@ -29,14 +28,14 @@ impl State {
         handler: HandlerNumber,
         request: &Request,
         passes: bool,
-        spare: &mut LinkedList<Posting>,
+        spare: &mut SparePlaces,
     )
         requires there { handler < most_handlers self.old.rights.version }
         requires target { request.now.target.handler < 512 }
-        requires spare { 1 ≤ length spare.old }
+        requires spare { 1 ≤ spare.old }
         requires sound { IsSound (2 ^ 64 - 2) (2 ^ 63) (plain self.old) }
         ensures plain { plain self.new ≡ asks handler request.now passes (plain self.old) }
-        ensures places { length spare.old ≤ length spare.new + 1 }
+        ensures places { spare.old ≤ spare.new + 1 }
         ensures outs { outs_of self.new ≡ outs_of self.old }
         ensures version { self.new.rights.version ≡ self.old.rights.version }
     {
@@ -61,14 +60,14 @@ impl State {
         request: &Request,
         passes: bool,
         is_waited: bool,
-        spare: &mut LinkedList<Posting>,
+        spare: &mut SparePlaces,
     )
         requires there { handler < most_handlers self.old.rights.version }
         requires target { request.now.target.handler < 512 }
-        requires spare { 1 ≤ length spare.old }
+        requires spare { 1 ≤ spare.old }
         requires room { HasRoomAt handler request.now.target.handler (plain self.old) }
         ensures plain { plain self.new ≡ sends handler request.now.target.handler request.now passes is_waited (plain self.old) }
-        ensures places { length spare.old ≤ length spare.new + 1 }
+        ensures places { spare.old ≤ spare.new + 1 }
         ensures outs { outs_of self.new ≡ outs_of self.old }
         ensures version { self.new.rights.version ≡ self.old.rights.version }
     {
@@ -149,18 +148,17 @@ impl State {
         request: &Request,
         is_waited: bool,
         passed: &mut Option<Passed>,
-        spare: &mut LinkedList<Posting>,
+        spare: &mut SparePlaces,
     )
         requires there { target < 512 }
-        requires spare { 1 ≤ length spare.old }
+        requires spare { 1 ≤ spare.old }
         requires room { is_callback ≡ false → length ((plain self.old).handlers target).queue < max_queue }
         ensures plain { plain self.new ≡ send is_callback target (posted_as request.now is_waited passed.old) (plain self.old) }
-        ensures places { length spare.old ≤ length spare.new + 1 }
+        ensures places { spare.old ≤ spare.new + 1 }
         ensures outs { outs_of self.new ≡ outs_of self.old }
         ensures rights { self.new.rights ≡ self.old.rights }
         ensures sessions { self.new.sessions ≡ self.old.sessions }
     {
-        let node = take_first(spare);
-        self.place_at(target, is_callback, node, request, is_waited, passed);
+        self.place_at(target, is_callback, request, is_waited, passed, spare);
     }
 }

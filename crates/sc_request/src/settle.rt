@@ -14,11 +14,10 @@ ghost use Rattle.sc_request.specs.Sound.{IsSound};
 use crate::center::Core;
 use crate::settlement::SettleFault;
 use crate::state::State;
-use sc_handler::{JobKind, Posting, fits_turns, frees, kind_of};
+use sc_handler::{JobKind, SparePlaces, fits_turns, frees, kind_of};
 use sc_lockpass::HandlerNumber;
 use sc_model::Cause;
 use sc_region::{Job, Want};
-use std::collections::LinkedList;
 
 impl Core {
     ghost use Rattle.sc_request.specs.Cores.{LogsSettlement, Settles, center_of, log_of};
@@ -65,7 +64,7 @@ impl Core {
     /// Settles so many turns of a handler that is out, where there is room.
     fn settle_out(&mut self, handler: HandlerNumber, turns: u32, want: &Want)
         requires out { is_some ((center_of self.old).out handler) ≡ true }
-        requires places { 1 ≤ length self.old.spare }
+        requires places { 1 ≤ self.old.spare }
         requires entries { HasPlaces 1 self.old.log }
         ensures center { Settles handler turns want.now self.old self.new }
         ensures log { LogsSettlement handler turns want.now self.old self.new }
@@ -111,16 +110,16 @@ impl State {
         kind: &JobKind,
         turns: u32,
         want: &Want,
-        spare: &mut LinkedList<Posting>,
+        spare: &mut SparePlaces,
     )
         requires there { handler < most_handlers self.old.rights.version }
-        requires place { 1 ≤ length spare.old }
+        requires place { 1 ≤ spare.old }
         requires granted { All (λ k. k < most_handlers self.old.rights.version) (granted_items (of_kind kind.now)) }
         requires sound { IsSound (2 ^ 64 - 4) (2 ^ 63 - 2) (plain self.old) }
         ensures plain { plain self.new ≡ settled (most_handlers self.old.rights.version) handler (of_kind kind.now) turns want.now (plain self.old) }
         ensures outs { outs_of self.new ≡ outs_of self.old }
         ensures version { self.new.rights.version ≡ self.old.rights.version }
-        ensures places { length spare.old ≤ length spare.new + 1 }
+        ensures places { spare.old ≤ spare.new + 1 }
     {
         let stage = self.handlers[handler as usize].stage;
         let fits = fits_turns(turns, stage, kind, want);
@@ -134,15 +133,15 @@ impl State {
         handler: HandlerNumber,
         fits: bool,
         want: &Want,
-        spare: &mut LinkedList<Posting>,
+        spare: &mut SparePlaces,
     )
         requires there { handler < most_handlers self.old.rights.version }
-        requires place { 1 ≤ length spare.old }
+        requires place { 1 ≤ spare.old }
         requires sound { IsSound (2 ^ 64 - 2) (2 ^ 63) (plain self.old) }
         ensures plain { plain self.new ≡ asked_in fits (most_handlers self.old.rights.version) handler want.now (plain self.old) }
         ensures outs { outs_of self.new ≡ outs_of self.old }
         ensures version { self.new.rights.version ≡ self.old.rights.version }
-        ensures places { length spare.old ≤ length spare.new + 1 }
+        ensures places { spare.old ≤ spare.new + 1 }
     {
         if self.posts_unheld(handler, want) {
             self.fail(handler, Cause::NotHeld);

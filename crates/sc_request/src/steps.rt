@@ -6,28 +6,27 @@ ghost use Rattle.sc_request.specs.Settling.{done, may_ask, posts_unheld};
 ghost use Rattle.sc_request.specs.Sound.{IsSound};
 
 use crate::state::State;
-use sc_handler::Posting;
+use sc_handler::SparePlaces;
 use sc_lockpass::HandlerNumber;
 use sc_region::Want;
-use std::collections::LinkedList;
 
 impl State {
-    /// Does what the last turn of a handler asks. What is sent takes the first node of `spare`.
+    /// Does what the last turn of a handler asks. What is sent takes one place of `spare`.
     pub(crate) fn done(
         &mut self,
         handler: HandlerNumber,
         want: &Want,
-        spare: &mut LinkedList<Posting>,
+        spare: &mut SparePlaces,
     )
         requires there { handler < most_handlers self.old.rights.version }
-        requires spare { 1 ≤ length spare.old }
+        requires spare { 1 ≤ spare.old }
         requires sound { IsSound (2 ^ 64 - 2) (2 ^ 63) (plain self.old) }
         requires held { posts_unheld handler want.now (plain self.old) ≡ false }
         requires asked { may_ask handler want.now (plain self.old) ≡ true }
         ensures plain { plain self.new ≡ done (most_handlers self.old.rights.version) handler want.now (plain self.old) }
         ensures outs { outs_of self.new ≡ outs_of self.old }
         ensures version { self.new.rights.version ≡ self.old.rights.version }
-        ensures places { length spare.old ≤ length spare.new + 1 }
+        ensures places { spare.old ≤ spare.new + 1 }
     {
         match want {
             Want::Continue => {}

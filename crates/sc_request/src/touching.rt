@@ -99,7 +99,7 @@ fn touch_first(postings: &LinkedList<Posting>, candidates: &mut HandlerSet)
     let Some(first) = postings.front() else {
         return;
     };
-    if let Some(poster) = first.request.poster {
+    if let Some(poster) = first.request.poster() {
         candidates.admit(poster as usize);
     }
 }

@@ -74,8 +74,8 @@ impl Core {
     }
 
     /// The request at a place of the queue of a handler, from 0, which is taken next; None where fewer stand there.
-    pub fn asked_at(&self, handler: HandlerNumber, number: usize) -> Option<&Request>
-        ensures { option_map (λ request. request.now) result ≡ waiting.request_at ((state_of self.now).handlers handler).queue number }
+    pub fn asked_at(&self, handler: HandlerNumber, number: usize) -> Option<Request>
+        ensures { result ≡ waiting.request_at ((state_of self.now).handlers handler).queue number }
     {
         match self.state.handlers.get(handler as usize) {
             Some(place) => request_at(place, number),
@@ -92,11 +92,11 @@ fn posting_at(place: &Handler, number: usize) -> Option<&Posting>
 }
 
 /// The request at a place of the queue, if one stands there.
-fn request_at(place: &Handler, number: usize) -> Option<&Request>
-    ensures { option_map (λ request. request.now) result ≡ waiting.request_at (map posting_of place.now.queue) number }
+fn request_at(place: &Handler, number: usize) -> Option<Request>
+    ensures { result ≡ waiting.request_at (map posting_of place.now.queue) number }
 {
     match posting_at(place, number) {
-        Some(posting) => Some(&posting.request),
+        Some(posting) => Some(posting.request.to_request()),
         None => None,
     }
 }
