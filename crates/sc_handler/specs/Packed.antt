@@ -1,5 +1,5 @@
 -- Settlements, jobs and wants without their values, and with them again.
-use Rattle.std.specs.Prelude.{ℕ, ◌+◌, Bool, if◌then◌else◌, List, [], ◌++◌, Option, Some, None, is_some, option_to_list, length, take, drop, slice_get}
+use Rattle.std.specs.Prelude.{ℕ, ◌+◌, Bool, if◌then◌else◌, List, [], ◌++◌, Option, None, is_some, option_to_list, length, take, drop, slice_get}
 use Rattle.arrayvec.specs.ArrayVec.{ArrayVec}
 use Rattle.sc_region.specs.declared.value.Value.{Value}
 use Rattle.sc_region.specs.declared.job.Request.{Request}

@@ -75,12 +75,7 @@ impl PostedRequest {
     }
 
     /// Makes it the same as another one, but that it is waited for or not. More than one actual takes a block.
-    pub(crate) fn write(
-        &mut self,
-        request: &Request,
-        is_waited: bool,
-        blocks: &mut Vec<Box<Block>>,
-    )
+    pub(crate) fn write(&mut self, request: &Request, is_waited: bool, blocks: &mut Vec<Box<Block>>)
         requires { 1 ≤ vec_len blocks.old }
         ensures request { self.new ≡ record request.now { is_waited = is_waited } }
         ensures blocks { vec_len blocks.old ≤ vec_len blocks.new + 1 }

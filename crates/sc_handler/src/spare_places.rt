@@ -85,7 +85,9 @@ impl SparePlaces {
         ensures kept { self.old ≤ self.new }
         ensures err { OnErr result (self.old < wanted) }
     {
-        if wanted <= self.nodes.len() && wanted <= self.blocks.len() && wanted <= self.passed.len()
+        if wanted <= self.nodes.len()
+            && wanted <= self.blocks.len()
+            && wanted <= self.passed.len()
         {
             return Ok(());
         }
