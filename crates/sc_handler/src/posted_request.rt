@@ -128,7 +128,7 @@ impl PostedRequest {
         ensures { result ≡ self.now }
     {
         let mut actuals = ArrayVec::new();
-        write_values(&mut actuals, self.actuals());
+        copy_actuals(&self.actuals, &mut actuals);
         Request {
             poster: self.poster,
             target: self.target,
@@ -145,8 +145,8 @@ impl PostedRequest {
         place.poster = self.poster;
         place.target = self.target;
         place.errand = self.errand;
-        write_values(&mut place.actuals, self.actuals());
         place.is_waited = self.is_waited;
+        copy_actuals(&self.actuals, &mut place.actuals);
     }
 }
 
@@ -160,6 +160,20 @@ fn new_actuals(alloc: Global, values: &Block) -> Result<Actuals, AllocError>
         0 => Ok(Actuals::Nothing),
         1 => Ok(Actuals::One(values.as_slice()[0])),
         _ => Ok(Actuals::Many(Box::new(alloc, copy_values(values))?)),
+    }
+}
+
+/// Makes values the same as these actuals.
+fn copy_actuals(actuals: &Actuals, values: &mut ArrayVec<Value, 16>)
+    ensures { values.new ≡ actuals_of actuals.now }
+{
+    match actuals {
+        Actuals::Nothing => values.clear(),
+        Actuals::One(value) => {
+            values.clear();
+            values.push(*value);
+        }
+        Actuals::Many(block) => write_values(values, block.as_slice()),
     }
 }
 

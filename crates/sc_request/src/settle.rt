@@ -128,13 +128,7 @@ impl State {
     }
 
     /// Does what the last turn of a handler asks, where it fits. Else the handler fails.
-    fn ask_in(
-        &mut self,
-        handler: HandlerNumber,
-        fits: bool,
-        want: &Want,
-        spare: &mut SparePlaces,
-    )
+    fn ask_in(&mut self, handler: HandlerNumber, fits: bool, want: &Want, spare: &mut SparePlaces)
         requires there { handler < most_handlers self.old.rights.version }
         requires place { 1 ≤ spare.old }
         requires sound { IsSound (2 ^ 64 - 2) (2 ^ 63) (plain self.old) }

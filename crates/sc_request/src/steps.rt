@@ -12,12 +12,7 @@ use sc_region::Want;
 
 impl State {
     /// Does what the last turn of a handler asks. What is sent takes one place of `spare`.
-    pub(crate) fn done(
-        &mut self,
-        handler: HandlerNumber,
-        want: &Want,
-        spare: &mut SparePlaces,
-    )
+    pub(crate) fn done(&mut self, handler: HandlerNumber, want: &Want, spare: &mut SparePlaces)
         requires there { handler < most_handlers self.old.rights.version }
         requires spare { 1 ≤ spare.old }
         requires sound { IsSound (2 ^ 64 - 2) (2 ^ 63) (plain self.old) }

@@ -13,6 +13,19 @@ answer_to-requires c =
     let rest = c.pop_front.new.self in
     (All-head IsPlaced (posting_of p) (map posting_of rest) (subst (λ (ps : List Posting). ArePlaced (map posting_of ps)) c.in-Some.ensures.items c.loop-posting.invariant.placed)).poster
 
+pub loop-posting-preserved-in-Some : goal.loop-posting-preserved-in-Some
+loop-posting-preserved-in-Some c =
+    let l = c.loop-posting in
+    let p = c.in-Some.posting in
+    let rest = c.pop_front.new.self in
+    record {
+      told = tells_next (posting_of p) (map posting_of rest) (plain l.self) (plain c.answer_to.new.self) c.answer_to.ensures.plain
+          ∙ ap (λ (ps : List Posting). tells (map posting_of ps) (plain l.self)) (sym c.in-Some.ensures.items) ∙ l.invariant.told;
+      placed = All-tail IsPlaced (posting_of p) (map posting_of rest) (subst (λ (ps : List Posting). ArePlaced (map posting_of ps)) c.in-Some.ensures.items l.invariant.placed);
+      outs = c.answer_to.ensures.outs ∙ l.invariant.outs;
+      version = c.answer_to.ensures.version ∙ l.invariant.version;
+    }
+
 pub loop-posting-preserved : goal.loop-posting-preserved
 loop-posting-preserved c =
     let l = c.loop-posting in
