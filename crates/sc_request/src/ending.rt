@@ -1,5 +1,5 @@
 //! Requests end.
-ghost use Rattle.std.specs.Prelude.{◌≡◌, ◌≤◌, ◌<◌, ◌-◌, ◌^◌, true, length, map, if◌then◌else◌};
+ghost use Rattle.std.specs.Prelude.{◌≡◌, ◌≤◌, ◌<◌, ◌-◌, ◌^◌, true, map, if◌then◌else◌};
 ghost use Rattle.std.specs.Option.{option_map};
 ghost use Rattle.sc_lockpass.specs.Tables.{passed_of};
 ghost use Rattle.sc_handler.specs.Handlers.{Refused, Replied, put};

@@ -1,5 +1,5 @@
 //! Handlers are made.
-ghost use Rattle.std.specs.Prelude.{◌≡◌, ◌≤◌, ◌<◌, ◌+◌, ◌-◌, ◌^◌, ℕ, [], false, true, length, slice_index};
+ghost use Rattle.std.specs.Prelude.{◌≡◌, ◌≤◌, ◌<◌, ◌+◌, ◌-◌, ◌^◌, ℕ, [], false, true, slice_index};
 ghost use Rattle.sc_lockpass.specs.Versions.{most_handlers};
 ghost use Rattle.sc_request.specs.Places.{outs_of, plain};
 ghost use Rattle.sc_request.specs.Sessions.{with_handler};

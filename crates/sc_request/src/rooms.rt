@@ -1,5 +1,5 @@
 //! Room for settlements, so that one that was made room for takes no memory.
-ghost use Rattle.std.specs.Prelude.{◌≡◌, ◌≤◌, ◌+◌, ℕ, OnErr, OnOk, length};
+ghost use Rattle.std.specs.Prelude.{◌≡◌, ◌≤◌, ◌+◌, ℕ, OnErr, OnOk};
 ghost use Rattle.sc_handler.specs.Logged.{HasPlaces};
 ghost use Rattle.sc_request.specs.Rooms.{HasRoomFor};
 

@@ -1,5 +1,5 @@
 //! What a handler's turns came to is settled.
-ghost use Rattle.std.specs.Prelude.{◌≡◌, ◌++◌, ◌∷◌, ◌+◌, ◌<◌, ◌≤◌, ◌-◌, ◌^◌, ℕ, [], Some, IfErr, OnErr, OnOk, false, is_some, length, not, true};
+ghost use Rattle.std.specs.Prelude.{◌≡◌, ◌++◌, ◌∷◌, ◌+◌, ◌<◌, ◌≤◌, ◌-◌, ◌^◌, ℕ, [], Some, IfErr, OnErr, OnOk, false, is_some, not, true};
 ghost use Rattle.std.specs.List.{All};
 ghost use Rattle.std.specs.Option.{option_map};
 ghost use Rattle.sc_lockpass.specs.Versions.{most_handlers};
