@@ -27,5 +27,5 @@ pub mod Declarers
 pub mod Heirs
 pub mod Origins
 mod InheritedFeatures
-mod Apart
+pub mod Apart
 pub mod KnownLemmas

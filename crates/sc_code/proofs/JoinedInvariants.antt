@@ -14,6 +14,7 @@ use Rattle.sc_class.specs.Tables.Ancestors.{ancestors, ancestors_within, parent_
 use Rattle.sc_class.specs.Tables.Features.{declared_features, declared_invariant, features, invariant_along, invariant_of}
 use Rattle.sc_class.proofs.Acyclic.{ancestors_climb}
 use Rattle.sc_class.proofs.Ancestry.{parent_within}
+use Rattle.sc_class.proofs.Apart.{features_differ}
 use Rattle.sc_rules.specs.Names.{RoutineName}
 use Rattle.sc_rules.specs.Purity.{IsPurity}
 use Rattle.sc_rules.specs.SystemRules.{WellFormed}
@@ -24,7 +25,6 @@ use Rattle.sc_code.specs.Attributes.{has_clauses, known_formulas, own_formulas, 
 use Rattle.sc_code.specs.Invariants.{InvariantsAreJoined}
 use Rattle.sc_code.specs.JoinedInvariants.{joined_in, joined_invariant, kept_along, kept_from, moved}
 use Rattle.sc_code.specs.Programs.{PlainClass, class_code_of, class_codes_of}
-use Rattle.sc_code.proofs.DistinctFeatures.{features_differ}
 use Rattle.sc_code.proofs.HeirFormulas.{clauses_there}
 use Rattle.sc_code.proofs.InheritedAttributes.{attributes_inherited, own_apart}
 use Rattle.sc_code.proofs.InvariantFormulas.{invariants_are_known}

@@ -24,7 +24,6 @@ pub mod TypingOrigins
 pub mod TypingRoutines
 pub mod ProgramRows
 pub mod InvariantFormulas
-mod DistinctFeatures
 pub mod MovedFormulas
 pub mod HeirFormulas
 pub mod InheritedAttributes
