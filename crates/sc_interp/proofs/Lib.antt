@@ -35,3 +35,4 @@ pub mod VoidTests
 pub mod Constants
 pub mod Negations
 pub mod Decisions
+pub mod Endings
