@@ -30,7 +30,8 @@ pub mod Away
 pub mod Forms
 pub mod LastOperands
 pub mod Taken
-pub mod Connectives
+pub mod Comparing
+mod Connectives
 pub mod VoidTests
 pub mod Constants
 pub mod Negations
