@@ -19,6 +19,7 @@ pub mod Shown
 pub mod Here
 pub mod GoingHere
 pub mod Turned
+pub mod Turns
 pub mod Operators
 pub mod Pushes
 pub mod Rows
