@@ -1,7 +1,8 @@
 //! Visible operations: what makes a turn.
 //!
 //! An [`Act`] is done on the topmost routine of a store, and what its turn asks of the core is told. At the end of a separate
-//! block ([`leave`]) what it newly reserved is released, and its routine goes on.
+//! block ([`leave`]) what it newly reserved is released, and its routine goes on. The end of a routine ([`exit`]) and a call on an
+//! object of another handler ([`request`]) can be done without an [`Act`], where it is known that they come next.
 #![tactic(auto)]
 
 mod act;
@@ -26,8 +27,9 @@ mod versions;
 pub use act::{Act, Calling, RemoteCall, RemoteCreation};
 pub use acting::act_on;
 pub use beginning::ask_beginning;
-pub use exiting::{copy_handlers, hand_over, hand_to, is_unset, meets};
+pub use exiting::{copy_handlers, exit, hand_over, hand_to, is_unset, meets};
 pub use going_on::{go_past, misfit};
 pub use leaving::leave;
+pub use requesting::request;
 pub use steps::{end_round_on, unless_failed};
 pub use versions::{routine_of, version_in};

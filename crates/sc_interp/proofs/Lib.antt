@@ -28,6 +28,7 @@ pub mod Switches
 pub mod OneObject
 pub mod Loads
 pub mod Away
+pub mod Requests
 pub mod Forms
 pub mod LastOperands
 pub mod Taken

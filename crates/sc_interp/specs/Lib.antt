@@ -10,3 +10,4 @@ pub mod Laws
 pub mod Running
 pub mod Joining
 pub mod Away
+pub mod Coming

@@ -1,15 +1,18 @@
 -- Turns in which the topmost routine goes on, and turns that memory was refused to.
-use Rattle.std.proofs.Common.{◌≡◌, ℕ, Bool, true, false, Some, Result, Ok, Err, OnOk, OnErr, sym, subst}
+use Rattle.std.proofs.Common.{◌≡◌, ℕ, Bool, true, false, Some, Result, Ok, Err, OnOk, OnErr, refl, sym, subst}
 use Rattle.sc_region.specs.declared.frame.Stage.TheVariants as stage
 use Rattle.sc_region.specs.declared.job.Job.{Job}
 use Rattle.sc_region.specs.declared.job.Want.{Want}
 use Rattle.sc_region.specs.Stores.{PlainStore}
 use Rattle.sc_acts.specs.declared.act.Act.{Act}
+use Rattle.sc_acts.specs.Acting.{acted, asks_acting}
 use Rattle.sc_interp.specs.declared.hops.Hop.{Hop}
 use Rattle.sc_interp.specs.declared.hops.Hop.TheVariants as hop
+use Rattle.sc_interp.specs.Coming.{ComesAtOnce}
 use Rattle.sc_interp.specs.Hopping.{ComesTo, LeadsTo}
 use Rattle.sc_interp.specs.Playing.{Remains}
 use Rattle.sc_interp.specs.Told.{IsTold, OnComes}
+use Rattle.sc_interp.proofs.TopRoutines.{remains_same}
 use Rattle.sc_play.specs.Answering.{top_stage}
 use Rattle.sc_play.specs.Turns.{GoesOn, IsAhead, StopsFirst, asks_done, done, is_going}
 
@@ -18,15 +21,23 @@ pub goes_on : {A E : Type 0} (h : ℕ) (r : Result A E) (o : Hop) (x b y : Plain
 goes_on h (Ok v) o x b y w comes remains told does want = record { operation = o; before = b; comes = comes; remains = remains; told = told; does = does; want = want }
 goes_on h (Err e) o x b y w comes remains told does want = tt
 
+-- the operation comes at once
+pub goes_at_once : (h : ℕ) (o : Act) (x y : PlainStore) (w : Want) → ComesAtOnce o x → y ≡ acted h o x → w ≡ asks_acting h o x y → GoesOn h x y w
+goes_at_once h o x y w next does want = record {
+  operation = hop.Comes o;
+  before = x;
+  comes = next.comes;
+  remains = remains_same x x refl;
+  told = next.told;
+  does = does;
+  want = want;
+}
+
 -- where memory was refused, the operation was a visible one, and silent ones lead to it
 pub stops_leads : {A E : Type 0} (r : Result A E) (o : Hop) (x b y : PlainStore) → OnComes o (LeadsTo x b) → OnErr r ((a : Act) × (o ≡ hop.Comes a)) → OnErr r (y ≡ b) → OnErr r (LeadsTo x y)
 stops_leads (Ok v) o x b y leads comes same = tt
 stops_leads (Err e) o x b y leads comes same =
     subst (LeadsTo x) (sym same) (subst (λ (h : Hop). OnComes h (LeadsTo x b)) comes.1 leads)
-
-pub stops_remains : {A E : Type 0} (r : Result A E) (x b y : PlainStore) → Remains x b → OnErr r (y ≡ b) → OnErr r (Remains x y)
-stops_remains (Ok v) x b y remains same = tt
-stops_remains (Err e) x b y remains same = subst (Remains x) (sym same) remains
 
 pub stops_ahead : {A E : Type 0} (r : Result A E) (x y : PlainStore) → top_stage x ≡ Some stage.Runs → OnErr r (LeadsTo x y) → OnErr r (Remains x y) → OnErr r (IsAhead x y)
 stops_ahead (Ok v) x y runs leads remains = tt

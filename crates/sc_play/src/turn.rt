@@ -13,8 +13,8 @@ ghost use Rattle.sc_region.specs.declared.job.Want.TheVariants as want;
 ghost use Rattle.sc_play.specs.Turns.{Becomes, Begins, BeginsUnder, GoesOn, IsAhead, TurnMade, TurnOf, TurnUnder, asks_done, begun, done, is_going, rested};
 
 use crate::jobs::{grant, reply, resume, take, tell, top_stage};
-use sc_acts::{act_on, unless_failed};
-use sc_interp::{Hop, moves};
+use sc_acts::{act_on, exit, request, unless_failed};
+use sc_interp::{Coming, Hop, moves, next_coming};
 use sc_lockpass::HandlerNumber;
 use sc_model::Cause;
 use sc_region::{Job, Stage, Store, Want};
@@ -48,8 +48,8 @@ fn do_operation(
     }
 }
 
-/// The topmost routine goes on, up to an operation that isn't silent, which is done. Err where there is no memory: silent
-/// operations may be done then.
+/// The topmost routine goes on, up to an operation that isn't silent, which is done: at once where the routine ends or calls an
+/// object of another handler next. Err where there is no memory: silent operations may be done then.
 ///
 /// It is part of a turn, and no call.
 #[inline(always)]
@@ -60,8 +60,21 @@ fn run_on(store: &mut Store<'_>, handler: HandlerNumber, asked: &mut Want) -> Re
     ensures remains { OnErr result (Remains store.old store.new) }
     ensures kept { OnErr result (asked.new ≡ asked.old) }
 {
-    let operation = moves(store)?;
-    do_operation(store, handler, operation, asked)
+    match next_coming(store) {
+        Coming::End => {
+            exit(store, asked);
+            Ok(())
+        }
+        Coming::Request(call) => {
+            request(store, handler, call, asked);
+            unless_failed(store, asked);
+            Ok(())
+        }
+        Coming::Other => {
+            let operation = moves(store)?;
+            do_operation(store, handler, operation, asked)
+        }
+    }
 }
 
 /// The store stays, and nothing is asked where it hasn't ended in a failure.
