@@ -78,7 +78,7 @@ feature
 			print ("before ")
 			arrive_at (barrier)
 			pass (barrier)
-			print ("behind%N")
+			print ("after%N")
 		end
 
 	arrive_at (b: separate BARRIER)
