@@ -14,15 +14,15 @@ use Rattle.sc_acts.specs.Operands.{has_actuals}
 
 -- ---- the heads of a block
 
--- There are so many operands, and so many slots from this one on.
+-- There are this number of operands, and of slots from this one on.
 abbrev pub may_open : ℕ → ℕ → PlainActivation → Bool
 may_open first n a = has_actuals n a && not (nat_lt (length a.slots) (first + n))
 
--- the values of the heads, which are the last operands, where there are as many
+-- the values of the heads, the last operands, if there are as many
 abbrev pub heads_of : ℕ → ℕ → PlainActivation → Option (List Value)
 heads_of first n a = if may_open first n a then Some (last_values n a.operands.values) else None
 
--- the same of the topmost routine
+-- the values of the heads of the topmost routine's block
 abbrev pub heads_in : ℕ → ℕ → Option PlainActivation → Option (List Value)
 heads_in first n None = None
 heads_in first n (Some a) = heads_of first n a
@@ -42,7 +42,7 @@ abbrev pub opened_with : ℕ → Option (List Value) → PlainStore → PlainSto
 opened_with first None x = failed cause.BadCode x
 opened_with first (Some us) x = on_top (opening first us) x
 
--- A block begins, whose heads are the last operands, so many, and go into the slots from this one on.
+-- A block begins: its heads are the last `n` operands and go into the slots from this one on.
 abbrev pub opened : ℕ → ℕ → PlainStore → PlainStore
 opened first n x = opened_with first (heads_in first n (top_activation x.frames)) x
 

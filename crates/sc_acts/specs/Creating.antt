@@ -1,4 +1,4 @@
--- What the creation of an object of the same handler makes of a store.
+-- What the creation of an object of the same handler does to a store.
 use Rattle.std.specs.Prelude.{ℕ, Bool, true, false, ◌&&◌, List, ◌∷◌, Option, Some, None, drop, length, nat_lt, if◌then◌else◌}
 use Rattle.sc_model.specs.declared.cause.Cause.TheVariants as cause
 use Rattle.sc_region.specs.declared.value.Reference.{Reference}
@@ -18,7 +18,7 @@ with_reference r a = record a { operands = record a.operands { values = value.At
 abbrev pub without_last : PlainActivation → PlainActivation
 without_last a = record a { operands = record a.operands { values = drop 1 a.operands.values } }
 
--- There is room for one more operand where so many are gone.
+-- There is room for one more operand after `n` are removed.
 abbrev pub has_room : ℕ → PlainActivation → Bool
 has_room n a = nat_lt (length (drop n a.operands.values)) a.operands.depth
 
@@ -28,7 +28,7 @@ has_room_in n (Some a) = has_room n a
 
 -- ---- without a procedure
 
--- so many operands are gone, and the reference comes in their place
+-- `n` operands are removed, and the reference takes their place
 abbrev pub given : ℕ → Reference → PlainStore → PlainStore
 given n r x =
     if has_room_in n (top_activation x.frames) then on_top (with_reference r) (on_top (past n) x)
@@ -52,6 +52,6 @@ created_at r name n (Some a) x =
     (on_top (with_reference r) (on_top (in_call n false) x))
     else failed cause.BadCode x
 
--- the same, and the procedure of the name is called on it, with so many actuals, which are the last operands
+-- the object is created, and the procedure of the name is called on it, with the last `n` operands as actuals
 abbrev pub created_by : Reference → ℕ → ℕ → PlainStore → PlainStore
 created_by r name n x = created_at r name n (top_activation x.frames) x

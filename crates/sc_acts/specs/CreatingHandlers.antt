@@ -14,7 +14,7 @@ use Rattle.sc_acts.specs.Operands.{has_actuals}
 
 -- ---- the creation
 
--- of an object of the class, by this procedure, with so many actuals
+-- of an object of the class, by this procedure, with this number of actuals
 abbrev pub creation_with : ℕ → Option ℕ → ℕ → Bool → RemoteCreation
 creation_with class procedure n passes = record { class = class; procedure = procedure; count = n; passes = passes }
 
@@ -30,14 +30,14 @@ creation_by c a =
 abbrev pub creation_of : RemoteCreation → PlainActivation → Option Want
 creation_of c a = if may_create c.count a then Some (creation_by c a) else None
 
--- the same of the topmost routine
+-- the creation that the topmost routine wants
 abbrev pub creation_in : RemoteCreation → Option PlainActivation → Option Want
 creation_in c None = None
 creation_in c (Some a) = creation_of c a
 
 -- ---- what it makes of the store
 
--- the first object of the handler that is made, which has the creator's number until it is told
+-- the first object of the handler that is made, which has the creator's number until the handler's own is known
 abbrev pub first_object : ℕ → ℕ → Reference
 first_object h class = record { handler = h; number = 1; class = class }
 

@@ -1,4 +1,4 @@
--- What the creation of an object of the same handler makes of a store, and what it asks.
+-- What the creation of an object of the same handler does to a store, and what it wants.
 use Rattle.std.specs.Prelude.{ℕ, ◌+◌, Option, Some, None, length, min, nat_lt, if◌then◌else◌}
 use Rattle.sc_model.specs.declared.cause.Cause.TheVariants as cause
 use Rattle.sc_region.specs.declared.job.Want.{Want}
@@ -13,7 +13,7 @@ use Rattle.sc_acts.specs.Entering.{asks_beginning}
 abbrev pub nearest_reference : ℕ → ℕ → PlainStore → Reference
 nearest_reference h class x = record { handler = h; number = min (length x.objects) 4294967294 + 1; class = class }
 
--- by the procedure of the name; where there are too many objects it fails for that, whatever the procedure is
+-- by the procedure of the name; if there are too many objects it fails for that, whatever the procedure is
 abbrev pub created_by_name : Reference → ℕ → ℕ → PlainStore → PlainStore
 created_by_name r name n x =
     if nat_lt (length x.objects) max_objects then created_by r name n x else failed cause.TooManyObjects x
@@ -23,7 +23,7 @@ abbrev pub created_with : Option ℕ → Reference → ℕ → PlainStore → Pl
 created_with None r n x = created r n x
 created_with (Some name) r n x = created_by_name r name n x
 
--- An object of the class is created by the handler of this number, with so many actuals.
+-- The handler of this number creates an object of the class, with this number of actuals.
 abbrev pub object_created : ℕ → ℕ → Option ℕ → ℕ → PlainStore → PlainStore
 object_created h class procedure n x = created_with procedure (next_reference h class x) n x
 

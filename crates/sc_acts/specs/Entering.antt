@@ -25,12 +25,12 @@ use Rattle.sc_acts.specs.Tables.{version_in}
 
 -- ---- operands
 
--- There are so many operands, and a call takes as many: a routine has at most 16 formals, and a target lies under the
--- actuals.
+-- There are this number of operands, and a call takes as many: a routine has at most 16 formals, and a target is
+-- below the actuals.
 abbrev pub has_operands : ℕ → PlainActivation → Bool
 has_operands n a = nat_lt n 18 && not (nat_lt (length a.operands.values) n)
 
--- how many operands a call with so many actuals takes
+-- how many operands a call with this number of actuals takes
 abbrev pub operands_of : Calling → ℕ → ℕ
 operands_of calling.Unqualified n = n
 operands_of calling.Qualified n = n + 1
@@ -41,13 +41,13 @@ origin_of calling.Qualified = origin.Qualified
 
 -- ---- the caller
 
--- it stands again as before the call
+-- it is again what it was before the call
 abbrev pub resumed : List Value → ℕ → Stage → PlainActivation → PlainActivation
 resumed us place s a =
     record a { place = place; stage = s; operands = record a.operands { values = operands_onto us a.operands.values } }
 
--- The routine stands at this place in this stage, and its last operands, so many, are these; as many as there are have
--- room.
+-- The routine is at this place in this stage, and these are its last `n` operands; there is room for as many as
+-- there are.
 pub record StandsSo (n : ℕ) (us : List Value) (place : ℕ) (s : Stage) (a : PlainActivation) : Type 0 where
   pub at_place : a.place ≡ place
   pub in_stage : a.stage ≡ s
@@ -55,17 +55,17 @@ pub record StandsSo (n : ℕ) (us : List Value) (place : ℕ) (s : Stage) (a : P
   pub many : n ≤ length a.operands.values
   pub room : length a.operands.values ≤ a.operands.depth
 
--- The topmost routine stands so.
+-- The topmost routine is at this place, in this stage, with these operands.
 abbrev pub Calls : ℕ → List Value → ℕ → Stage → Option PlainActivation → Type 0
 Calls n us place s None = ⊥
 Calls n us place s (Some a) = StandsSo n us place s a
 
--- There is none that has so many operands.
+-- No topmost routine has this number of operands.
 abbrev pub CallsNone : ℕ → Option PlainActivation → Type 0
 CallsNone n None = Unit {0}
 CallsNone n (Some a) = has_operands n a ≡ false
 
--- The topmost routine has so many operands.
+-- The topmost routine has this number of operands.
 abbrev pub Has : ℕ → Option PlainActivation → Type 0
 Has n None = ⊥
 Has n (Some a) = has_operands n a ≡ true
@@ -100,7 +100,7 @@ called_at c me name n gives (Some a) x =
     (on_top (in_call (operands_of c n) gives) x)
     else failed cause.BadCode x
 
--- The routine of the name is called on the object, with so many actuals, which are the last operands.
+-- The routine of the name is called on the object, with the last `n` operands as actuals.
 abbrev pub called : Calling → Reference → ℕ → ℕ → Bool → PlainStore → PlainStore
 called c me name n gives x = called_at c me name n gives (top_activation x.frames) x
 
@@ -125,7 +125,7 @@ abbrev pub asks_with : List Value → Option RoutineCode → Want
 asks_with slots None = want.Continue
 asks_with slots (Some r) = asks_reserving r.separate_formals.items slots
 
--- a routine that begins asks for its reserve step, where it has attached separate formals
+-- a routine that begins wants its reserve step, if it has attached separate formals
 abbrev pub asks_beginning : Image → Option PlainActivation → Want
 asks_beginning p None = want.Continue
 asks_beginning p (Some a) = asks_with a.slots (routine_at p a.routine)

@@ -77,7 +77,7 @@ returned origin.Creation v x = on_top (handed v) (left x)
 returned origin.Requested v x = left x
 returned origin.RequestedCreation v x = left x
 
--- The routine, which stands so on this object, ends.
+-- The routine ends on this object.
 abbrev pub exited_at : Option Reference → Option PlainActivation → PlainStore → PlainStore
 exited_at (Some me) (Some a) x =
     if is_unset x.program a then failed cause.UnsetEntity x
@@ -104,7 +104,7 @@ asks_returning origin.Creation v ks = asks_releasing ks
 asks_returning origin.Requested v ks = want.Done v (record { items = ks }) false
 asks_returning origin.RequestedCreation v ks = want.Done v (record { items = ks }) false
 
--- what the end of the routine that stands so asks, unless it fails
+-- what the end of the routine wants, unless it fails
 abbrev pub asks_exiting : Option PlainActivation → Want
 asks_exiting None = want.Continue
 asks_exiting (Some a) = asks_returning a.origin a.result a.reserved

@@ -11,7 +11,7 @@ use Rattle.sc_region.specs.Calls.{on_top, past}
 abbrev pub innermost : List (List ℕ) → Option (List ℕ)
 innermost blocks = slice_get blocks (length blocks - 1)
 
--- the same of the topmost routine
+-- the innermost block of the topmost routine
 abbrev pub innermost_in : Option PlainActivation → Option (List ℕ)
 innermost_in None = None
 innermost_in (Some a) = innermost a.blocks

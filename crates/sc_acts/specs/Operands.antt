@@ -2,10 +2,10 @@
 use Rattle.std.specs.Prelude.{ℕ, not, ◌&&◌, Bool, length, nat_lt}
 use Rattle.sc_region.specs.Frames.{PlainActivation}
 
--- There are so many operands, and a request has room for as many actuals.
+-- There are this number of operands, and a request has room for as many actuals.
 abbrev pub has_actuals : ℕ → PlainActivation → Bool
 has_actuals n a = nat_lt n 17 && not (nat_lt (length a.operands.values) n)
 
--- The same, with a target under them.
+-- There are this number of operands with a target below them, and a request has room for as many actuals.
 abbrev pub has_call : ℕ → PlainActivation → Bool
 has_call n a = nat_lt n 17 && nat_lt n (length a.operands.values)

@@ -42,7 +42,7 @@ is_waited_for a slots = list_any (λ slot. is_reserved a slot) slots
 abbrev pub waiting : PlainActivation → PlainActivation
 waiting a = record a { stage = stage.Reserves; place = 0; operands = record a.operands { values = [] }; reserved = [] }
 
--- An own call fails, and a request is refused; where it was to create an object, that stays, so it must meet its
+-- An own call fails, and a request is refused; if it was to create an object, that stays, so it must meet its
 -- invariant.
 abbrev pub refused_as : Origin → Reference → PlainStore → PlainStore
 refused_as origin.Unqualified me x = failed cause.Precondition x

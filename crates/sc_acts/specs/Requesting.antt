@@ -14,7 +14,7 @@ use Rattle.sc_region.specs.Calls.{last_values, on_top, past}
 use Rattle.sc_acts.specs.declared.act.RemoteCall.{RemoteCall}
 use Rattle.sc_acts.specs.Operands.{has_call}
 
--- a call of the feature of this name, with so many actuals, that gives a value or passes locks, if it does
+-- a call of the feature of this name, with this number of actuals, that has a value or passes locks, if it does
 abbrev pub call_of : Reference → ℕ → ℕ → Bool → Bool → RemoteCall
 call_of r name n gives passes = record { object = r; name = name; count = n; gives = gives; passes = passes }
 
@@ -42,7 +42,7 @@ request_by h c a = record {
 abbrev pub request_of : ℕ → RemoteCall → PlainActivation → Option Request
 request_of h c a = if has_call c.count a then Some (request_by h c a) else None
 
--- the same of the topmost routine
+-- the request of the topmost routine
 abbrev pub request_in : ℕ → RemoteCall → Option PlainActivation → Option Request
 request_in h c None = None
 request_in h c (Some a) = request_of h c a

@@ -1,4 +1,4 @@
--- What stands at a number in the tables of a program.
+-- The entry at a number in the tables of a program.
 use Rattle.std.specs.Prelude.{ℕ, List, [], Option, slice_get, unwrap_or}
 use Rattle.std.specs.Option.{option_and_then}
 use Rattle.sc_code.specs.declared.program.Image.{Image}

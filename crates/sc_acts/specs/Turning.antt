@@ -8,11 +8,11 @@ use Rattle.sc_region.specs.Frames.{PlainActivation}
 
 -- ---- the topmost routine
 
--- the last operand is gone, and the operation comes that is so many back
+-- the last operand is removed, and the routine goes this number of operations back
 abbrev pub back : ℕ → PlainActivation → PlainActivation
 back n a = record a { place = a.place - n; operands = record a.operands { values = drop 1 a.operands.values } }
 
--- a loop ends, or its body comes again, so many operations back
+-- a loop ends, or its body comes again, this number of operations back
 abbrev pub round_ended : Option ℕ → PlainActivation → PlainActivation
 round_ended None a = past 1 a
 round_ended (Some n) a = back n a

@@ -31,8 +31,8 @@ pub struct RemoteCreation {
     pub passes: bool,
 }
 
-/// A visible operation that a routine has come to, with what it names. Its actuals are the last operands, and the target of a
-/// qualified call or a request lies under them.
+/// A visible operation that a routine has reached, with what it names. Its actuals are the last operands, and the
+/// target of a qualified call or a request is below them.
 #[derive(Clone, Copy)]
 pub enum Act {
     /// The last operand is printed.
@@ -41,7 +41,7 @@ pub enum Act {
     PrintBoolean(bool),
     /// The text of the number is printed.
     PrintText(usize),
-    /// An `until` was evaluated, whose value is the last operand; the loop ends, or the routine goes so many operations back.
+    /// An `until` whose value is the last operand: the loop ends, or the routine goes this number of operations back.
     Until(Option<usize>),
     /// A routine of an object of this handler is called.
     Enter {

@@ -19,7 +19,7 @@ use sc_lockpass::HandlerNumber;
 use sc_region::{Store, Want};
 use std::alloc::AllocError;
 
-/// The operation is done; what it asks is told, unless the handler fails.
+/// Executes the operation, and writes what it wants unless the handler fails.
 #[tactic(auto, using(crate::proofs::Failed::asked_twice))]
 fn dispatch(
     store: &mut Store<'_>,
@@ -84,8 +84,8 @@ fn dispatch(
     }
 }
 
-/// A visible operation that the topmost routine has come to is done, by the handler of this number, and what the turn asks
-/// is told. Err where there is no memory; nothing has changed then.
+/// Executes a visible operation that the topmost routine has reached, for the handler of this number, and returns
+/// what the turn wants. Its error says that memory ran out, and nothing has changed then.
 pub fn act_on(
     store: &mut Store<'_>,
     handler: HandlerNumber,

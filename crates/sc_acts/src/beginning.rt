@@ -9,7 +9,7 @@ use arrayvec::ArrayVec;
 use sc_lockpass::HandlerNumber;
 use sc_region::{Store, Value, Want};
 
-/// The handler of the value in the slot, where it is an object.
+/// The handler of the value in the slot, if it is an object.
 fn handler_at(slots: &[Value], slot: usize) -> Option<HandlerNumber>
     ensures { result ≡ handler_of (slice_get slots.now slot) }
 {
@@ -19,7 +19,7 @@ fn handler_at(slots: &[Value], slot: usize) -> Option<HandlerNumber>
     }
 }
 
-/// The handler that was found, if one was, where there are fewer than 16.
+/// Adds the handler that was found, if one was and there are fewer than 16.
 #[tactic(auto, using(crate::proofs::FirstItems::take_full, crate::proofs::FirstItems::take_none, crate::proofs::FirstItems::take_one))]
 fn add(handlers: &mut ArrayVec<HandlerNumber, 16>, found: Option<HandlerNumber>)
     ensures { handlers.new.items ≡ take 16 (handlers.old.items ++ cons_option found []) }
@@ -63,7 +63,7 @@ fn ask_handlers(slots: &[Value], separate: &[usize], asked: &mut Want)
     *asked = Want::Reserve(handlers_in(slots, separate));
 }
 
-/// What the topmost routine asks, where it begins: its reserve step, where it has attached separate formals.
+/// Writes what the topmost routine wants as it begins: its reserve step, if it has attached separate formals.
 pub fn ask_beginning(store: &Store<'_>, asked: &mut Want)
     requires { asked.old ≡ want.Continue }
     ensures { asked.new ≡ asks_beginning store.now.program (top_activation store.now.frames) }

@@ -15,7 +15,7 @@ use sc_region::{Activation, Stage, Store, Value, Want};
 
 // ---- the heads of a block
 
-/// Whether there are so many operands, and so many slots from this one on.
+/// Whether there are this number of operands, and of slots from this one on.
 fn may_open(activation: &Activation, first: usize, count: usize) -> bool
     ensures { result ≡ may_open first count (activation_of activation.now) }
 {
@@ -23,7 +23,7 @@ fn may_open(activation: &Activation, first: usize, count: usize) -> bool
     has_actuals(activation, count) && first <= slots && count <= slots - first
 }
 
-/// The values of the heads, where there are as many operands and slots.
+/// The values of the heads, if there are as many operands and slots.
 fn heads_of(activation: &Activation, first: usize, count: usize) -> Option<ArrayVec<Value, 16>>
     ensures { option_map (λ heads. heads.items) result ≡ heads_of first count (activation_of activation.now) }
 {
@@ -34,7 +34,7 @@ fn heads_of(activation: &Activation, first: usize, count: usize) -> Option<Array
     }
 }
 
-/// The same of the topmost routine.
+/// The values of the heads of the topmost routine's block, if there are as many operands and slots.
 fn heads_in(store: &Store<'_>, first: usize, count: usize) -> Option<ArrayVec<Value, 16>>
     ensures { option_map (λ heads. heads.items) result ≡ heads_in first count (top_activation store.now.frames) }
 {
@@ -66,7 +66,7 @@ fn open_on(activation: &mut Activation, first: usize, heads: &[Value])
     activation.stage = Stage::ReservesBlock;
 }
 
-/// The same of the topmost routine.
+/// Opens the block of the topmost routine.
 fn open_top(store: &mut Store<'_>, first: usize, heads: &[Value])
     requires { (a : PlainActivation) → top_activation store.old.frames ≡ Some a → first + length heads.now ≤ length a.slots }
     ensures { store.new ≡ on_top (opening first heads.now) store.old }
@@ -77,7 +77,7 @@ fn open_top(store: &mut Store<'_>, first: usize, heads: &[Value])
     }
 }
 
-/// The handler of the value, where it is an object.
+/// The handler of the value, if it is an object.
 fn handler_of(value: Value) -> Option<HandlerNumber>
     ensures { result ≡ handler_of (Some value) }
 {
@@ -111,10 +111,10 @@ fn handlers_of(values: &[Value]) -> ArrayVec<HandlerNumber, 16>
     handlers
 }
 
-/// A separate block begins, whose heads are the last operands, so many, and go into the slots from this one on: F16 where
-/// there aren't as many of both. The reserve step of their handlers comes next.
+/// Opens a separate block, whose heads are the last `count` operands and go into the slots from `first` on: F16 if
+/// there are fewer of either. The reserve step of their handlers comes next.
 ///
-/// It stays a call, as `request` does.
+/// It isn't inlined, for the reason that `request` isn't.
 #[inline(never)]
 pub fn open(store: &mut Store<'_>, first: usize, count: usize, asked: &mut Want)
     ensures store { store.new ≡ opened first count store.old }

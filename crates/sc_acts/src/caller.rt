@@ -1,4 +1,4 @@
-//! How a routine stands before a call, so that it can stand so again.
+//! A routine's state before a call, so that it can be restored.
 ghost use Rattle.std.specs.Prelude.{◌≡◌, ◌≤◌, ◌<◌, ◌+◌, [], IsTrue, Some, false, true, length};
 ghost use Rattle.sc_region.specs.Calls.{in_call, last_values, on_top};
 ghost use Rattle.sc_region.specs.Frames.{PlainActivation, activation_of, top_activation};
@@ -17,7 +17,7 @@ pub struct Caller {
     pub stage: Stage,
 }
 
-/// What stands for a caller, as long as none was looked at.
+/// A caller for a variable that none has been looked at for yet.
 pub fn no_caller() -> Caller
     ensures { result.values.items ≡ [] }
 {
@@ -28,7 +28,7 @@ pub fn no_caller() -> Caller
     }
 }
 
-/// The values are the last so many operands, in the order of the text.
+/// Writes the last `count` operands into the values, in the order of the text.
 fn take_last(values: &mut ArrayVec<Value, 17>, activation: &Activation, count: usize)
     requires few { count < 18 }
     requires enough { count ≤ length (activation_of activation.now).operands.values }
@@ -43,7 +43,7 @@ fn take_last(values: &mut ArrayVec<Value, 17>, activation: &Activation, count: u
     }
 }
 
-/// The routine is in a call, which took so many operands.
+/// Suspends the routine in a call that took this number of operands.
 fn suspend_on(activation: &mut Activation, count: usize, gives: bool)
     ensures { activation_of activation.new ≡ in_call count gives (activation_of activation.old) }
 {
@@ -51,7 +51,7 @@ fn suspend_on(activation: &mut Activation, count: usize, gives: bool)
     activation.stage = Stage::InCall { gives };
 }
 
-/// The same of the topmost routine.
+/// Suspends the topmost routine in a call that took this number of operands.
 pub fn suspend(store: &mut Store<'_>, count: usize, gives: bool)
     ensures { store.new ≡ on_top (in_call count gives) store.old }
 {
@@ -71,7 +71,7 @@ fn push_all(operands: &mut Operands, values: &[Value])
     }
 }
 
-/// The operands of the topmost routine are as before the call, and it stands there.
+/// Restores the operands and the place of the topmost routine to those before the call.
 fn resume_on(activation: &mut Activation, caller: &Caller)
     requires { length (activation_of activation.old).operands.values + length caller.now.values.items ≤ (activation_of activation.old).operands.depth }
     ensures { activation_of activation.new ≡ resumed caller.now.values.items caller.now.place caller.now.stage (activation_of activation.old) }
@@ -81,7 +81,7 @@ fn resume_on(activation: &mut Activation, caller: &Caller)
     activation.stage = caller.stage;
 }
 
-/// The same of the topmost routine.
+/// Restores the topmost routine to what it was before the call.
 pub fn resume(store: &mut Store<'_>, caller: &Caller)
     requires { (a : PlainActivation) → top_activation store.old.frames ≡ Some a → length a.operands.values + length caller.now.values.items ≤ a.operands.depth }
     ensures { store.new ≡ on_top (resumed caller.now.values.items caller.now.place caller.now.stage) store.old }
@@ -103,14 +103,14 @@ fn keep_room(activation: &mut Activation)
     }
 }
 
-/// Whether the routine has so many operands, and a call takes as many.
+/// Whether the routine has this number of operands, and a call can take as many.
 pub fn has_operands(activation: &Activation, count: usize) -> bool
     ensures { result ≡ has_operands count (activation_of activation.now) }
 {
     count < 18 && count <= activation.operands.len()
 }
 
-/// The caller is the routine as it stands, with its last so many operands.
+/// Writes into the caller the routine with its last `count` operands.
 fn look_on(caller: &mut Caller, activation: &mut Activation, count: usize)
     requires { has_operands count (activation_of activation.old) ≡ true }
     ensures same { activation_of activation.new ≡ activation_of activation.old }
@@ -122,7 +122,8 @@ fn look_on(caller: &mut Caller, activation: &mut Activation, count: usize)
     caller.stage = activation.stage;
 }
 
-/// The same of the topmost routine; whether there is one, and it has as many.
+/// Writes into the caller the topmost routine with its last `count` operands, and returns whether there is one that
+/// has as many.
 pub fn look(caller: &mut Caller, store: &mut Store<'_>, count: usize) -> bool
     ensures same { store.new ≡ store.old }
     ensures some { IsTrue result → Calls count caller.new.values.items caller.new.place caller.new.stage (top_activation store.old.frames) }

@@ -22,7 +22,7 @@ use std::alloc::AllocError;
 /// How many objects a handler has at most.
 const MAX_OBJECTS: usize = 65_536;
 
-/// Whether the topmost routine, if there is one, has room for one more operand where so many are gone.
+/// Whether the topmost routine, if there is one, has room for one more operand after `count` are removed.
 fn has_room(store: &Store<'_>, count: usize) -> bool
     ensures { result ≡ has_room_in count (top_activation store.now.frames) }
 {
@@ -40,7 +40,7 @@ fn add_on(activation: &mut Activation, reference: Reference)
     activation.operands.push(Value::Attached(reference));
 }
 
-/// The same of the topmost routine.
+/// Adds the reference to the operands of the topmost routine.
 fn add(store: &mut Store<'_>, reference: Reference)
     requires { (a : PlainActivation) → top_activation store.old.frames ≡ Some a → length a.operands.values < a.operands.depth }
     ensures { store.new ≡ on_top (with_reference reference) store.old }
@@ -69,7 +69,7 @@ fn drop_last(store: &mut Store<'_>)
 
 // ---- without a procedure
 
-/// So many operands go, and the reference comes in their place.
+/// Replaces the last `count` operands by the reference.
 fn give(store: &mut Store<'_>, count: usize, reference: Reference)
     ensures { store.new ≡ given count reference store.old }
 {
@@ -81,8 +81,8 @@ fn give(store: &mut Store<'_>, count: usize, reference: Reference)
     }
 }
 
-/// An object of the class of the reference is created, which is to name it: F10 where there are as many objects as there
-/// may be, F1 where it breaks its invariant. Err where there is no memory; nothing has changed then.
+/// Creates an object of the class of the reference, which is to name it: F10 if the handler has as many objects as it
+/// may, F1 if the object breaks its invariant. Its error says that memory ran out, and nothing has changed then.
 fn create(
     store: &mut Store<'_>,
     reference: Reference,
@@ -103,7 +103,7 @@ fn create(
 
 // ---- by a procedure
 
-/// The object is created by the routine of the number. Err where there is no memory; nothing has changed then.
+/// Creates the object by the routine of the number. Its error says that memory ran out, and nothing has changed then.
 fn create_from(
     store: &mut Store<'_>,
     caller: &Caller,
@@ -158,9 +158,9 @@ fn make(
     create_from(store, &caller, reference, routine, count)
 }
 
-/// An object of the class of the reference is created, which is to name it, and its procedure of this name called, with
-/// the last operands, so many, as actuals: F10 where there are as many objects as there may be; F16 and F11 as in `enter`.
-/// Err where there is no memory; nothing has changed then.
+/// Creates an object of the class of the reference, which is to name it, and calls its procedure of this name with
+/// the last `count` operands as actuals: F10 if the handler has as many objects as it may; F16 and F11 as in `enter`.
+/// Its error says that memory ran out, and nothing has changed then.
 fn create_by(
     store: &mut Store<'_>,
     reference: Reference,
@@ -182,7 +182,7 @@ fn create_by(
 
 // ---- of a class
 
-/// The reference to the next object of this handler; where no number can say which it is, to the last that one can.
+/// The reference to the next object of this handler, or to the last possible one if no number is left.
 fn next_reference(store: &Store<'_>, handler: HandlerNumber, class: ClassNumber) -> Reference
     ensures { result ≡ nearest_reference handler class store.now }
 {
@@ -194,8 +194,8 @@ fn next_reference(store: &Store<'_>, handler: HandlerNumber, class: ClassNumber)
     }
 }
 
-/// An object is created by the procedure of the name. Where the handler has too many objects it fails for that, whatever
-/// the procedure is. Err where there is no memory; nothing has changed then.
+/// Creates an object by the procedure of the name. If the handler has too many objects, it fails for that, whatever
+/// the procedure is. Its error says that memory ran out, and nothing has changed then.
 fn create_by_name(
     store: &mut Store<'_>,
     object: Reference,
@@ -218,8 +218,9 @@ fn create_by_name(
     }
 }
 
-/// An object of the class is created, by its procedure of the name or without one, with the last operands, so many, as
-/// actuals: F1, F10, F11 and F16 as in `create` and `create_by`. Err where there is no memory; nothing has changed then.
+/// Creates an object of the class, by its procedure of the name or without one, with the last `count` operands as
+/// actuals: F1, F10, F11 and F16 as in `create` and `create_by`. Its error says that memory ran out, and nothing has
+/// changed then.
 pub fn create_object(
     store: &mut Store<'_>,
     handler: HandlerNumber,

@@ -34,7 +34,7 @@ fn creation_of(activation: &Activation, creation: RemoteCreation) -> Option<Want
     })
 }
 
-/// The same of the topmost routine.
+/// The creation that the topmost routine wants, if it has the operands.
 fn creation_in(store: &Store<'_>, creation: RemoteCreation) -> Option<Want>
     ensures { result ≡ creation_in creation (top_activation store.now.frames) }
 {
@@ -54,7 +54,7 @@ fn begin_on(activation: &mut Activation, first: Reference, creation: RemoteCreat
     await_if(activation, creation.passes, first.handler, false, true);
 }
 
-/// The same of the topmost routine.
+/// Lets the topmost routine go on after the creation with a reference to the new object.
 fn begin(store: &mut Store<'_>, first: Reference, creation: RemoteCreation)
     requires { (a : PlainActivation) → top_activation store.old.frames ≡ Some a → has_room creation.count a ≡ true }
     ensures { store.new ≡ on_top (creating first creation) store.old }
@@ -65,12 +65,12 @@ fn begin(store: &mut Store<'_>, first: Reference, creation: RemoteCreation)
     }
 }
 
-/// A handler is created by this one, with an object of the class, by the procedure of the name or without one: F16 where
-/// there are fewer operands than the creation takes, or more than a request has room for. The creator goes on with a
-/// reference to the object, which has the creator's number until that of the new handler is told; with lock passing it
-/// waits for the answer.
+/// Creates a handler, with an object of the class, by the procedure of the name or without one: F16 if there are
+/// fewer operands than the creation takes, or more than a request has room for. The creator goes on with a reference
+/// to the object, which has the creator's number until the new handler's is known; with lock passing it waits for the
+/// answer.
 ///
-/// It stays a call, as `request` does.
+/// It isn't inlined, for the reason that `request` isn't.
 #[inline(never)]
 pub fn create_handler(
     store: &mut Store<'_>,

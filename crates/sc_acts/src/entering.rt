@@ -45,7 +45,7 @@ fn has_call(store: &Store<'_>, calling: Calling, count: usize) -> bool
     }
 }
 
-/// The routine of the name is called, where the last operands are so many actuals.
+/// Calls the routine of the name with the last `count` operands as actuals.
 fn call(
     store: &mut Store<'_>,
     calling: Calling,
@@ -75,9 +75,9 @@ fn call(
     store.call(object, routine, call)
 }
 
-/// A routine of an object of this handler is called by its name, with the last operands, so many, as actuals: F16 where
-/// the class of the object has no such routine, or the routine takes another number of actuals; F11 where the stack is
-/// full. Err where there is no memory; nothing has changed then.
+/// Calls a routine of an object of this handler by its name, with the last `count` operands as actuals: F16 if the
+/// class of the object has no such routine, or the routine takes another number of actuals; F11 if the stack is full.
+/// Its error says that memory ran out, and nothing has changed then.
 pub fn enter(
     store: &mut Store<'_>,
     calling: Calling,

@@ -15,7 +15,7 @@ use sc_lockpass::HandlerNumber;
 use sc_model::Cause;
 use sc_region::{Activation, ObjectNumber, Origin, Stage, Store, Value, Want};
 
-/// The same handlers.
+/// A copy of the handlers.
 pub fn copy_handlers(handlers: &ArrayVec<HandlerNumber, 16>) -> ArrayVec<HandlerNumber, 16>
     ensures { result.items ≡ handlers.now.items }
 {
@@ -76,7 +76,7 @@ pub fn hand_to(activation: &mut Activation, value: Option<Value>)
     }
 }
 
-/// The same of the topmost routine.
+/// Hands the value, if any, to the topmost routine.
 #[inline(always)]
 pub fn hand_over(store: &mut Store<'_>, value: Option<Value>)
     ensures { store.new ≡ on_top (handed value) store.old }
@@ -98,7 +98,7 @@ fn give_back(store: &mut Store<'_>, origin: Origin, value: Option<Value>)
     }
 }
 
-/// What the end of a routine asks that stands so.
+/// Writes what the end of this routine wants.
 fn ask_returning(activation: &Activation, asked: &mut Want)
     requires { asked.old ≡ want.Continue }
     ensures { asked.new ≡ asks_returning activation.now.origin activation.now.result activation.now.reserved.items }
@@ -146,7 +146,7 @@ fn ask_exiting(store: &Store<'_>, asked: &mut Want)
     }
 }
 
-/// The topmost routine ends, where it may.
+/// Ends the topmost routine, if it may end.
 fn end(store: &mut Store<'_>)
     ensures { store.new ≡ exited store.old }
 {
@@ -166,8 +166,8 @@ fn end(store: &mut Store<'_>)
     }
 }
 
-/// The topmost routine ends: F7 where its Result is unset, F1 where it has to leave its object in order and doesn't, or
-/// where an object that is settled now breaks its invariant. What it newly reserved is released; a request ends, and a
+/// Ends the topmost routine: F7 if its Result is unset, F1 if it has to leave its object in order and doesn't, or if
+/// an object that is settled now breaks its invariant. What it newly reserved is released; a request ends, and a
 /// routine of this handler goes on.
 pub fn exit(store: &mut Store<'_>, asked: &mut Want)
     requires { asked.old ≡ want.Continue }

@@ -1,4 +1,4 @@
-//! How the topmost routine goes on behind an operation: to the next one, or to a failure.
+//! How the topmost routine goes on after an operation: to the next one, or to a failure.
 ghost use Rattle.std.specs.Prelude.{◌≡◌};
 ghost use Rattle.sc_model.specs.declared.cause.Cause.TheVariants as cause;
 ghost use Rattle.sc_region.specs.Calls.{past};
@@ -9,7 +9,7 @@ ghost use Rattle.sc_region.specs.declared.job.Want.TheVariants as want;
 use sc_model::Cause;
 use sc_region::{Activation, Store, Want};
 
-/// So many operands go, and the next operation comes.
+/// Removes this number of operands and goes on to the next operation.
 pub fn go_past(activation: &mut Activation, count: usize)
     ensures { activation_of activation.new ≡ past count (activation_of activation.old) }
 {

@@ -10,7 +10,7 @@ use arrayvec::ArrayVec;
 use sc_lockpass::HandlerNumber;
 use sc_region::{Activation, Store, Want};
 
-/// The innermost block, if there is one, is open no more; what it newly reserved is told.
+/// Closes the innermost block, if there is one, and returns what it newly reserved.
 fn close_on(activation: &mut Activation) -> Option<ArrayVec<HandlerNumber, 16>>
     ensures reserved { option_map (λ handlers. handlers.items) result ≡ innermost (activation_of activation.old).blocks }
     ensures closed { IfSome result (λ handlers. activation_of activation.new ≡ closing (activation_of activation.old)) }
@@ -21,7 +21,7 @@ fn close_on(activation: &mut Activation) -> Option<ArrayVec<HandlerNumber, 16>>
     Some(reserved)
 }
 
-/// The same of the topmost routine.
+/// Closes the innermost block of the topmost routine, if there is one, and returns what it newly reserved.
 fn close_top(store: &mut Store<'_>) -> Option<ArrayVec<HandlerNumber, 16>>
     ensures reserved { option_map (λ handlers. handlers.items) result ≡ innermost_in (top_activation store.old.frames) }
     ensures closed { IfSome result (λ handlers. store.new ≡ on_top closing store.old) }

@@ -1,8 +1,9 @@
 //! Visible operations: what makes a turn.
 //!
-//! An [`Act`] is done on the topmost routine of a store, and what its turn asks of the core is told. At the end of a separate
-//! block ([`leave`]) what it newly reserved is released, and its routine goes on. The end of a routine ([`exit`]) and a call on an
-//! object of another handler ([`request`]) can be done without an [`Act`], where it is known that they come next.
+//! An [`Act`] is executed on the topmost routine of a store, and returns what its turn wants of the core. At the end
+//! of a separate block ([`leave`]) what it newly reserved is released, and its routine goes on. The end of a routine
+//! ([`exit`]) and a call on an object of another handler ([`request`]) can be executed without an [`Act`], if they
+//! are known to come next.
 #![tactic(auto)]
 
 mod act;

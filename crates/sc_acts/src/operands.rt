@@ -7,21 +7,22 @@ ghost use Rattle.sc_acts.specs.Operands.{has_actuals, has_call};
 use arrayvec::ArrayVec;
 use sc_region::{Activation, Value};
 
-/// Whether the routine has so many operands, and a request has room for as many actuals.
+/// Whether the routine has this number of operands, and a request has room for as many actuals.
 pub fn has_actuals(activation: &Activation, count: usize) -> bool
     ensures { result ≡ has_actuals count (activation_of activation.now) }
 {
     count < 17 && count <= activation.operands.len()
 }
 
-/// The same, with a target under them.
+/// Whether the routine has this number of operands with a target below them, and a request has room for as many
+/// actuals.
 pub fn has_call(activation: &Activation, count: usize) -> bool
     ensures { result ≡ has_call count (activation_of activation.now) }
 {
     count < 17 && count < activation.operands.len()
 }
 
-/// Adds the last so many operands, in the order of the text.
+/// Adds the last `count` operands, in the order of the text.
 pub fn add_last_values(values: &mut ArrayVec<Value, 16>, activation: &Activation, count: usize)
     requires few { length values.old.items + count < 17 }
     requires enough { count ≤ length (activation_of activation.now).operands.values }
@@ -35,7 +36,7 @@ pub fn add_last_values(values: &mut ArrayVec<Value, 16>, activation: &Activation
     }
 }
 
-/// The last so many operands, in the order of the text.
+/// The last `count` operands, in the order of the text.
 pub fn last_values(activation: &Activation, count: usize) -> ArrayVec<Value, 16>
     requires few { count < 17 }
     requires enough { count ≤ length (activation_of activation.now).operands.values }

@@ -13,7 +13,7 @@ use sc_code::Program;
 use sc_region::Store;
 use std::alloc::AllocError;
 
-/// The last operand, an integer, is printed. Err where there is no memory; nothing has changed then.
+/// Prints the last operand, an integer. Its error says that memory ran out, and nothing has changed then.
 pub fn print_integer(store: &mut Store<'_>, value: i64) -> Result<(), AllocError>
     ensures ok { OnOk result (store.new ≡ on_top (past 1) (printed (signed_decimal value) store.old)) }
     ensures err { OnErr result (store.new ≡ store.old) }
@@ -24,7 +24,7 @@ pub fn print_integer(store: &mut Store<'_>, value: i64) -> Result<(), AllocError
     Ok(())
 }
 
-/// The last operand, a truth value, is printed. Err where there is no memory; nothing has changed then.
+/// Prints the last operand, a truth value. Its error says that memory ran out, and nothing has changed then.
 pub fn print_boolean(store: &mut Store<'_>, value: bool) -> Result<(), AllocError>
     ensures ok { OnOk result (store.new ≡ on_top (past 1) (printed (boolean_text value) store.old)) }
     ensures err { OnErr result (store.new ≡ store.old) }
@@ -38,7 +38,7 @@ pub fn print_boolean(store: &mut Store<'_>, value: bool) -> Result<(), AllocErro
     Ok(())
 }
 
-/// The text of the number, empty where there is none.
+/// The text of the number, or an empty one if there is none.
 fn text_at(program: &Program, text: usize) -> &str
     ensures { result.now ≡ listed (pool_of program.now.image.pool).texts text }
 {
@@ -48,7 +48,8 @@ fn text_at(program: &Program, text: usize) -> &str
     }
 }
 
-/// The text of the number is printed, nothing where there is none. Err where there is no memory; nothing has changed then.
+/// Prints the text of the number, or nothing if there is none. Its error says that memory ran out, and nothing has
+/// changed then.
 pub fn print_text(store: &mut Store<'_>, text: usize) -> Result<(), AllocError>
     ensures ok { OnOk result (store.new ≡ on_top (past 0) (printed (listed (pool_of store.old.program.pool).texts text) store.old)) }
     ensures err { OnErr result (store.new ≡ store.old) }

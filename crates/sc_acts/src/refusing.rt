@@ -62,7 +62,7 @@ fn wait(activation: &mut Activation)
     activation.reserved.clear();
 }
 
-/// The same of the topmost routine.
+/// Lets the topmost routine take its reserve step again.
 fn wait_again(store: &mut Store<'_>)
     ensures { store.new ≡ on_top waiting store.old }
 {
@@ -130,9 +130,10 @@ fn decide(store: &mut Store<'_>, formals: usize)
     }
 }
 
-/// A clause is false that names the formals of the list of the number. Where one of them lies on a handler that the entry
-/// newly reserved, it waits: those are released, and its reserve step comes again. Else a call of this handler fails with
-/// F4, and a request is refused: F1 where it was to create an object that breaks its invariant.
+/// A clause is false that names the formals of the list with the number. If one of these is an object of a handler
+/// that the entry newly reserved, the entry waits: those are released, and its reserve step comes again. Else a call
+/// of this handler fails with F4, and a request is refused: F1 if it was to create an object that breaks its
+/// invariant.
 pub fn refuse(store: &mut Store<'_>, formals: usize, asked: &mut Want)
     ensures store { store.new ≡ refused formals store.old }
     ensures want { asked.new ≡ unless_failed store.new.failure (asks_refusing (formals_at store.old.program formals) (top_activation store.old.frames)) }

@@ -91,7 +91,7 @@ fn ask_of(
     true
 }
 
-/// The same of the topmost routine.
+/// Writes what a call of the topmost routine wants.
 fn ask_in(store: &Store<'_>, poster: HandlerNumber, call: RemoteCall, asked: &mut Want) -> bool
     ensures told { result ≡ is_some (request_in poster call (top_activation store.now.frames)) }
     ensures few { IsTrue result → call.count < 17 }
@@ -118,7 +118,7 @@ fn send_on(activation: &mut Activation, call: RemoteCall)
     );
 }
 
-/// The same of the topmost routine.
+/// Lets the topmost routine go on after it posted a call.
 fn send(store: &mut Store<'_>, call: RemoteCall)
     requires { call.count < 17 }
     ensures { store.new ≡ on_top (sending call) store.old }
@@ -129,10 +129,10 @@ fn send(store: &mut Store<'_>, call: RemoteCall)
     }
 }
 
-/// A feature of an object of another handler is called by this one, by its name: F16 where there are fewer operands than the
-/// call takes, or more actuals than a request has room for. A query is waited for, and a call that passes locks.
+/// Calls a feature of an object of another handler by its name: F16 if there are fewer operands than the call takes,
+/// or more actuals than a request has room for. A query is waited for, and so is a call that passes locks.
 ///
-/// It stays a call: each turn would clear the request, if it were made where turns are done.
+/// It isn't inlined: each turn would clear the request if it were part of the loop of turns.
 #[inline(never)]
 #[tactic(auto, using(crate::proofs::Asked::sent_some, crate::proofs::Asked::sent_none, crate::proofs::Asked::asks_none))]
 pub fn request(store: &mut Store<'_>, handler: HandlerNumber, call: RemoteCall, asked: &mut Want)

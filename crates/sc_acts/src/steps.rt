@@ -1,4 +1,4 @@
-//! How the topmost routine goes on behind a visible operation, and what is asked.
+//! How the topmost routine goes on after a visible operation, and what it wants.
 ghost use Rattle.std.specs.Prelude.{◌≡◌, drop};
 ghost use Rattle.sc_region.specs.Frames.{activation_of};
 ghost use Rattle.sc_region.specs.declared.job.Want.TheVariants as want;
@@ -9,7 +9,7 @@ use crate::going_on::go_past;
 use sc_model::Cause;
 use sc_region::{Activation, Operands, Store, Want};
 
-/// The same of the topmost routine.
+/// Removes operands of the topmost routine and goes on to the next operation.
 pub fn pass(store: &mut Store<'_>, count: usize)
     ensures { store.new ≡ on_top (past count) store.old }
 {
@@ -29,7 +29,7 @@ fn drop_operand(operands: &mut Operands)
     }
 }
 
-/// The last operand goes, and the operation comes that is so many back.
+/// Removes the last operand and goes this number of operations back.
 fn go_back(activation: &mut Activation, count: usize)
     ensures { activation_of activation.new ≡ back count (activation_of activation.old) }
 {
@@ -44,7 +44,7 @@ pub fn start(store: &mut Store<'_>)
     pass(store, 0);
 }
 
-/// An `until` was evaluated: the loop ends, or its body comes again, so many operations back.
+/// Ends an `until`: the loop ends, or its body comes again, this number of operations back.
 pub fn end_round_on(activation: &mut Activation, back: Option<usize>)
     ensures { activation_of activation.new ≡ round_ended back (activation_of activation.old) }
 {
@@ -54,7 +54,7 @@ pub fn end_round_on(activation: &mut Activation, back: Option<usize>)
     }
 }
 
-/// The same of the topmost routine. Nothing is asked.
+/// Ends an `until` of the topmost routine, and wants nothing.
 pub fn end_round(store: &mut Store<'_>, back: Option<usize>)
     ensures { store.new ≡ on_top (round_ended back) store.old }
 {

@@ -56,7 +56,7 @@ IsAskedOf name given (invocation.Search options names) = (name ≡ codes "search
 IsAskedOf name given (invocation.Explain word) =
     (name ≡ codes "explain") × (option_map (λ w. w.now) word ≡ slice_get given 0)
 
--- The arguments ask for it, of which the first is the program's name and the second is that of the command.
+-- The arguments ask for it; the first is the program's name and the second the command's.
 abbrev pub IsAskedFor : List (List ℕ) → Invocation → Type 0
 IsAskedFor [] what = ⊥
 IsAskedFor (program ∷ []) what = ⊥

@@ -9,7 +9,7 @@ use Rattle.sc_arguments.specs.declared.arguments.UsageFault.TheVariants as usage
 abbrev pub usage_out_of_memory : UsageFault
 usage_out_of_memory = usage.OutOfMemory
 
--- What the reader of arguments says is told as it is, want of memory as that.
+-- What the reader of arguments reports is returned unchanged, and running out of memory as that.
 abbrev pub TellsError : Error → UsageFault → Type 0
 TellsError e usage.OutOfMemory = kind_of e ≡ kind.OutOfMemory
 TellsError e (usage.Arguments said) = (said ≡ e) × (kind_of e ≢ kind.OutOfMemory)

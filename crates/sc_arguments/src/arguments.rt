@@ -74,11 +74,11 @@ pub struct RunOptions<'a> {
     pub output_limit: Option<u64>,
     /// The name of the file that the record of the run is written to.
     pub record: Option<&'a str>,
-    /// Whether the record is to be played by one thread, and what that comes to compared with what the run left.
+    /// Whether one thread is to play the record, and the result is to be compared with what the run left.
     pub is_audited: bool,
-    /// Which turns are told as they are made; only of one worker.
+    /// Which turns are reported as they are made; only with one worker.
     pub trace: Option<Trace>,
-    /// Whether a refusal is to be shown in its line of the text too, and what became of handlers told.
+    /// Whether a refusal is also shown in its line of the text, and the handlers' states are explained.
     pub is_explained: bool,
     pub format: Format,
 }
@@ -86,11 +86,11 @@ pub struct RunOptions<'a> {
 #[derive(Drop)]
 pub struct ReplayOptions<'a> {
     pub root: Root,
-    /// The name of the file that the record stands in.
+    /// The name of the file with the record.
     pub record: &'a str,
-    /// Which turns are told as they are made.
+    /// Which turns are reported as they are made.
     pub trace: Option<Trace>,
-    /// Whether a refusal is to be shown in its line of the text too, and what became of handlers told.
+    /// Whether a refusal is also shown in its line of the text, and the handlers' states are explained.
     pub is_explained: bool,
     pub format: Format,
 }
@@ -277,7 +277,7 @@ const AUDIT_HELP: &str = "Plays the record by one thread, and says whether that 
 
 const KEPT_HELP: &str = "Writes the record of the run to this file, for `scoop replay`";
 
-/// A command, with a short and a long text on it, one behind its options, and what it takes.
+/// A command, with a short and a long text on it, one after its options, and its arguments.
 struct Described {
     name: &'static str,
     about: &'static str,
@@ -286,7 +286,7 @@ struct Described {
     takes: &'static [Taken],
 }
 
-/// What the program can be told to do.
+/// The commands of the program.
 const COMMANDS: [Described; 6] = [
     Described {
         name: "check",
@@ -385,8 +385,8 @@ const RUN_TAKES: [Taken; 11] = [
     FILES,
 ];
 
-/// Reads the arguments of a command line, of which the first is the program's name. Where none of them says whether the
-/// answer is to be explained, `explains` does.
+/// Reads the arguments of a command line, the program's name first. If none of them says whether the answer is to be
+/// explained, `explains` does.
 pub fn read_arguments<'a, S: AsStr>(
     alloc: Global,
     arguments: &'a [S],

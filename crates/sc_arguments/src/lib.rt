@@ -1,7 +1,7 @@
 //! The arguments of a command line: what is asked for, and of which files.
 //!
-//! [`read_arguments`] answers an [`Invocation`], or a [`UsageFault`] where the arguments ask for nothing that can be done,
-//! or for help.
+//! [`read_arguments`] returns an [`Invocation`], or a [`UsageFault`] if the arguments ask for nothing that can be
+//! done, or for help.
 #![tactic(auto)]
 
 mod arguments;

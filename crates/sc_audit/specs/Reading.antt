@@ -9,7 +9,7 @@ use Rattle.sc_audit.specs.declared.beginning.ReadFault.TheVariants as fault
 use Rattle.sc_audit.specs.Records.{BeginsRecord}
 use Rattle.sc_audit.specs.Faults.{IsAtFault}
 
--- What the reader gave begins a record, but for the last bytes, which are at most so many.
+-- What the reader gave begins a record, except for at most the last `most` bytes.
 pub record ReadsUpTo (most : ℕ) (known now : Option (List ℕ)) : Type 0 where
   pub fitting : List ℕ
   pub last : List ℕ
@@ -23,12 +23,13 @@ pub record ReadsFitting (known now : Option (List ℕ)) : Type 0 where
   pub consumed : Consumes known now fitting
   pub begins : BeginsRecord fitting
 
--- A reader failed for good: a read that was interrupted is made again, and want of memory is told as that.
+-- A reader failed for good: a read that was interrupted is made again, and running out of memory is reported as
+-- that.
 abbrev pub IsForGood : ErrorKind → Type 0
 IsForGood why = (why ≢ kind.Interrupted) × (why ≢ kind.OutOfMemory)
 
--- What is told is true of the bytes: the line is at fault, and where the reader failed, for good, nothing before it
--- was.
+-- The report is true of the bytes: the line is at fault, or the reader failed, for good, and nothing before that was
+-- at fault.
 abbrev pub IsReadFault : Option (List ℕ) → Option (List ℕ) → ReadFault → Type 0
 IsReadFault known now (fault.BadRecord line) = IfSome known (λ text. IsAtFault text line)
 IsReadFault known now (fault.Unreadable error) = IsForGood (error_kind error) × ReadsFitting known now

@@ -29,7 +29,7 @@ pub record IsRecord (version : Version) (lines : List RecordLine) : Type 0 where
 abbrev pub line_feed : ℕ
 line_feed = 10
 
--- the number that stands for a version
+-- the number of a version
 abbrev pub version_number : Version → ℕ
 version_number One = 1
 version_number Two = 2

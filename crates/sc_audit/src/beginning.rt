@@ -35,7 +35,7 @@ pub struct Record {
 /// What comes next in a record's text.
 #[derive(Clone, Copy)]
 pub enum Expected {
-    /// The rest of `scoop record `, of which so many bytes are read.
+    /// The rest of `scoop record `: this many bytes are read.
     Title { read: usize },
     /// The version's number.
     VersionNumber,
@@ -43,13 +43,13 @@ pub enum Expected {
     VersionEnd,
     /// A line, or the last one.
     Line,
-    /// More digits of a handler's number, or the space behind it.
+    /// More digits of a handler's number, or the space after it.
     Handler { number: u32 },
     /// How many turns the handler takes.
     Turns { handler: HandlerNumber },
     /// More digits of that, or the end of the line.
     MoreTurns { handler: HandlerNumber, number: u32 },
-    /// The rest of the last line, of which so many bytes are read.
+    /// The rest of the last line: this many bytes are read.
     LastLine { read: usize },
     Nothing,
 }
@@ -89,7 +89,7 @@ impl Beginning {
         }
     }
 
-    /// The line in which the next byte stands, from 1.
+    /// The line of the next byte, from 1.
     fn line(&self) -> usize
         requires { IsKept self.now }
         ensures { result ≡ line_of self.now }
@@ -194,7 +194,7 @@ impl Beginning {
         Ok(())
     }
 
-    /// What comes next behind the version's number.
+    /// What may follow the version's number.
     fn after_version(&self, byte: u8) -> Option<Expected>
         requires kept { IsKept self.now }
         requires at { self.now.expected ≡ Expected.VersionEnd }
@@ -207,7 +207,7 @@ impl Beginning {
         }
     }
 
-    /// What comes next behind whole lines.
+    /// What may follow whole lines.
     fn after_lines(&self, byte: u8) -> Option<Expected>
         requires kept { IsKept self.now }
         requires at { self.now.expected ≡ Expected.Line }
@@ -223,7 +223,7 @@ impl Beginning {
         Some(Expected::Handler { number })
     }
 
-    /// What comes next behind digits of a handler's number.
+    /// What may follow digits of a handler's number.
     fn after_handler(&self, number: u32, byte: u8) -> Option<Expected>
         requires kept { IsKept self.now }
         requires at { self.now.expected ≡ Expected.Handler number }
@@ -245,7 +245,7 @@ impl Beginning {
         }
     }
 
-    /// What comes next behind a handler's number and a space.
+    /// What may follow a handler's number and a space.
     fn after_space(&self, handler: HandlerNumber, byte: u8) -> Option<Expected>
         requires kept { IsKept self.now }
         requires at { self.now.expected ≡ Expected.Turns handler }
@@ -262,7 +262,7 @@ impl Beginning {
         }
     }
 
-    /// What comes next behind digits of how many turns, within the line.
+    /// What may follow digits of a number of turns, within the line.
     fn after_turns(&self, handler: HandlerNumber, number: u32, byte: u8) -> Option<Expected>
         requires kept { IsKept self.now }
         requires at { self.now.expected ≡ Expected.MoreTurns handler number }
@@ -314,7 +314,7 @@ impl Beginning {
         }
     }
 
-    /// Nothing comes behind the last line.
+    /// Nothing follows the last line.
     fn after_all(&self, byte: u8) -> Option<Expected>
         requires kept { IsKept self.now }
         requires at { self.now.expected ≡ Expected.Nothing }

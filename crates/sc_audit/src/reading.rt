@@ -13,8 +13,8 @@ use std::io::{self, ErrorKind, Read};
 /// How many bytes are asked of a reader at once.
 const BLOCK: usize = 8192;
 
-/// Reads a record's text, to its end. It reads no further than the first block with a byte that fits no record: so a line
-/// that doesn't fit is told before any failure of the reader behind it.
+/// Reads a record's text to its end. It stops at the first block with a byte that fits no record, so a line that
+/// doesn't fit is reported before any later failure of the reader.
 pub fn read_record<R: Read>(alloc: Global, reader: &mut R) -> Result<Record, ReadFault>
     ensures limits { IfOk result (λ read. IsRecord read.version read.lines.items) }
     ensures ok { IfOk result (λ read. IfSome (R.remaining reader.old) (λ text. text ≡ text_of read.version read.lines.items)) }

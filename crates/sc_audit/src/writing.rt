@@ -67,7 +67,7 @@ fn push_line(block: &mut Block, line: &RecordLine)
     block.try_extend_from_slice(&text[from..]).unwrap();
 }
 
-/// Writes the text of a line so that it ends with the buffer, from its last byte on, and answers where it starts.
+/// Writes the text of a line so that it ends with the buffer, from its last byte on, and returns where it starts.
 fn write_line(text: &mut [u8; LONGEST_LINE], line: &RecordLine) -> usize
     ensures within { result ≤ LONGEST_LINE }
     ensures written { drop result text.new ≡ line_text line.now }
@@ -90,7 +90,7 @@ fn push_short_line(block: &mut Block, handler: u8, turns: u8)
     block.try_extend_from_slice(&text).unwrap();
 }
 
-/// Adds the last line, behind so many others.
+/// Adds the last line, after `count` others.
 pub fn push_last_line<const ROOM: usize>(block: &mut ArrayVec<u8, ROOM>, count: usize)
     requires { array_vec_len block.old + LONGEST ≤ ROOM }
     ensures { block.new.items ≡ block.old.items ++ last_line count }
@@ -112,7 +112,7 @@ fn push_number<I: Integer, const ROOM: usize>(block: &mut ArrayVec<u8, ROOM>, nu
         .unwrap();
 }
 
-/// Writes the block and empties it, where it has no room for a line.
+/// Writes the block and empties it, if it has no room for a line.
 fn make_room<W: Write>(writer: &mut W, block: &mut Block) -> Result<(), Unwritable>
     ensures ok { OnOk result (Writes (W.contents writer.old) (W.contents writer.new) block.old.items block.new.items) }
     ensures err { OnErr result (WritesBeginning (W.contents writer.old) (W.contents writer.new) block.old.items) }
@@ -126,7 +126,7 @@ fn make_room<W: Write>(writer: &mut W, block: &mut Block) -> Result<(), Unwritab
     Ok(())
 }
 
-/// Writes these bytes, by as many calls as the writer needs. Where it fails, a beginning of them was written.
+/// Writes these bytes, by as many calls as the writer needs. If it fails, a beginning of them is written.
 pub fn write_whole<W: Write>(writer: &mut W, bytes: &[u8]) -> Result<(), Unwritable>
     ensures ok { OnOk result (Appends (W.contents writer.old) (W.contents writer.new) bytes.now) }
     ensures err { OnErr result (WritesBeginning (W.contents writer.old) (W.contents writer.new) bytes.now) }

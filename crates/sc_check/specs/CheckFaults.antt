@@ -14,7 +14,7 @@ abbrev pub IsTrueOf : System → CheckFault → Type 0
 IsTrueOf s (Refused f) = SystemFails s f.rule f.span
 IsTrueOf s OutOfMemory = Unit {0}
 
--- The fault is the one that the walk through the system meets first, where the pure functions are told from the others.
+-- The fault is the first on the walk through the system, if the pure functions are separated from the others.
 pub record IsFirst (s : System) (f : Fault) : Type 0 where
   pub pure : RoutineName → Bool
   pub tells : IsPurity s pure

@@ -12,7 +12,7 @@ abbrev pub NoRuleFails : System → (RoutineName → Bool) → Type 0
 NoRuleFails s pure =
     (k : ℕ) (c : Class) (r : Rule) (p : Span) → slice_get s.classes k ≡ Some c → ClassFails s pure k c r p → ⊥
 
--- A test tells the pure functions of the system from its other features, and no rule fails where this test is asked.
+-- A test separates the pure functions of the system from its other features, and no rule fails with this test.
 pub record IsChecked (s : System) : Type 0 where
   pub pure : RoutineName → Bool
   pub tells : IsPurity s pure

@@ -53,7 +53,7 @@ fn judge_declarations(
     Ok(())
 }
 
-/// Judges the type of Result, where one is declared.
+/// Judges the type of Result, if one is declared.
 fn judge_result_type(tables: &Tables, declared: &Option<DeclaredType>) -> Result<(), CheckFault>
     ensures { Passes (judging_system.judge_result_type (system_in tables.now) (type_if_any declared.now)) result }
 {
@@ -77,7 +77,7 @@ fn is_query(kind: &FeatureKind) -> bool
     }
 }
 
-/// Judges the text of a routine behind its types: precondition, locals, body and postcondition.
+/// Judges the text of a routine after its types: precondition, locals, body and postcondition.
 fn judge_text<'s>(
     routine: &RoutineContext<'_, 's>,
     precondition: &[Clause],

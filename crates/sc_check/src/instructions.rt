@@ -49,7 +49,7 @@ fn judge_call<'s>(
     Ok(())
 }
 
-/// Judges an instruction. Whatever it makes known is forgotten behind it.
+/// Judges an instruction. Names that it brings into scope leave it again.
 #[cycle(instructions)]
 fn judge_instruction<'s>(
     routine: &RoutineContext<'_, 's>,
@@ -83,7 +83,7 @@ fn judge_instruction<'s>(
     }
 }
 
-/// Judges what stands under a condition, with the names that the condition gives.
+/// Judges the instructions under a condition, with the names that the condition binds.
 #[cycle(instructions)]
 fn judge_branch<'s>(
     routine: &RoutineContext<'_, 's>,
@@ -139,7 +139,7 @@ pub fn judge_instructions<'s>(
     Ok(())
 }
 
-/// Judges each `elseif` with what stands under it.
+/// Judges each `elseif` with its instructions.
 #[cycle(instructions)]
 #[tactic(auto, unfolding(sc_rules::specs::JudgingText::judge_instr))]
 fn judge_branches<'s>(

@@ -1,7 +1,7 @@
-//! Which functions of a system are pure: those that have no attached separate formals, and whose bodies do nothing that
-//! no pure function does and run pure functions alone, in heirs too. The definition is that of `sc_rules`.
+//! Which functions of a system are pure: those that have no attached separate formals, and whose bodies do nothing
+//! that no pure function does and call pure functions alone, in heirs too. The definition is that of `sc_rules`.
 //!
-//! [`pure_functions`] answers a [`Purity`], a test that tells them from the other features.
+//! [`pure_functions`] returns a [`Purity`], a test that separates them from the other features.
 
 ghost use Rattle.std.specs.Prelude.{◌≡◌, IfErr, IfOk};
 ghost use Rattle.sc_rules.specs.Purity.{IsPurity};
@@ -21,8 +21,8 @@ use sc_class::Tables;
 use sc_typing::{CheckFault, Marks, Numbering, Purity};
 use std::alloc::Global;
 
-/// The test that tells the pure functions of the system of these tables. It takes time in proportion to the text, to
-/// the calls in it, and to the ancestors of each routine's class. It fails only where no memory is left.
+/// The test that separates the pure functions of a system from all others. It takes time in proportion to the text,
+/// to its calls, and to the ancestors of each routine's class. It fails only if no memory is left.
 pub fn pure_functions<'t, 's>(
     alloc: Global,
     tables: &'t Tables<'s>,

@@ -1,4 +1,4 @@
--- Classes by name and by number (ECMA-367, 8.3). Names are in lower case, so equal texts are the same name.
+-- Classes by name and by number (ECMA-367, 8.3). Names are in lower case, so equal texts are one name.
 use Rattle.std.specs.Prelude.{◌≡◌, ℕ, Bool, true, List, [], ◌∷◌, ◌++◌, ◌||◌, Option, Some, None, codes, bytes_eq, map, slice_get, if◌then◌else◌}
 use Rattle.std.specs.Option.{option_map}
 use Rattle.sc_text.specs.declared.token.Span.{Span}
@@ -35,11 +35,11 @@ class_names = map (λ c. c.name)
 abbrev pub number_in : List Name → List ℕ → Option ℕ
 number_in names x = if is_built_in x then None else number_among x names
 
--- the number of the class that is declared with this name: how many stand before it in the text
+-- the number of the class that is declared with this name: how many come before it in the text
 abbrev pub number_of : System → List ℕ → Option ℕ
 number_of s x = number_in (class_names s.classes) x
 
--- the class that a name stands for: one that every system has, or the one that is declared with it
+-- the class of a name: one that every system has, or the one that is declared with it
 abbrev pub class_named : System → List ℕ → Option ClassId
 class_named s x =
     if is_any x then Some class.Any
@@ -48,7 +48,7 @@ class_named s x =
     else (if is_boolean x then Some class.Boolean
     else option_map (λ k. class.Declared k) (number_among x (class_names s.classes)))))
 
--- the name that a class stands for in the text, where there is such a class
+-- the name of a class in the text, if there is such a class
 abbrev pub name_of_class : System → ClassId → Option (List ℕ)
 name_of_class s class.Any = Some (codes "any")
 name_of_class s class.None = Some (codes "none")

@@ -1,6 +1,5 @@
--- What the code holds, and how it searches for a fault, one definition for a function. No public contract speaks of
--- these: what the rules are stands in the files beside this folder, and the proofs show that what is found is what
--- they say.
+-- What the code holds, and how it searches for a fault, one definition for a function. No public contract mentions
+-- these: the rules are in the files beside this folder, and the proofs show that what is found is what they say.
 pub mod Found
 pub mod FaultAt
 pub mod NameIndex

@@ -88,7 +88,7 @@ fn refuse_rest(alloc: Global, outline: &Outline, root: &Root) -> Result<(), Clas
     Ok(())
 }
 
-/// The classes of a system, where no fault is in their names and their parents.
+/// The classes of a system, if no fault is in their names and their parents.
 fn sound_hierarchy<'s>(
     alloc: Global,
     system: &'s System,
@@ -107,7 +107,7 @@ fn sound_hierarchy<'s>(
     Ok(hierarchy)
 }
 
-/// The same, with what each class declares, where no other fault is in them either.
+/// The classes of a system with their declarations, if they have no other fault.
 fn sound_outline<'s>(
     alloc: Global,
     hierarchy: Hierarchy<'s>,
@@ -128,8 +128,8 @@ fn sound_outline<'s>(
     Ok(outline)
 }
 
-/// The tables of a system that is run from this root, or a fault of its classes: of the first code that has
-/// one, the one that stands first in the text.
+/// Makes the tables of a system with this root, or returns a fault of its classes: of the first code that has one,
+/// the first in the text.
 pub fn tables<'s>(alloc: Global, system: &'s System, root: &Root) -> Result<Tables<'s>, ClassFault>
     ensures faultless { OnOk result (IsFaultless (system_of system.now) (root_of root.now)) }
     ensures of_it { IfOk result (λ tables. system_in tables ≡ system_of system.now) }

@@ -22,8 +22,7 @@ pub enum LeftOut {
     ExportList,
 }
 
-/// A fault of a system's classes, with the code that it is known by and the span of the name that it stands at; or
-/// that no memory was left.
+/// A fault of a system's classes, with its code and the span of the name at fault; or no memory was left.
 #[derive(Clone, Copy, Debug, Error)]
 pub enum ClassFault {
     /// C1: the class has the name of an earlier one, or that of a class that every system has (ECMA-367, 8.3).
@@ -35,8 +34,8 @@ pub enum ClassFault {
     /// C3: the class that names this parent inherits from itself (ECMA-367, 8.6.5). It is the first such class.
     #[error("a class inherits from itself")]
     Cycle { span: Span },
-    /// C4: a feature, a formal, a local, or the name of an object test or of a block's head is like another one
-    /// (ECMA-367, 8.8 and 8.24), which stands before it, or it is `print`.
+    /// C4: a feature, a formal, a local, or the name of an object test or of a block's head is equal to one before it
+    /// (ECMA-367, 8.8 and 8.24), or it is `print`.
     #[error("a name is declared twice")]
     DuplicateFeature { span: Span },
     /// C5: a feature that isn't inherited or isn't declared again is listed under `redefine`, or what redefines

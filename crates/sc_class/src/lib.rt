@@ -1,12 +1,12 @@
 //! The classes of a system, after ECMA-367: by name and by number, with their parents, ancestors, features and
 //! invariants; and what is refused of them.
 //!
-//! [`tables`] answers the [`Tables`] of a system that has no fault where it is run from a [`Root`], or one of its
-//! faults, a [`ClassFault`]. A class is known by its [`ClassId`], and a feature by a [`FeatureEntry`], which names the
-//! class that declares it.
+//! [`tables`] returns the [`Tables`] of a system that has no fault with a [`Root`], or one of its faults, a
+//! [`ClassFault`]. A class is known by its [`ClassId`], and a feature by a [`FeatureEntry`], which names the class
+//! that declares it.
 //!
-//! `specs/Faults` says what each fault is, `specs/Tables` and `specs/ClassNames` what the calls of `Tables` answer, and
-//! [`heir_laws`] what follows.
+//! `specs/Faults` says what each fault is, `specs/Tables` and `specs/ClassNames` what the calls of `Tables` return,
+//! and [`heir_laws`] what follows.
 #![tactic(auto)]
 
 mod built_in;

@@ -13,7 +13,7 @@ pub struct Root {
 }
 
 impl Root {
-    /// The same, in memory of its own.
+    /// A copy, in memory of its own.
     pub fn copied(&self) -> Result<Self, AllocError>
         ensures { IfOk result (λ copy. root_of copy ≡ root_of self.now) }
     {

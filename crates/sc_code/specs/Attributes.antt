@@ -14,7 +14,7 @@ use Rattle.sc_model.specs.Objects.{fresh_attributes}
 abbrev pub attribute_number : List ℕ → List Binding → Option ℕ
 attribute_number x bs = option_map (λ found. found.0) (attribute_named x bs)
 
--- The clauses of an invariant, each of which is a formula; an invariant that has another clause is never met.
+-- The clauses of an invariant, if each is a formula; an invariant that has another clause is never met.
 abbrev pub known_formulas : Option (List PlainFormula) → List PlainFormula
 known_formulas (Some clauses) = clauses
 known_formulas None = formula.Constant false ∷ []

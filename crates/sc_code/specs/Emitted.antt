@@ -55,14 +55,14 @@ residence n (tag.With (BlockName j)) = with_slot (slice_get (block_slots n) j)
 abbrev pub tested_type : Entities → EntityType → TestedType
 tested_type n t = record { class = t.class; residence = residence n t.tag }
 
--- what is tested: nothing but that there is an object, where no type is named
+-- what is tested: only that there is an object, if no type is named
 abbrev pub tested : Setting → Entities → Option DeclaredType → Option TestedType
 tested h n None = None
 tested h n (Some d) = option_map (tested_type n) (test_type (here h) (Some d) None)
 
 -- ---- calls
 
--- whether what a call gives is of an attached type, where it gives something
+-- whether the value of a call has an attached type, if it has a value
 abbrev pub gives_of : Option (Option EntityType) → Option Bool
 gives_of g = option_map (λ (t : EntityType). t.attached) (known_type g)
 
@@ -81,7 +81,7 @@ abbrev pub site_of : List ℕ → ℕ → EntityType → List EntityType → Sig
 site_of x c t ts g =
     record { name = x; count = c; gives = gives_of g.gives; is_own = is_own t.tag; passes = types_pass g.formals ts }
 
--- a call of this feature behind a target of this type
+-- a call of this feature after a target of this type
 abbrev pub call_code : (CallSite → Operation) → System → List ℕ → ℕ → EntityType → List EntityType →
     Option DeclaredFeature → List Operation
 call_code op s x c t ts None = []
@@ -193,11 +193,11 @@ abbrev pub instruction_call : Bool → List Operation → List Operation → Lis
 instruction_call true actuals call = actuals ++ Print ∷ []
 instruction_call false actuals call = actuals ++ call
 
--- a choice, behind its condition
+-- a choice, after its condition
 abbrev pub branch_code : List Operation → List Operation → List Operation
 branch_code body other = SkipIfFalse (length body + 1) ∷ (body ++ Jump (length other) ∷ other)
 
--- a loop, behind the jump to its condition: so `EndLoop` alone goes back
+-- a loop, after the jump to its condition: so `EndLoop` alone goes back
 abbrev pub loop_code : List Operation → List Operation → List Operation
 loop_code body until = body ++ (until ++ EndLoop (length body + length until) ∷ [])
 
@@ -233,7 +233,7 @@ abbrev mutual
   instrs_code h n no_instrs = []
   instrs_code h n (instr_then i is) = instr_code h n i ++ instrs_code h n is
 
-  -- the further conditions, and the code of what stands under `else`
+  -- the further conditions, and the code of the instructions under `else`
   pub other_code : Setting → Entities → Branches → List Operation → List Operation
   other_code h n no_branches other = other
   other_code h n (branch_then e body bs) other =
@@ -318,7 +318,7 @@ name_depth d (Some found) f = 1
 name_depth d None None = 1
 name_depth d None (Some f) = kind_depth d f.feature.kind
 
--- behind the left operand's value, which a semistrict operator takes first
+-- after the left operand's value, which a semistrict operator takes first
 abbrev pub operand_depth : BinaryOperator → ℕ → ℕ
 operand_depth op d = if is_short op then d else suc d
 

@@ -1,12 +1,12 @@
 -- The joined invariant of a class in flat code (ECMA-367, 8.9.16). In an heir's object the attributes that the heir
--- declares stand in front of those that it inherits, so that clauses of these speak of other numbers there.
+-- declares come before those that it inherits, so that clauses of these use other numbers there.
 use Rattle.std.specs.Prelude.{ℕ, ◌+◌, ◌-◌, List, [], ◌∷◌, ◌++◌, Option, Some, None, length, map, slice_get}
 use Rattle.sc_formula.specs.Formula.{PlainFormula, Constant, Attribute, IsVoid, NotVoid, Not, Compared, Connected}
 use Rattle.sc_formula.specs.Term as term
 use Rattle.sc_formula.specs.Term.{PlainTerm}
 use Rattle.sc_code.specs.Programs.{PlainClass}
 
--- The same term of an object in which so many attributes more stand in front.
+-- The term of an object with `n` further attributes before its own.
 abbrev pub moved_term : ℕ → PlainTerm → PlainTerm
 moved_term n (term.Integer z) = term.Integer z
 moved_term n (term.Attribute k) = term.Attribute (n + k)
@@ -14,7 +14,7 @@ moved_term n (term.Identity t) = term.Identity (moved_term n t)
 moved_term n (term.Opposite t) = term.Opposite (moved_term n t)
 moved_term n (term.Arithmetic l op r) = term.Arithmetic (moved_term n l) op (moved_term n r)
 
--- The same formula of an object in which so many attributes more stand in front.
+-- The formula of an object with `n` further attributes before its own.
 abbrev pub moved : ℕ → PlainFormula → PlainFormula
 moved n (Constant b) = Constant b
 moved n (Attribute k) = Attribute (n + k)
@@ -24,7 +24,8 @@ moved n (Not f) = Not (moved n f)
 moved n (Compared l c r) = Compared (moved_term n l) c (moved_term n r)
 moved n (Connected l c r) = Connected (moved n l) c (moved n r)
 
--- what an heir with so many attributes keeps of a class: each clause of its own, of the attributes at the end
+-- the clauses that an heir with this number of attributes keeps of a class: each of its own, of the attributes at
+-- the end
 abbrev pub kept_from : ℕ → Option PlainClass → List PlainFormula
 kept_from n None = []
 kept_from n (Some c) = map (moved (n - length c.attributes)) c.invariant

@@ -1,4 +1,4 @@
--- The code of a routine stands for its tasks, and follows the model; in a well-formed system so does that of each
+-- The code of a routine represents its tasks, and follows the model; in a well-formed system so does that of each
 -- routine.
 use Rattle.std.specs.Prelude.{◌≡◌, ◌+◌, ◌++◌, ℕ, List, [], Some, length}
 use Rattle.std.specs.Option.{option_map}
@@ -48,13 +48,13 @@ pub record Beginning (s : System) (r : Routine) (p : Point) (tail : List Value) 
   pub values : p.values ≡ []
   pub slots : length p.environment + length tail ≡ routine_slots s r
 
--- At its first place a routine's code stands for the routine.
+-- At its first place a routine's code represents the routine.
 abbrev pub LoweredStands : Type 0
 LoweredStands = (s : System) (r : Routine) (p : Point) (tail : List Value) → IsTypedRoutine s r → Beginning s r p tail →
     Stands (run_of s r) 0 tail p
 
--- Whatever silent steps a routine makes at a point that a place stands for, silent operations follow them; at the
--- visible step the same visible operation is met, and behind it a place that stands for the point after the step.
+-- Whatever silent steps a routine makes at a point that a place represents, silent operations follow them; at the
+-- visible step they reach that visible operation, and after it a place that represents the point after the step.
 abbrev pub MovesFollow : Type 0
 MovesFollow = (g : Run) (me : Reference) (place : ℕ) (tail : List Value) (p : Point) → Stands g place tail p →
     Moves g me place tail p (moves g.system me p)
@@ -66,7 +66,7 @@ EntriesBegin = (s : System) (r : Routine) (me : Reference) (o : Origin) (vs : Li
     formals_bound s r.text.formals 0 r.text.formals vs ≡ Some bs → length bs + length tail ≡ routine_slots s r →
     Beginning s r (point_of (entry me r o bs) os) tail
 
--- A place stands for a point whatever the objects are: a call may change them.
+-- A place represents a point whatever the objects are: a call may change them.
 abbrev pub ObjectsMayChange : Type 0
 ObjectsMayChange = (g : Run) (place : ℕ) (tail : List Value) (p : Point) (os : List Object) → Stands g place tail p →
     Stands g place tail (record p { objects = os })
@@ -83,13 +83,13 @@ WhereAccepted law = (s : System) (root : Root) → IsFaultless s root → WellFo
 abbrev pub RoutinesAreTyped : Type 0
 RoutinesAreTyped = WhereAccepted λ s r. IsTypedRoutine s r
 
--- At its first place a routine's code stands for the routine.
+-- At its first place a routine's code represents the routine.
 abbrev pub RoutinesStand : Type 0
 RoutinesStand = WhereAccepted λ s r. (p : Point) (tail : List Value) → Beginning s r p tail →
     Stands (run_of s r) 0 tail p
 
--- From a routine's beginning its code makes the silent steps of the model silently, meets the same visible step, and
--- goes on at a place that stands for the point after it.
+-- From a routine's beginning its code makes the silent steps of the model silently, reaches that visible step, and
+-- goes on at a place that represents the point after it.
 abbrev pub RoutinesFollow : Type 0
 RoutinesFollow = WhereAccepted λ s r. (me : Reference) (p : Point) (tail : List Value) → Beginning s r p tail →
     Moves (run_of s r) me 0 tail p (moves s me p)

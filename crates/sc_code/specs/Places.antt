@@ -1,4 +1,4 @@
--- What is known at a place of a text: types of expressions, and in which slot a name stands.
+-- What is known at a place of a text: types of expressions, and the slot of each name.
 use Rattle.std.specs.Prelude.{ℕ, suc, ◌+◌, List, [], ◌∷◌, ◌++◌, Option, Some, None, bytes_eq, slice_get, if◌then◌else◌}
 use Rattle.std.specs.Option.{option_map, option_and_then}
 use Rattle.sc_tree.specs.declared.expression.UnaryOperator.{UnaryOperator}
@@ -39,7 +39,7 @@ abbrev pub known_type : Option (Option EntityType) → Option EntityType
 known_type None = None
 known_type (Some t) = t
 
--- what the feature gives behind a target of this type
+-- the type of the feature after a target of this type
 abbrev pub feature_type : System → EntityType → Option DeclaredFeature → Option EntityType
 feature_type s t None = None
 feature_type s t (Some f) = known_type (signature_of s t f).gives
@@ -77,7 +77,7 @@ expr_type h n i (tree.Unary q op a) = Some (unary_type op)
 expr_type h n i (tree.Binary q op a b) = Some (binary_type op)
 expr_type h n i (tree.ObjectTest q d a x) = Some boolean
 
--- a type in front of those behind it, where there is one
+-- a type before those after it, if there is one
 abbrev pub with_type : Option EntityType → List EntityType → List EntityType
 with_type None ts = ts
 with_type (Some t) ts = t ∷ ts
@@ -90,7 +90,7 @@ abbrev pub head_types : Setting → Entities → List Head → List EntityType
 head_types h n [] = []
 head_types h n (d ∷ ds) = with_type (expr_type h n 0 d.value) (head_types h n ds)
 
--- the setting where one more `old` is kept
+-- the setting with one more `old` kept
 abbrev pub with_old : Setting → Option EntityType → Setting
 with_old h None = h
 with_old h (Some t) = record h { olds = h.olds ++ t ∷ [] }

@@ -90,7 +90,7 @@ abbrev pub is_separate_known : Option EntityType → Bool
 is_separate_known None = false
 is_separate_known (Some t) = is_separate_type t
 
--- the slots of the attached separate ones, of which the first has this slot
+-- the slots of the attached separate ones; the first has this slot
 abbrev pub separate_slots : ℕ → Entities → List ℕ
 separate_slots k [] = []
 separate_slots k (e ∷ n) = if is_separate_known e.type then k ∷ separate_slots (suc k) n else separate_slots (suc k) n
@@ -111,7 +111,7 @@ code_of s r = record {
   operations = map (λ o. Some o) (routine_code s r);
 }
 
--- the features in flat code, where they are routines
+-- the features in flat code, if they are routines
 abbrev pub codes_of : System → List DeclaredFeature → List (Option PlainRoutine)
 codes_of s fs = map (λ f. option_map (code_of s) (routine_of s f)) fs
 

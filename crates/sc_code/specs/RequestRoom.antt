@@ -1,4 +1,4 @@
--- Programs of which requests have room for all that they carry.
+-- Programs whose requests have room for all that they carry.
 use Rattle.std.specs.Prelude.{◌≡◌, ◌≤◌, ◌<◌, ℕ, List, Some, length, slice_get}
 use Rattle.sc_code.specs.declared.program.Image.{Image}
 use Rattle.sc_code.specs.declared.site.CallSite.{CallSite}
@@ -6,7 +6,7 @@ use Rattle.sc_code.specs.declared.site.CreationSite.{CreationSite}
 use Rattle.sc_code.specs.declared.site.Heads.{Heads}
 use Rattle.sc_code.specs.Programs.{pool_of}
 
--- No name stands at two numbers.
+-- No name has two numbers.
 abbrev pub AreDistinct : List (List ℕ) → Type 0
 AreDistinct names =
     (j k : ℕ) (name : List ℕ) → slice_get names j ≡ Some name → slice_get names k ≡ Some name → j ≡ k
@@ -24,8 +24,9 @@ CreationsFit creations =
 abbrev pub BlocksFit : List Heads → Type 0
 BlocksFit blocks = (number : ℕ) (heads : Heads) → slice_get blocks number ≡ Some heads → heads.count < 17
 
--- Requests have room for what the program names: no name stands at two numbers, there are at most 2^32 of them, and no
--- call, creation or separate block has more than 16 actuals or heads; creations are of classes with numbers below 256.
+-- Requests have room for what the program names: no name has two numbers, there are at most 2^32 of them, and no
+-- call, creation or separate block has more than 16 actuals or heads; creations are of classes with numbers below
+-- 256.
 pub record FitsRequests (p : Image) : Type 0 where
   pub distinct : AreDistinct (pool_of p.pool).names
   pub names : length (pool_of p.pool).names ≤ 4294967296

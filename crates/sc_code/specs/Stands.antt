@@ -1,4 +1,4 @@
--- What a place in flat code stands for: the tasks that are left, with what is known there.
+-- What a place in flat code represents: the tasks that are left, with what is known there.
 use Rattle.std.specs.Prelude.{◌≡◌, ◌≤◌, ◌<◌, ℕ, zero, suc, ◌+◌, List, [], ◌∷◌, ◌++◌, true, false, Option, Some, None, is_some, slice_get, take, length, map}
 use Rattle.std.specs.Option.{option_map}
 use Rattle.sc_tree.specs.declared.expression.UnaryOperator.{UnaryOperator}
@@ -30,8 +30,8 @@ use Rattle.sc_code.specs.Typed.{IsTyped, IsCondition, AreClauses, AreInstrs, Are
 use Rattle.sc_model.specs.Moves.{moves}
 use Rattle.sc_code.specs.Machine.{Code, State, Act, Prints, Until, Creates, CreatesHandler, Enters, Requests, Starts, Refuses, Opens, Leaves, Exits, Fails, Goes, Does, hop, hops}
 
--- What is the same all through a run of a routine: the system, its own text, the type of its Result, its code, and how
--- many slots it has.
+-- What stays during a run of a routine: the system, its own text, the type of its Result, its code, and its number
+-- of slots.
 pub record Run : Type 0 where
   pub system : System
   pub own : Text
@@ -39,9 +39,9 @@ pub record Run : Type 0 where
   pub code : Code
   pub slots : ℕ
 
--- What is known at a place: the text, the names, the types of the kept `old`s, and those of the operands. Where a
--- condition's value is the last operand, the first names are known in any case, and the second ones where it is true;
--- its own type isn't told.
+-- What is known at a place: the text, the names, the types of the kept `old`s, and those of the operands. If a
+-- condition's value is the last operand, the first names are known in any case, and the second ones if it is true;
+-- its own type isn't listed.
 pub data Knowledge : Type 0 where
   Known : (text : Text) (names : Entities) (olds types : List EntityType) → Knowledge
   Judged : (text : Text) (low high : Entities) (olds types : List EntityType) → Knowledge
@@ -59,13 +59,13 @@ abbrev pub first_type : List EntityType → Option EntityType
 first_type [] = None
 first_type (t ∷ ts) = Some t
 
--- the last so many types, in the order of the text, before those given; and those under them
+-- the last `n` types, in the order of the text, before those given; and those below them
 abbrev pub types_popped : ℕ → List EntityType → List EntityType → Option (List EntityType × List EntityType)
 types_popped zero us ts = Some (us, ts)
 types_popped (suc n) us [] = None
 types_popped (suc n) us (t ∷ ts) = types_popped n (t ∷ us) ts
 
--- the operations stand in the code from this place on
+-- the code has these operations from this place on
 abbrev pub HasAt : List Operation → ℕ → List Operation → Type 0
 HasAt code p [] = Unit {0}
 HasAt code p (o ∷ os) = (slice_get code p ≡ Some o) × HasAt code (p + 1) os
@@ -77,7 +77,7 @@ Has g p os = HasAt g.code.operations p os
 abbrev pub Is : Run → ℕ → Operation → Type 0
 Is g p o = slice_get g.code.operations p ≡ Some o
 
--- so many more operands have room
+-- there is room for this number of further operands
 abbrev pub Room : Run → List EntityType → ℕ → Type 0
 Room g ts n = length ts + n ≤ g.code.depth
 
@@ -85,13 +85,13 @@ Room g ts n = length ts + n ≤ g.code.depth
 abbrev pub Begins : Entities → Entities → Type 0
 Begins low n = (more : Entities) × (n ≡ low ++ more)
 
--- the type of what the variable stands for
+-- the type of the variable
 abbrev pub assigned_type_of : Run → Text → Entities → Variable → Option EntityType
 assigned_type_of g t n v = assignee_type (assignee (place_in g.system t) n v)
 
 -- ---- tasks
 
--- The place stands for these tasks, where this is known. (ECMA-367's constructs in the order of the tasks.)
+-- The place represents these tasks, with this knowledge. (ECMA-367's constructs in the order of the tasks.)
 pub data StandsFor (g : Run) : ℕ → Knowledge → List Task → Type 0 where
   -- an unconditional jump leads on
   jumps : {p m : ℕ} {x : Knowledge} {k : List Task} → Is g p (Jump m) → StandsFor g (p + 1 + m) x k → StandsFor g p x k
@@ -297,8 +297,7 @@ types_of us = map (λ (u : Operand). u.type) us
 abbrev pub values_in : List Binding → List Value
 values_in bs = map (λ (b : Binding). b.value) bs
 
--- The machine's state at a place, where the model stands at this point; what lies behind the slots of its names is left
--- over.
+-- The machine's state at a place, if the model is at this point; the slots after those of its names have old values.
 abbrev pub state_at : ℕ → List Value → Point → State
 state_at place tail p = record {
   place = place;
@@ -309,7 +308,7 @@ state_at place tail p = record {
   values = values_of p.values;
 }
 
--- A condition's value tells which names are known.
+-- A condition's value determines which names are known.
 abbrev pub IsJudged : Entities → Entities → Value → Entities → Type 0
 IsJudged low high (Boolean true) n = n ≡ high
 IsJudged low high (Boolean false) n = Begins low n
@@ -320,14 +319,14 @@ IsJudged low high (Attached r) n = n ≡ high
 abbrev pub known_at : Point → Knowledge
 known_at p = Known p.text (scope_of p.environment) (types_of p.olds) (types_of p.values)
 
--- The place stands for the tasks of the point with what is known there.
+-- The place represents the tasks of the point with what is known there.
 pub data Tells (g : Run) (place : ℕ) (p : Point) : Type 0 where
   told : StandsFor g place (known_at p) p.tasks → Tells g place p
   judged : (u : Operand) (us : List Operand) (low high : Entities) → p.values ≡ u ∷ us →
       IsJudged low high u.value (scope_of p.environment) →
       StandsFor g place (Judged p.text low high (types_of p.olds) (types_of us)) p.tasks → Tells g place p
 
--- The place stands for the point.
+-- The place represents the point.
 pub record Stands (g : Run) (place : ℕ) (tail : List Value) (p : Point) : Type 0 where
   pub tells : Tells g place p
   pub has_slots : length p.environment + length tail ≡ g.slots

@@ -2,13 +2,13 @@
 ghost use Rattle.sc_code.specs.Invariants.{InvariantsAreJoined, InvariantsAreKnown};
 ghost use Rattle.sc_code.specs.Lowered.{EntriesBegin, LoweredStands, MovesFollow, ObjectsMayChange, RoutinesAreTyped, RoutinesFollow, RoutinesStand};
 
-/// At its first place a routine's code stands for the routine, where each of its expressions has its type.
+/// If each of its expressions has its type, a routine's code represents the routine at its first place.
 pub fn lowered_stands()
     ensures { LoweredStands }
 {}
 
-/// From a place that stands for a point, the code makes the silent steps of the model silently, meets the same visible
-/// step, and stands for the point after it.
+/// From a place that represents a point, the code makes the model's silent steps silently, reaches the same visible
+/// step, and represents the point after it.
 pub fn moves_follow()
     ensures { MovesFollow }
 {}
@@ -18,7 +18,7 @@ pub fn entries_begin()
     ensures { EntriesBegin }
 {}
 
-/// A place stands for a point whatever the objects are.
+/// A place represents a point whatever the objects are.
 pub fn objects_may_change()
     ensures { ObjectsMayChange }
 {}
@@ -29,13 +29,13 @@ pub fn checked_routines_are_typed()
     ensures { RoutinesAreTyped }
 {}
 
-/// In a well-formed system the first place of a routine's code stands for the routine.
+/// In a well-formed system the first place of a routine's code represents the routine.
 pub fn checked_routines_stand()
     ensures { RoutinesStand }
 {}
 
-/// In a well-formed system the code of a routine that begins makes the silent steps of the model silently, meets the same
-/// visible step, and stands for the point after it.
+/// In a well-formed system the code of a routine that begins makes the model's silent steps silently, reaches the
+/// same visible step, and represents the point after it.
 pub fn checked_routines_follow()
     ensures { RoutinesFollow }
 {}

@@ -88,13 +88,13 @@ pub enum Operation {
     Print,
     /// A text is printed, by its number.
     PrintText(usize),
-    /// So many operations are passed where the last value is False.
+    /// Skips this number of operations if the last value is False.
     SkipIfFalse(usize),
-    /// So many operations are passed.
+    /// Skips this number of operations.
     Jump(usize),
-    /// The loop ends where the last value is True, else its body comes again, so many operations back.
+    /// Ends the loop if the last value is True; else goes this number of operations back, to the loop's body.
     EndLoop(usize),
-    /// A clause of a postcondition or of a `check`: where it is false the handler fails so.
+    /// A clause of a postcondition or of a `check`: if it is false, the handler fails with this cause.
     Expect(Cause),
     /// A clause of a precondition, by the number of its list of formals.
     Demand(usize),

@@ -10,7 +10,7 @@ pub struct CallSite {
     pub name: NameNumber,
     /// How many actuals it has.
     pub count: usize,
-    /// Whether the value that it gives is of an attached type; None where it gives none.
+    /// Whether its value has an attached type; None if it has no value.
     pub gives: Option<bool>,
     /// Whether the target's type says that it is of the current handler.
     pub is_own: bool,

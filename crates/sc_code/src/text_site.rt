@@ -5,7 +5,7 @@ ghost use Rattle.std.specs.Prelude.{◌≡◌, min};
 use sc_text::Span;
 use sc_tree::{BinaryOperator, UnaryOperator};
 
-/// Where a name stands in the text, in 8 bytes.
+/// A name's place in the text, in 8 bytes.
 #[derive(Clone, Copy)]
 pub struct NameSpan {
     pub start: u32,
@@ -13,7 +13,7 @@ pub struct NameSpan {
 }
 
 impl NameSpan {
-    /// The place of a name. What lies behind the first 4 GiB of a text is told as their end.
+    /// The place of a name. Places after the first 4 GiB of a text become their end.
     pub fn of(span: Span) -> NameSpan
         ensures start { result.start ≡ min span.start 4294967295 }
         ensures end { result.end ≡ min span.end 4294967295 }
@@ -75,7 +75,7 @@ pub enum SiteKind {
     Print,
     /// The condition of an `if`, or of an `elseif`.
     Condition,
-    /// The end of what stands under a condition, or the way to the `until` of a loop.
+    /// The end of the instructions under a condition, or the way to the `until` of a loop.
     Jump,
     /// The `until` of a loop.
     Until,
@@ -87,7 +87,7 @@ pub enum SiteKind {
     End,
 }
 
-/// A part of a text that an operation was made of: where it stands, and what it is.
+/// A part of the text that an operation was made of: its place and its kind.
 #[derive(Clone, Copy)]
 pub struct TextSite {
     pub span: Span,

@@ -29,8 +29,8 @@ pub record IsAudited (p : Image) (left : Left) : Type 0 where
   pub leads : LeadsTo p left world
   pub same : IsSame world (world_of left)
 
--- The record is one, and its turns end in a world that differs from what is left. The handler is the least of which it
--- does.
+-- The record is one, and its turns end in a world that differs from what is left. The handler is the lowest at which
+-- it does.
 pub record DiffersAt (p : Image) (left : Left) (h : ℕ) : Type 0 where
   pub is_record : IsRecord left.version left.lines.items
   pub world : PlainWorld

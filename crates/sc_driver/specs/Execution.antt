@@ -1,4 +1,4 @@
--- What the runs and replays of a program come to.
+-- The results of runs and replays of a program.
 use Rattle.std.specs.Prelude.{ℕ, ◌≡◌, ◌≤◌, ◌+◌, ◌↔◌, ◌⊎◌, None, List, [], ◌∷◌, ◌++◌, length, replicate}
 use Rattle.std.specs.List.{flat_map}
 use Rattle.sc_class.specs.ClassNames.{Root}
@@ -14,7 +14,7 @@ use Rattle.sc_world.specs.Turning.{MakeTurns, Runs}
 use Rattle.sc_world.specs.Reports as told
 use Rattle.sc_frontend.specs.Texts.{IsLoaded}
 
--- The report and how the handlers stand are those of the world.
+-- The report and the handlers' statuses are those of the world.
 pub record Leaves (world : PlainWorld) (text : List ℕ) (statuses : List Status) : Type 0 where
   pub report_is : text ≡ told.report world
   pub statuses_are : statuses ≡ told.statuses world
@@ -23,10 +23,10 @@ pub record Leaves (world : PlainWorld) (text : List ℕ) (statuses : List Status
 abbrev pub line_turns : RecordLine → List ℕ
 line_turns line = replicate line.turns line.handler
 
--- A run on threads whose record has these lines. From the opening of the program, with 512 handlers at most, one thread
--- that makes the lines' turns, one after the other, comes to a world that leaves the report and the handlers standing
--- so. Each of these turns is one of a handler that has something to do then. They are so many at most, and the lines
--- 1,000,000. Both are fewer only where no handler of that world has anything to do any more.
+-- A run on threads whose record has these lines. From the opening of the program, with 512 handlers at most, one
+-- thread that makes the lines' turns, one after the other, ends in a world with this report and these statuses. Each
+-- of these turns is one of a handler that has a job then. There are at most `limit` turns, and at most 1,000,000
+-- lines. Both are fewer only if no handler of that world has a job any more.
 pub record IsThreadRun (program : Image) (limit : ℕ) (lines : List RecordLine) (text : List ℕ)
     (statuses : List Status) :
     Type 0 where
@@ -37,8 +37,8 @@ pub record IsThreadRun (program : Image) (limit : ℕ) (lines : List RecordLine)
   pub short : length lines ≤ most_lines
   pub ends : (next world.center ≡ None) ⊎ ((turns_of lines ≡ limit) ⊎ (length lines ≡ most_lines))
 
--- The text spells a system that is sound. The report, how the handlers stand and the lines of the record are those of a
--- run of its program on threads.
+-- The text spells a system that is sound. The report, the statuses and the lines of the record are those of a run of
+-- its program on threads.
 pub record IsRunOf (text : List ℕ) (root : Root) (limit : ℕ) (lines : List RecordLine) (output : List ℕ)
     (statuses : List Status) :
     Type 0 where

@@ -12,7 +12,7 @@ use Rattle.sc_recording.specs.Same.{IsSame}
 use Rattle.sc_driver.specs.Audits.{IsAudited}
 use Rattle.sc_driver.specs.Misfits.{IsFirstMisfit}
 
--- Lines of which one doesn't fit are no record's,
+-- Lines with one that doesn't fit are no record's.
 abbrev pub MisfitsAreNoRecord : Type 0
 MisfitsAreNoRecord = (version : Version) (lines : List RecordLine) (number : ℕ) → IsFirstMisfit version lines number →
     IsRecord version lines → ⊥
@@ -26,7 +26,7 @@ OneMisfit = (version : Version) (lines : List RecordLine) (number other : ℕ) �
 abbrev pub RunsAuditYes : Type 0
 RunsAuditYes = (p : Image) (limit : ℕ) (left : Left) → limit ≤ most_turns → IsRun p limit left → ∥ IsAudited p left ∥₁
 
--- Worlds that hold the same report the same, where there are no more handlers than are compared.
+-- Worlds that hold the same have equal reports, if there are no more handlers than are compared.
 abbrev pub SameWorldsHaveSameReports : Type 0
 SameWorldsHaveSameReports = (w v : PlainWorld) → w.center.state.count ≤ max_handlers →
     v.center.state.count ≤ max_handlers →

@@ -5,14 +5,14 @@ use Rattle.sc_lockpass.specs.Versions.{most_handlers}
 use Rattle.sc_audit.specs.declared.line.RecordLine.{RecordLine}
 use Rattle.sc_audit.specs.Records.{IsRecord}
 
--- The line may stand in a record of the version in which so many turns are left.
+-- A record of the version may have the line, with this number of turns left.
 pub record IsLine (version : Version) (turns_left : ℕ) (line : RecordLine) : Type 0 where
   pub handler : line.handler < most_handlers version
   pub some : 0 < line.turns
   pub few : line.turns ≤ turns_left
 
--- The line of this number in the text, from 1, is the first that doesn't fit: the lines before it are a record's, and
--- with it they aren't. One line stands before them all.
+-- The line of this number in the text, from 1, is the first that doesn't fit: the lines before it are a record's,
+-- and with it they aren't. One line comes before them all.
 pub record IsFirstMisfit (version : Version) (lines : List RecordLine) (number : ℕ) : Type 0 where
   pub before : ℕ
   pub number_is : number ≡ before + 2

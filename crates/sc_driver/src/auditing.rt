@@ -21,12 +21,11 @@ pub enum AuditFault {
     OutOfMemory,
 }
 
-/// Whether one thread that plays the record of what a run of the program left ends in just that: objects, frames, queues,
-/// rights, counts, outputs and how each handler stands. The logs aren't compared.
+/// Whether one thread that plays the record of what a run of the program left ends in just that: objects, frames,
+/// queues, rights, counts, outputs and each handler's status. The logs aren't compared.
 ///
-/// # Errors
-/// [`AuditFault::BadRecord`] where the lines are no record's, else [`AuditFault::OutOfMemory`] where there is no memory, else
-/// [`AuditFault::Differs`] where something differs.
+/// # Errors [`AuditFault::BadRecord`] if the lines are no record's, else [`AuditFault::OutOfMemory`] if memory ran
+/// out, else [`AuditFault::Differs`] if something differs.
 pub fn audit(alloc: Global, program: &Program, left: &Left<'_>) -> Result<(), AuditFault>
     ensures yes { OnOk result (IsAudited program.now.image left.now) }
     ensures fault { IfErr result (TellsWhy program.now.image left.now) }

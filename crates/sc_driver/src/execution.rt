@@ -1,4 +1,4 @@
-//! What is done with a program: replays of records, and what a run or a replay tells.
+//! What is done with a program: replays of records, and the result of a run or a replay.
 
 ghost use Rattle.std.specs.Prelude.{◌≡◌, IfOk};
 ghost use Rattle.sc_lower.specs.Lowerings.{image_of};
@@ -12,7 +12,7 @@ use sc_model::Status;
 use sc_world::World;
 use std::alloc::{AllocError, Global};
 
-/// What a run or a replay tells: its report, and how each handler stands, in order of number.
+/// The result of a run or a replay: its report, and the status of each handler, in order of number.
 #[derive(Drop)]
 pub struct RunReport {
     pub report: Vec<u8>,

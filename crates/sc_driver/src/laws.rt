@@ -3,7 +3,7 @@ ghost use Rattle.sc_driver.specs.Laws.{MisfitsAreNoRecord, OneMisfit, RunsAuditY
 
 use sc_plant::laws::{lines_are_a_record, runs_are_one_threads};
 
-/// Lines of which one doesn't fit are no record's.
+/// Lines with one that doesn't fit are no record's.
 pub fn misfits_are_no_record()
     ensures { MisfitsAreNoRecord }
 {}
@@ -21,7 +21,7 @@ pub fn runs_audit_yes()
     lines_are_a_record();
 }
 
-/// Worlds that hold the same report the same.
+/// Worlds that hold the same have equal reports.
 pub fn same_worlds_have_same_reports()
     ensures { SameWorldsHaveSameReports }
 {}

@@ -1,8 +1,8 @@
 //! What is done with a program, from its opening to the state of a run, and the audit of a run.
 //!
-//! [`run_program`] runs a program by several workers, and [`replay`] plays a record with it. What they tell is a [`RunReport`].
-//! [`audit`] plays the record of what a run left with one thread, and compares what that ends in with what was left.
-//! `specs/Audits` says what an audit answers.
+//! [`run_program`] runs a program by several workers, and [`replay`] plays a record with it. Their result is a
+//! [`RunReport`]. [`audit`] plays the record of what a run left with one thread, and compares the end of that with
+//! what was left. `specs/Audits` says what an audit answers.
 #![tactic(auto)]
 
 mod auditing;

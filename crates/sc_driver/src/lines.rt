@@ -12,7 +12,7 @@ const MOST_LINES: usize = 1_000_000;
 /// The most turns of a record, all its lines together.
 const MOST_TURNS: u32 = 10_000_000;
 
-/// The lines of a record's text begin behind its first one, and are counted from 1.
+/// The lines of a record's text come after its first one, and are counted from 1.
 const FIRST_LINE: u32 = 2;
 
 /// The number of the first line that doesn't fit, where the lines are no record's.
@@ -30,7 +30,7 @@ pub fn first_misfit(version: Version, lines: &[RecordLine]) -> Option<u32>
     None
 }
 
-/// Whether the line may stand in a record of the version in which so many turns are left.
+/// Whether a record of the version may have this line, with this number of turns left.
 fn is_line(version: Version, line: &RecordLine, turns_left: u32) -> bool
     ensures { IsTrue result ↔ IsLine version turns_left line.now }
 {

@@ -13,8 +13,7 @@ use std::alloc::{AllocError, Global};
 
 /// The world of a program after the turns of these lines.
 ///
-/// # Errors
-/// Where there is no memory.
+/// # Errors Memory ran out.
 pub fn play<'p>(
     alloc: Global,
     program: &'p Program,

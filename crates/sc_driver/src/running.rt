@@ -17,17 +17,16 @@ use std::alloc::{AllocError, Global};
 use std::sync::Wait;
 use std::thread::Threads;
 
-/// A run that has ended: what its threads left, with the lines of its record, and what that tells.
+/// A run that has ended: what its threads left, with the lines of its record, and the result.
 #[derive(Drop)]
 pub struct Ended<'p> {
     pub left: Left<'p>,
-    /// Behind how many turns at most it has ended: those that it might make, or fewer where its handlers have printed more
-    /// than they may.
+    /// The number of turns that ended it: its limit, or fewer if its handlers have printed more than they may.
     pub turns: u32,
     pub outcome: RunReport,
 }
 
-/// Nobody is told of turns.
+/// A gate that does nothing.
 struct Ungated;
 
 impl Gate for Ungated {
@@ -36,12 +35,11 @@ impl Gate for Ungated {
     fn ended(&self, _handler: HandlerNumber) {}
 }
 
-/// Runs a program by so many threads, the calling one among them, within bounds, where there may be 512 handlers. Somebody looks
-/// at it on its way.
+/// Runs a program by this number of threads, the calling one among them, within bounds, with at most 512 handlers.
+/// The watch looks at it on its way.
 ///
-/// # Errors
-/// U1 where memory is refused, U2 where a thread is, and U3 where the logs of the threads differ, which never comes. With one
-/// worker it is always U1.
+/// # Errors U1 if memory is refused, U2 if a thread is, and U3 if the logs of the threads differ, which never
+/// happens. With one worker it is always U1.
 pub fn run_program<'p, R: Threads + Wait + Sync, W: Watch>(
     rt: &R,
     alloc: Global,
@@ -68,7 +66,7 @@ pub fn run_program<'p, R: Threads + Wait + Sync, W: Watch>(
     }
 }
 
-/// What is told of what a run left.
+/// The result of what a run left.
 fn outcome_of_left(alloc: Global, left: &Left<'_>) -> Result<RunReport, AllocError>
     ensures report { IfOk result (λ outcome. outcome.report.items ≡ told.report (world_of left.now)) }
     ensures statuses { IfOk result (λ outcome. outcome.statuses.items ≡ told.statuses (world_of left.now)) }
@@ -79,7 +77,7 @@ fn outcome_of_left(alloc: Global, left: &Left<'_>) -> Result<RunReport, AllocErr
     })
 }
 
-/// How each handler stands, in order of number.
+/// The status of each handler, in order of number.
 fn statuses_of_left(alloc: Global, left: &Left<'_>) -> Result<Vec<Status>, AllocError>
     ensures { IfOk result (λ statuses. statuses.items ≡ told.statuses (world_of left.now)) }
 {

@@ -1,4 +1,4 @@
--- Which types are told as those that a rule has compared.
+-- Which types are reported as those that a rule has compared.
 use Rattle.std.specs.Prelude.{◌≡◌, false}
 use Rattle.sc_tree.specs.Plain.{System}
 use Rattle.sc_rules.specs.entity_types.Conformance.{conforms}

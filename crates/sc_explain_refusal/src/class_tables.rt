@@ -1,4 +1,5 @@
-//! The tables of a system that was read again. What is wrong with it was told before; want of memory is told here.
+//! The tables of a system that was read again. Its faults were reported before; running out of memory is reported
+//! here.
 
 use sc_class::{ClassFault, Root, Tables, tables};
 use sc_tree::System;

@@ -151,7 +151,7 @@ fn other_declared(declarations: &[Declaration], name: &str, span: Span) -> Optio
     None
 }
 
-/// Where the name stands, if it is this one at another place.
+/// The place of the name, if it equals this one and is another place.
 fn other(declared: &Name, name: &str, span: Span) -> Option<Span> {
     if declared.text.eq_ignore_ascii_case(name) && declared.span != span {
         Some(declared.span)
@@ -160,7 +160,7 @@ fn other(declared: &Name, name: &str, span: Span) -> Option<Span> {
     }
 }
 
-/// The class in which a part of the text stands, with its number.
+/// The class that contains a part of the text, with its number.
 pub fn class_around(classes: &[Class], span: Span) -> Option<(usize, &Class)> {
     for (number, class) in classes.iter().enumerate() {
         if class.span.start <= span.start && span.start < class.span.end {

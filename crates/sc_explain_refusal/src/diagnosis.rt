@@ -75,7 +75,7 @@ impl<'s> Refusal<'s> {
         }
     }
 
-    /// The same, where the text may spell a system.
+    /// Adds what can be said if the text may spell a system.
     fn tell_of_text(&self, alloc: Global, lines: &mut Lines) -> Option<Related> {
         match system_of(alloc, self.text) {
             Ok(None) => {
@@ -94,7 +94,7 @@ impl<'s> Refusal<'s> {
         }
     }
 
-    /// The same, where the text spells this system.
+    /// Adds what can be said if the text spells this system.
     fn tell_of_system(&self, alloc: Global, lines: &mut Lines, system: &System) -> Option<Related> {
         match self.code {
             RefusalCode::NoRoot => {

@@ -4,7 +4,8 @@
 const NAMES: &str =
     "x y z it one other known found x1 x2 x3 x4 x5 x6 x7 x8 x9 y1 y2 y3 y4 y5 y6 y7";
 
-/// The first of the names that stands nowhere in the text, but for so many of them; nothing where all do.
+/// The first of the known names that the text doesn't contain, after `but` others; nothing if it contains all of
+/// them.
 pub fn fresh_name(text: &str, but: usize) -> &'static str {
     let mut left = but;
     for name in NAMES.split(' ') {
@@ -18,7 +19,7 @@ pub fn fresh_name(text: &str, but: usize) -> &'static str {
     ".."
 }
 
-/// Whether the word stands somewhere in the text, in any letter case.
+/// Whether the text contains the word, in any letter case.
 fn has_word(text: &[u8], word: &[u8]) -> bool {
     let mut start = 0;
     for index in 0..text.len().saturating_add(1) {

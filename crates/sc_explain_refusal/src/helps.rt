@@ -11,13 +11,13 @@ use sc_rules::{Context, Role};
 use sc_text::Span;
 
 impl<'s> Scope<'s> {
-    /// The part of the text at fault, or what stands for it.
+    /// The part of the text at fault, or a word in its place.
     fn part(&self) -> &str {
         let part = part_of(self.text, self.span);
         if part.is_empty() { ".." } else { part }
     }
 
-    /// Adds that what is assigned isn't assignable, where it stands for this, or for a routine, and what helps.
+    /// Adds that what is assigned isn't assignable, by what it means, and what helps.
     pub(crate) fn push_fixed(&self, lines: &mut Lines, role: Option<Role>) {
         let said = match role {
             Some(Role::Formal) => " is a formal, and nothing is assigned to one\n",
@@ -172,7 +172,7 @@ impl<'s> Scope<'s> {
         }
     }
 
-    /// The same in a body, for what is of the own handler or another.
+    /// Adds this question in a body, for the own handler or another one.
     fn push_question_in_body(&self, lines: &mut Lines, is_own: bool, is_enough: bool) {
         let (before, behind) = match self.place {
             Place::Until if is_own => (

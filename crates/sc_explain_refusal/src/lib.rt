@@ -1,9 +1,9 @@
-//! What is said of one refusal beside its line: a sentence on this very fault with the part of the text that is at fault,
-//! what helps, and where the text stands that it goes with. See [`diagnose`].
+//! The explanation of one refusal beside its line: a sentence on this very fault with the part of the text at fault,
+//! what helps, and the place that belongs to it. See [`diagnose`].
 //!
-//! Where the classes of a system are at fault, that is the other declaration of a name (`declared`), a class that was meant and
-//! what is written in place of what is left out (`class_helps`), a `redefine` that is missing and what a redefinition lacks
-//! (`redefinition`), and which root fits (`root`).
+//! If the classes of a system are at fault, that is the other declaration of a name (`declared`), a class that was
+//! meant and what is written in place of what is left out (`class_helps`), a `redefine` that is missing and what a
+//! redefinition lacks (`redefinition`), and which root fits (`root`).
 //!
 //! The sentences are for people: nothing of the answer, which is the refusal's line, depends on them.
 #![tactic(auto)]

@@ -20,7 +20,7 @@ pub fn push_redefine(lines: &mut Lines, text: &str, system: &System, span: Span)
     }
 }
 
-/// Adds the same of a feature of the class, whose name an ancestor or an heir declares too.
+/// Adds this for a feature of the class that an ancestor or an heir declares, too.
 fn push_for_relatives(
     lines: &mut Lines,
     text: &str,
@@ -63,7 +63,7 @@ fn push_for_heir(lines: &mut Lines, text: &str, heir: &Class, inherited: &Featur
     }
 }
 
-/// Adds what a redefinition at fault lacks, where it is known.
+/// Adds what a redefinition at fault lacks, if it is known.
 pub fn push_unfit(lines: &mut Lines, system: &System, span: Span) {
     let Some((_, class)) = class_around(&system.classes, span) else {
         return;
@@ -108,7 +108,7 @@ fn lacking_in_feature(system: &System, class: &Class, feature: &Feature) -> &'st
     }
 }
 
-/// The name that stands there under `redefine`.
+/// The name at this place under `redefine`.
 fn listed_at(class: &Class, span: Span) -> Option<&Name> {
     for parent in class.parents.iter() {
         for name in parent.redefined.iter() {

@@ -17,19 +17,19 @@ pub(crate) struct Scope<'s> {
     pub span: Span,
     pub routine: &'s RoutineContext<'s, 's>,
     pub names: Vec<Entity<'s>>,
-    /// The part of the class's text in which it stands, and where in that.
+    /// The part of the class's text that it belongs to, and the position in that.
     pub context: Context,
     pub place: Place,
 }
 
 impl<'s> Scope<'s> {
-    /// Adds the part of the text that is at fault, in quotes, and what is said of it behind.
+    /// Adds the part of the text at fault, in quotes, and the words after it.
     pub(crate) fn push_said(&self, lines: &mut Lines, behind: &str) {
         push_quoted(lines, "", part_of(self.text, self.span), behind)
     }
 
-    /// Adds a type in quotes, as it is declared, with the name of the formal or the block whose handler it is of, and what
-    /// stands behind it.
+    /// Adds a type in quotes, as it is declared, with the name of the formal or the block whose handler it names, and
+    /// the words after it.
     pub(crate) fn push_type(&self, lines: &mut Lines, given: EntityType, behind: &'static str) {
         let (mark, unknown) = marks_of(given);
         lines.push_all(&["`", mark]);
@@ -52,7 +52,7 @@ impl<'s> Scope<'s> {
         }
     }
 
-    /// Adds what stands in a type before the name of the class: whose handler it is of, which may have a name.
+    /// Adds the words of a type before its class: whose handler it names, which may have a name.
     fn push_handler(&self, lines: &mut Lines, tag: Tag) {
         match tag {
             Tag::Own | Tag::None => {}
@@ -75,7 +75,7 @@ impl<'s> Scope<'s> {
     }
 }
 
-/// What stands first in a type, and what is said behind it where its handler isn't known.
+/// The first words of a type, and the words after it if its handler isn't known.
 fn marks_of(given: EntityType) -> (&'static str, &'static str) {
     if given.class == ClassId::None {
         return ("", "");
@@ -101,7 +101,7 @@ fn name_of_block<'n>(names: &[Entity<'n>], number: usize) -> &'n str {
     ".."
 }
 
-/// The text of a part, where it is a short one on one line and closes what it opens; else nothing.
+/// The text of a part, if it is short, on one line, and closes what it opens; else nothing.
 pub fn part_of(text: &str, span: Span) -> &str {
     let part = text
         .get(span.start as usize..span.end as usize)
@@ -113,8 +113,8 @@ pub fn part_of(text: &str, span: Span) -> &str {
     }
 }
 
-/// Whether the text is on one line, and each parenthesis in it is closed, and none that stands before it. (A part at fault
-/// may begin or end inside of parentheses.)
+/// Whether the text is on one line, and its parentheses are closed and opened in it. (A part at fault may begin or
+/// end inside of parentheses.)
 fn is_closed(part: &str) -> bool {
     let mut depth = 0_usize;
     for byte in part.as_bytes() {
@@ -129,7 +129,7 @@ fn is_closed(part: &str) -> bool {
     depth == 0
 }
 
-/// Adds a part of the text in quotes, or `this` where there is none, between words.
+/// Adds a part of the text in quotes, or `this` if there is none, between words.
 pub fn push_quoted(lines: &mut Lines, before: &str, part: &str, behind: &str) {
     if part.is_empty() {
         return lines.push_all(&[before, "this", behind]);

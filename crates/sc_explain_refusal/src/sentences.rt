@@ -1,4 +1,4 @@
-//! A sentence for each reason of a refusal, and what helps. A `#` stands for the part of the text that is at fault.
+//! A sentence for each reason of a refusal, and what helps. A `#` is replaced by the part of the text at fault.
 
 use sc_rules::{RefusalCode, Rule};
 
@@ -58,7 +58,7 @@ fn text_of_rule(rule: Rule) -> &'static str {
     }
 }
 
-/// What helps where a text is refused for this reason; nothing where nothing does in general.
+/// The help for a text that is refused for this reason; nothing if there is no general one.
 pub fn help_of(code: RefusalCode) -> &'static str {
     match code {
         RefusalCode::BadEscape => "the marks are `%N`, `%T`, `%%`, `%\"` and `%'`",

@@ -1,4 +1,4 @@
-//! What stands at the part of a text that a rule fails at.
+//! The part of a text that a rule fails at.
 
 use crate::types::type_judged;
 use sc_rules::Context;
@@ -8,7 +8,7 @@ use sc_tree::{Call, Clause, CreationCall, Expr, Head, Instr, Variable};
 use sc_typing::{CheckFault, Typing, operand_context, variable_span};
 use std::alloc::AllocError;
 
-/// What is looked for: a part of this kind that stands there.
+/// What a walk looks for: a part of this kind at this place.
 #[derive(Clone, Copy)]
 pub(crate) struct Aim {
     pub kind: Kind,
@@ -32,7 +32,7 @@ pub(crate) enum Kind {
     Target,
 }
 
-/// Where in a body something stands.
+/// A position in a body.
 #[derive(Clone, Copy)]
 pub(crate) enum Place {
     /// In an instruction, outside of the conditions of ifs and loops.
@@ -43,7 +43,7 @@ pub(crate) enum Place {
     Until,
 }
 
-/// What stands at a part that was looked for.
+/// The part that a walk looked for.
 #[derive(Clone, Copy)]
 pub(crate) enum Part<'s> {
     /// The name of a call.
@@ -66,7 +66,7 @@ pub(crate) enum Part<'s> {
     Target(&'s Expr),
 }
 
-/// What stands at a part that was looked for, and in which part of a class's text.
+/// The part that a walk looked for, and the part of a class's text that it belongs to.
 #[derive(Clone, Copy)]
 pub(crate) struct Site<'s> {
     pub context: Context,
@@ -74,12 +74,12 @@ pub(crate) struct Site<'s> {
     pub part: Part<'s>,
 }
 
-/// What a search has come to.
+/// The state of a walk.
 #[derive(Clone, Copy)]
 pub(crate) enum Found<'s> {
     /// Nothing as yet.
     Nothing,
-    /// What was looked for stands here.
+    /// The part was found here.
     At(Site<'s>),
     /// A part in front of it is faulty, so what is known at it isn't found.
     Faulty,
@@ -92,7 +92,7 @@ pub(crate) enum Found<'s> {
 pub(crate) struct Search<'s> {
     pub aim: Aim,
     pub found: Found<'s>,
-    /// Where what is passed next stands.
+    /// The position of what is passed next.
     pub place: Place,
 }
 
@@ -105,7 +105,7 @@ impl<'s> Search<'s> {
         }
     }
 
-    /// Passes a part: it is found where it is one of this kind and stands where this is aimed at.
+    /// Passes a part: it is found if it has this kind and the place that the walk looks for.
     pub(crate) fn pass(&mut self, kind: Kind, span: Span, context: Context, part: Part<'s>) {
         if self.is_open() && self.aim.kind == kind && self.aim.span == span {
             let place = self.place;
@@ -227,7 +227,7 @@ fn pass_variable<'s>(search: &mut Search<'s>, variable: &'s Variable) {
     search.pass(Kind::Name, span, Context::Body, Part::Assignee(variable))
 }
 
-/// Passes the heads of a separate block, in each of which none of its names is known.
+/// Passes the heads of a separate block. None of the block's names is in scope in them.
 pub fn pass_heads<'s>(search: &mut Search<'s>, heads: &'s [Head]) {
     for head in heads {
         let part = Part::Head(&head.value);

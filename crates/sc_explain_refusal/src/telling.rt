@@ -1,5 +1,5 @@
-//! What is told of what stands at a part at which a rule fails: a sentence with the types that are compared or the numbers
-//! that differ, and what helps. Nothing, where the types and numbers that are found there don't earn the fault.
+//! What can be said about a part that a rule fails at: a sentence with the types that are compared or the numbers
+//! that differ, and what helps. Nothing, if the types and numbers that are found there don't explain the fault.
 
 use crate::scope::{Scope, part_of, push_quoted};
 use crate::site::{Part, Site};
@@ -15,7 +15,7 @@ use sc_typing::{
 };
 
 impl<'s> Scope<'s> {
-    /// Adds what is told of what stands there, and whether there is something.
+    /// Adds what can be said about the part that was found. Returns whether there is something.
     pub(crate) fn tell(&mut self, lines: &mut Lines, site: &Site<'s>) -> bool {
         self.context = site.context;
         self.place = site.place;
@@ -27,7 +27,7 @@ impl<'s> Scope<'s> {
         }
     }
 
-    /// The same of a part that gives no names.
+    /// Adds what can be said about a part that binds no names. Returns whether there is something.
     fn tell_part(&self, lines: &mut Lines, part: &Part<'s>) -> bool {
         match part {
             Part::Assigned(variable, value) => self.tell_assigned(lines, *variable, *value),
@@ -178,13 +178,13 @@ impl<'s> Scope<'s> {
         is_wrong
     }
 
-    /// The type of a condition, if it has one; the names that it gives are known behind it.
+    /// The type of a condition, if it has one; the names that it binds are in scope after it.
     fn type_of_condition(&mut self, lines: &mut Lines, e: &'s Expr) -> Option<EntityType> {
         let judged = self.routine.condition(self.context, &mut self.names, e);
         type_found(lines, judged)
     }
 
-    /// The type of an operand, if it has one; the names that it gives, in a condition, are known behind it.
+    /// The type of an operand, if it has one; the names that it binds, in a condition, are in scope after it.
     fn type_of_operand(
         &mut self,
         lines: &mut Lines,
@@ -216,7 +216,7 @@ impl<'s> Scope<'s> {
         }
     }
 
-    /// What the name of an entity stands for that is known here, if it is one's.
+    /// The role of the entity with this name that is in scope here, if it is one's.
     fn role_of(&self, variable: &Variable) -> Option<Role> {
         let Variable::Named(name) = variable else {
             return None;
@@ -277,7 +277,8 @@ impl<'s> Scope<'s> {
         true
     }
 
-    /// By the rule that fails, of the name of a call with so many actuals, behind a target of this type, if it has one.
+    /// Adds what the failed rule says about the name of a call with this number of actuals, after a target of this
+    /// type, if it has one.
     fn tell_name(
         &self,
         lines: &mut Lines,
@@ -384,7 +385,7 @@ impl<'s> Scope<'s> {
         }
     }
 
-    /// Adds a line on the part of the text that is at fault: it is of one type, and what stands there takes another.
+    /// Adds a line on the part of the text at fault: its type, and the type that is wanted there.
     pub(crate) fn push_compared(
         &self,
         lines: &mut Lines,
@@ -397,7 +398,7 @@ impl<'s> Scope<'s> {
         self.push_type(lines, types.taken, "\n")
     }
 
-    /// Adds that the part of the text is of this type, and what stands behind that.
+    /// Adds that the part of the text has this type, and the words after that.
     fn push_given(&self, lines: &mut Lines, given: EntityType, behind: &'static str) {
         self.push_said(lines, " is of type ");
         self.push_type(lines, given, behind)

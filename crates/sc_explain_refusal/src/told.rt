@@ -21,8 +21,8 @@ pub(crate) struct RuleFault<'s> {
     pub aim: Aim,
 }
 
-/// What is looked for where a rule fails at a part of a text, where more can be said of it. (Every class has `print`, so where
-/// that isn't known it stands in a place that no class gives it.)
+/// What to look for if a rule fails at a part of a text, if more can be said about it. (Every class has `print`, so
+/// if that isn't known, its place is one that no class gives it.)
 pub fn aim_of(text: &str, rule: Rule, span: Span) -> Option<Aim> {
     let is_name = matches!(rule, Rule::UnknownName);
     if is_name && part_of(text, span).eq_ignore_ascii_case("print") {
@@ -64,8 +64,8 @@ impl<'s> RuleFault<'s> {
         }
     }
 
-    /// Adds what is told of the part that is aimed at, where it is found: in the routine around it, or else beside the routines
-    /// of the class.
+    /// Adds what can be said about the part that is looked for, if it is found: in the routine around it, or else
+    /// outside the routines of the class.
     fn push_found(self, alloc: Global, lines: &mut Lines, tables: &Tables<'_>) -> bool {
         let span = self.aim.span;
         let Some((number, class)) = class_around(tables.classes(), span) else {
@@ -80,8 +80,8 @@ impl<'s> RuleFault<'s> {
         self.push_in(alloc, lines, &*tables, number, class, None)
     }
 
-    /// Adds what is told of the part that is aimed at, where a walk comes to it through this routine of the class at a number,
-    /// or else where it stands in the invariant of the class or in its list of creators.
+    /// Adds what can be said about the part that is looked for, if a walk through this routine of the class at a
+    /// number reaches it, or else if it is in the invariant of the class or in its list of creators.
     fn push_in(
         self,
         alloc: Global,
@@ -118,8 +118,8 @@ impl<'s> RuleFault<'s> {
 }
 
 impl<'s> Walk<'s> {
-    /// Passes this routine of a class, or else the invariant and the list of creators of that, and adds what is told of what
-    /// was looked for, where it was found there, and whether there is something.
+    /// Passes this routine of a class, or else the class's invariant and list of creators, and adds what can be said
+    /// about the part, if it was found there. Returns whether there is something.
     fn push_passed(
         &mut self,
         lines: &mut Lines,
@@ -138,7 +138,7 @@ impl<'s> Walk<'s> {
         }
     }
 
-    /// Adds what is told of what was looked for, where it was found, and whether there is something.
+    /// Adds what can be said about the part, if it was found. Returns whether there is something.
     fn push_found(&mut self, lines: &mut Lines) -> bool {
         match &self.search.found {
             Found::Nothing | Found::Faulty => false,
@@ -152,7 +152,7 @@ impl<'s> Walk<'s> {
 }
 
 impl<'s> Scope<'s> {
-    /// Adds what is told of a name that the class lists under `create`, and whether it is one.
+    /// Adds what can be said about a name that the class lists under `create`. Returns whether it is one.
     fn push_creator(&self, lines: &mut Lines, creators: &[Name]) -> bool {
         for creator in creators {
             if creator.span == self.span {

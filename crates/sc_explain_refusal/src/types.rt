@@ -27,7 +27,7 @@ pub struct Compared {
 pub(crate) struct Passed {
     pub compared: Compared,
     pub formal: Span,
-    /// The place of the name of the formal that its tag names, where there is no actual for that one.
+    /// The place of the name of the formal that its tag names, if there is no actual for that one.
     pub missing: Option<Span>,
 }
 
@@ -42,8 +42,8 @@ fn mismatch(tables: &Tables, given: EntityType, taken: EntityType) -> Option<Com
     Some(Compared { given, taken })
 }
 
-/// The type that a formal of this declared type takes among these actuals, behind a target of this type. The lines lack
-/// something where memory runs out.
+/// The type that a formal of this declared type takes among these actuals, after a target of this type. The lines are
+/// incomplete if memory runs out.
 fn type_taken(
     alloc: Global,
     lines: &mut Lines,
@@ -64,7 +64,7 @@ fn type_taken(
     combine_argument(target, declared, &known)
 }
 
-/// The place of the name of the formal that the tag of this type names, where it is none of so many first ones.
+/// The place of the name of the formal that the tag of this type names, if it is none of the first `actuals` ones.
 fn missing_formal(formals: &[Declaration], declared: EntityType, actuals: usize) -> Option<Span> {
     match declared.tag {
         Tag::With(Reserved::Formal(number)) if number >= actuals => {
@@ -104,7 +104,7 @@ pub fn type_of_actual(found: &[JudgedActual], number: usize) -> Option<EntityTyp
 }
 
 impl<'s> Scope<'s> {
-    /// The types of the right side of an assignment and of its left side, where they don't conform.
+    /// The types of the right side of an assignment and of its left side, if they don't conform.
     pub(crate) fn assigned_types(
         &self,
         lines: &mut Lines,
@@ -118,7 +118,7 @@ impl<'s> Scope<'s> {
         mismatch(self.routine.tables, given, taken)
     }
 
-    /// The types of the head of a separate block and of what a block takes, where they don't conform.
+    /// The types of the head of a separate block and of what a block takes, if they don't conform.
     pub(crate) fn head_types(&self, lines: &mut Lines, value: &Expr) -> Option<Compared>
         ensures { IfSome result (IsMismatch (system_in self.now.routine.now.tables.now)) }
     {
@@ -131,7 +131,7 @@ impl<'s> Scope<'s> {
         mismatch(self.routine.tables, given, taken)
     }
 
-    /// The types of the actual at a number, which is given, and of its formal, where they don't conform.
+    /// The types of the actual at a number and of its formal, if they don't conform.
     pub(crate) fn passed_types(
         &self,
         lines: &mut Lines,

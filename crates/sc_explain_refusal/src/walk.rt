@@ -10,7 +10,7 @@ use sc_rules::{Context, Position, Role};
 use sc_tree::{Branch, Declaration, Expr, Head, Instr, Routine};
 use sc_typing::{Entity, add_formals, add_locals, block_type, blocks};
 
-/// A walk: what is looked for, and what is known at the part that it has come to, or at that which was found.
+/// A walk: what it looks for, and what is in scope at the part that it has reached, or at the part that was found.
 #[derive(Drop)]
 pub(crate) struct Walk<'s> {
     pub search: Search<'s>,
@@ -40,15 +40,15 @@ impl<'s> Walk<'s> {
         }
     }
 
-    /// Makes names unknown behind the part in which they are known: of them only so many are left, unless what is looked
-    /// for was found there.
+    /// Takes names out of scope after their part, down to this number, unless the part that is looked for was found
+    /// there.
     fn forget(&mut self, known: usize) {
         if self.search.is_open() {
             self.scope.names.truncate(known);
         }
     }
 
-    /// Passes instructions. Behind them the names are as before.
+    /// Passes instructions. After them the names in scope are as before.
     #[cycle(instructions)]
     fn pass_instructions(&mut self, instructions: &'s [Instr]) {
         for instruction in instructions {
@@ -81,7 +81,7 @@ impl<'s> Walk<'s> {
         self.search.place = Place::Instruction
     }
 
-    /// Passes a separate block. Behind it its names are unknown.
+    /// Passes a separate block. After it its names are out of scope.
     #[cycle(instructions)]
     fn pass_block(&mut self, heads: &'s [Head], body: &'s [Instr]) {
         let known = self.scope.names.len();
@@ -98,7 +98,7 @@ impl<'s> Walk<'s> {
         }
     }
 
-    /// Passes a condition and what stands under it, with the names that the condition gives.
+    /// Passes a condition and the instructions under it, with the names that the condition binds.
     #[cycle(instructions)]
     fn pass_branch(&mut self, body: &'s [Instr], condition: &'s Expr) {
         let known = self.scope.names.len();
@@ -115,7 +115,8 @@ impl<'s> Walk<'s> {
         }
     }
 
-    /// Makes a name of a separate block known, by the type of its head, around which so many names are known.
+    /// Brings a name of a separate block into scope, with the type of its head and this number of names in scope
+    /// around it.
     fn add_block_name(&mut self, known: usize, head: &'s Head) {
         if self.search.is_open() {
             let outer = self.scope.names.get(..known).unwrap_or(&[]);
@@ -139,7 +140,7 @@ impl<'s> Walk<'s> {
         }
     }
 
-    /// Passes the condition of an `if`. Behind it the names that it gives are known.
+    /// Passes the condition of an `if`. After it the names that it binds are in scope.
     fn pass_whole_condition(&mut self, condition: &'s Expr) {
         let part = Part::Condition(condition);
         self.search
@@ -149,8 +150,8 @@ impl<'s> Walk<'s> {
         self.search.place = Place::Instruction
     }
 
-    /// Passes the condition of an `if`, or an operand of the `and then`s at its top. Behind it the names that it gives
-    /// are known.
+    /// Passes the condition of an `if`, or an operand of the `and then`s at its top. After it the names that it binds
+    /// are in scope.
     fn pass_condition(&mut self, e: &'s Expr) {
         match e {
             Expr::Binary(span, operator, left, right) if operator.is_and_then() => {

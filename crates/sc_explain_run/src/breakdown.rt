@@ -71,7 +71,7 @@ fn push_stood(
     }
 }
 
-/// Adds where a routine stood, whose handler failed behind an operation or at it.
+/// Adds the place of a routine whose handler failed at an operation or after it.
 fn push_point(
     origin: &RunSource<'_>,
     lines: &mut Lines,
@@ -96,7 +96,7 @@ fn push_point(
     }
 }
 
-/// What the operation was made of at which a handler failed, or behind which: a routine that waits or calls stands behind it.
+/// The text of the operation at which a handler failed, or after which: a routine that waits or calls is after it.
 fn site_of(text: &RoutineText, place: usize, cause: Cause, is_behind: bool) -> Option<TextSite> {
     let site = text.sites.get(place).copied()?;
     let is_behind = match cause {
@@ -155,14 +155,14 @@ fn push_served(origin: &RunSource<'_>, lines: &mut Lines, asked: &Asked) {
     lines.push("\n")
 }
 
-/// Adds a place of the text, of which something is said then, and whether there is one.
+/// Adds a place of the text, before something is said about it. Returns whether there is one.
 fn begin_place(origin: &RunSource<'_>, lines: &mut Lines, span: Span) -> bool {
     let is_there = push_place(origin, lines, "", span);
     lines.push(if is_there { ": " } else { "" });
     is_there
 }
 
-/// Adds the line of a place of the text of which something was said, with carets.
+/// Adds the line of a place of the text, after something was said about it, with carets.
 fn end_place(origin: &RunSource<'_>, lines: &mut Lines, span: Span) {
     lines.push("\n");
     match excerpt(origin.alloc, origin.source.text().as_bytes(), span) {
@@ -171,7 +171,7 @@ fn end_place(origin: &RunSource<'_>, lines: &mut Lines, span: Span) {
     }
 }
 
-/// Adds which handler one needed that failed by this cause behind an operation.
+/// Adds which handler was needed by one that failed with this cause after an operation.
 fn push_needed(lines: &mut Lines, ended: &World<'_>, handler: HandlerNumber, cause: Cause) {
     let what = match cause {
         Cause::SupplierFailed => ", which has failed\n",

@@ -1,4 +1,4 @@
-//! Who waits for whom: cycles, and the chains that lead to them or to one that waits for something else.
+//! Which handler waits for which: cycles, and the chains that lead to them or to one that waits for something else.
 
 use crate::waits::{MOST_NEEDED, Wait, count_of, keeper_of, needed_at, wait_of};
 use sc_explain_text::Lines;
@@ -11,15 +11,16 @@ use std::alloc::Global;
 #[derive(Clone, Copy)]
 pub struct Member {
     pub wait: Wait,
-    /// The waiting handler that keeps it waiting, if one does; one of a cycle, or that leads to a cycle, where there is such a one.
+    /// The waiting handler that keeps it waiting, if one does; one of a cycle, or that leads to a cycle, if there is
+    /// one.
     pub next: Option<HandlerNumber>,
     /// Whether it waits, and may be one of a cycle or lead to one.
     is_stuck: bool,
-    /// Whether it was told of.
+    /// Whether it was reported.
     pub is_told: bool,
 }
 
-/// What stands for a handler that isn't there.
+/// In place of a handler that doesn't exist.
 const NOBODY: Member = Member {
     wait: Wait::Nothing,
     next: None,
@@ -30,13 +31,13 @@ const NOBODY: Member = Member {
 /// What is done with the handlers, one after the other.
 #[derive(Clone, Copy)]
 enum Pass {
-    /// Each gets the first that may be stuck of those that keep it waiting, where there is one.
+    /// Links each to the first handler that may be stuck and keeps it waiting, if there is one.
     Links,
-    /// Those are found not to be stuck that nobody keeps waiting who may be.
+    /// Finds those that aren't stuck: no handler that may be stuck keeps them waiting.
     Frees,
 }
 
-/// Handlers each of which waits for the next, and the last for the first; none where there is no such cycle.
+/// Handlers that each wait for the next, and the last for the first; none if there is no such cycle.
 #[derive(Clone, Copy)]
 pub struct Cycle {
     pub length: usize,
@@ -53,7 +54,7 @@ pub struct Chains {
 }
 
 impl Chains {
-    /// Of which none was told. Where memory is refused, the lines lack something.
+    /// The chains of a world, none of them reported. If memory is refused, the lines are incomplete.
     pub fn of(alloc: Global, lines: &mut Lines, world: &World<'_>) -> Chains {
         let mut chains = Chains {
             members: Vec::new(alloc),
@@ -137,7 +138,7 @@ impl Chains {
         }
     }
 
-    /// A handler was told of.
+    /// Marks a handler as reported.
     pub fn mark(&mut self, handler: HandlerNumber) {
         if let Some(member) = self.members.get_mut(handler as usize) {
             member.is_told = true;
@@ -179,8 +180,8 @@ impl Chains {
         }
     }
 
-    /// How many handlers there are from this one on, each of which waits for the next: up to one that was told of, or that waits
-    /// for nobody who waits.
+    /// The number of handlers from this one on that each wait for the next: up to one that was reported, or that
+    /// waits for no handler that waits.
     pub fn chain_length(&self, handler: HandlerNumber) -> usize {
         let mut at = handler;
         let mut length = 1_usize;

@@ -11,7 +11,7 @@ use sc_region::{Reference, Value};
 use sc_text::Span;
 use sc_world::World;
 
-/// How many values are told at most.
+/// The most values that are shown.
 const MOST_VALUES: usize = 8;
 
 /// Adds which clause of the precondition of the routine that a handler is in is false, with the values of what it names, on a
@@ -28,8 +28,8 @@ pub fn push_false_clause(
     }
 }
 
-/// Adds the values of what the topmost routine of a handler reads and calls for the operation at a place of it, where it goes on
-/// to there without asking anything of others, and gets this answer first if one has come: a line, or nothing.
+/// Adds the values that the topmost routine of a handler reads and calls for the operation at a place of it, if it
+/// gets there without asking other handlers, and takes this answer first if one has come: a line, or nothing.
 pub fn push_operation_values(
     origin: &RunSource<'_>,
     lines: &mut Lines,
@@ -85,7 +85,7 @@ pub fn push_attributes(
 }
 
 impl<'r> RunSource<'r> {
-    /// Adds the attribute of this name of an object, unless it is told.
+    /// Adds the attribute of this name of an object, unless it is there already.
     fn push_attribute(
         &self,
         lines: &mut Lines,
@@ -125,7 +125,7 @@ impl<'r> RunSource<'r> {
         None
     }
 
-    /// Adds the clause that a routine has come to, if it has, and that it is false.
+    /// Adds the clause that a routine has reached, if it has, and that it is false.
     fn push_false(&self, lines: &mut Lines, reached: &Evaluation<'_>) {
         if reached.is_reached
             && let Some(span) = self.span_at(reached.frame.routine, reached.frame.place)
@@ -139,7 +139,7 @@ impl<'r> RunSource<'r> {
         }
     }
 
-    /// The place of the first operation of a routine, of those before one, that was made of the same part of the text.
+    /// The place of the first operation of a routine, before a given one, that was made of the same part of the text.
     fn first_place(&self, routine: usize, place: usize, whole: Span) -> usize {
         let mut first = place;
         for behind in 0..place {

@@ -1,4 +1,5 @@
-//! The code of a routine, gone through once more from where it stands: without any effect, on the objects as they are.
+//! The code of a routine, evaluated once more from its present place: without any effect, on the objects as they
+//! are.
 
 use crate::frame::{Frame, Values};
 use crate::origin::RunSource;
@@ -24,7 +25,7 @@ pub struct Seen {
 /// From where a routine is gone through.
 #[derive(Clone, Copy)]
 pub enum Start {
-    /// From where it stands. It gets this answer first, if one has come.
+    /// From its present place. It takes this answer first, if one has come.
     Here(Option<Value>),
     /// From the operation at this place, before which nothing was read that is needed.
     Place(usize),
@@ -67,8 +68,8 @@ pub struct Evaluation<'r> {
 }
 
 impl<'r> Evaluation<'r> {
-    /// The topmost routine of a handler, gone through so far, where it comes from a place of it to another one without asking
-    /// anything of others: None where the handler has none. Where memory is refused on the way, the lines lack something.
+    /// Evaluates the topmost routine of a handler from one of its places to another, if it gets there without asking
+    /// other handlers. None if the handler has no routine. If memory is refused on the way, the lines are incomplete.
     pub fn of(
         origin: &RunSource<'_>,
         lines: &mut Lines,
@@ -108,7 +109,7 @@ impl<'r> Evaluation<'r> {
         Some(evaluation)
     }
 
-    /// The outermost routine stands where it starts. Where it stands behind a call, the last operand is what that has given.
+    /// Puts the outermost routine at its start. If that is after a call, the last operand is the call's result.
     fn begin(&mut self, start: Start) {
         match start {
             Start::Here(None) => {}
@@ -131,7 +132,7 @@ impl<'r> Evaluation<'r> {
         }
     }
 
-    /// Goes through the outermost routine so far: whether it comes to there.
+    /// Evaluates the outermost routine up to the goal. Returns whether it gets there.
     fn reaches(&mut self, goal: Goal) -> bool {
         for _operation in 0..MOST_OPERATIONS {
             if self.callers.is_empty() && self.is_at(goal) {
@@ -144,7 +145,7 @@ impl<'r> Evaluation<'r> {
         false
     }
 
-    /// Whether the routine that runs stands there.
+    /// Whether the routine that runs is at the goal.
     fn is_at(&self, goal: Goal) -> bool {
         match goal {
             Goal::Place(place) => self.frame.place == place,
@@ -196,7 +197,7 @@ impl<'r> Evaluation<'r> {
             .copied()
     }
 
-    /// The routine goes on behind so many operations more.
+    /// Goes on with the routine after skipping this number of operations.
     pub fn pass(&mut self, passed: usize) -> bool {
         self.frame.place = self.frame.place.saturating_add(1).saturating_add(passed);
         true
@@ -257,8 +258,8 @@ impl<'r> Evaluation<'r> {
         self.pass(0)
     }
 
-    /// A feature is called, of a target or of Current, with the values from a place on: whether it can be gone on. Behind the call
-    /// those are left in front of the floor.
+    /// Calls a feature of a target or of Current, with the values from a place on. Returns whether the evaluation can
+    /// go on. After the call those values are left below the floor.
     fn call(&mut self, number: usize, has_target: bool) -> bool {
         let Some(site) = self.program.pool().calls.get(number).copied() else {
             return false;

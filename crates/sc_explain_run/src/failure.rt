@@ -25,7 +25,7 @@ pub struct Played<'r> {
     pub version: Version,
     pub lines: &'r [RecordLine],
     pub limit: Limit,
-    /// Whether a request may have been refused for which nobody waited.
+    /// Whether a request may have been refused for which no handler waited.
     pub may_refuse: bool,
 }
 
@@ -51,18 +51,18 @@ pub fn run_note(
     order_note(alloc, played)
 }
 
-/// The same of a run in which a handler isn't free, or may have refused a request.
+/// The note on a run in which a handler isn't free, or may have refused a request.
 ///
 /// # Errors
 ///
-/// That memory ran out.
+/// Memory ran out.
 pub fn order_note(alloc: Global, played: Played<'_>) -> Result<Vec<u8>, AllocError> {
     let mut lines = Lines::new(alloc);
     push_note(alloc, &mut lines, &played);
     lines.finish()
 }
 
-/// Adds the same, where the run is played once more.
+/// Adds that note, with the run played once more.
 fn push_note(alloc: Global, lines: &mut Lines, played: &Played<'_>) {
     let origin = RunSource {
         alloc,
@@ -87,7 +87,7 @@ fn push_note(alloc: Global, lines: &mut Lines, played: &Played<'_>) {
     }
 }
 
-/// Adds what the failure of each handler is, where it was, and where more is said of it.
+/// Adds the cause of each handler's failure, its place, and what more can be said about it.
 fn push_failures(origin: &RunSource<'_>, lines: &mut Lines, ended: &World<'_>, moments: &[Moment]) {
     for handler in 0..count_of(ended) {
         if let Some(Status::Failed(cause)) = ended.status(handler) {
@@ -99,7 +99,7 @@ fn push_failures(origin: &RunSource<'_>, lines: &mut Lines, ended: &World<'_>, m
     }
 }
 
-/// Adds which requests were refused for which nobody waited.
+/// Adds which requests were refused for which no handler waited.
 fn push_refusals(lines: &mut Lines, moments: &[Moment]) {
     for moment in moments {
         if let Kind::Refusal = moment.kind {

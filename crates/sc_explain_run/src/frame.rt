@@ -10,7 +10,7 @@ pub struct Frame {
     pub routine: usize,
     pub current: Reference,
     pub place: usize,
-    /// How many values are left behind its end.
+    /// How many values are left after its end.
     pub floor: usize,
     /// Where its slots begin.
     pub slots: usize,
@@ -76,14 +76,14 @@ impl Values {
         }
     }
 
-    /// Adds Void until there are so many.
+    /// Adds Void until there are this many.
     pub fn fill(&mut self, count: usize) {
         for _slot in self.values.len()..count {
             self.push(Value::Void);
         }
     }
 
-    /// Leaves so many at most.
+    /// Leaves at most this many.
     pub fn cut(&mut self, count: usize) {
         self.values.truncate(count)
     }
@@ -138,7 +138,7 @@ impl Values {
         value
     }
 
-    /// Where the last operands of the routine that runs begin, so many, if it has so many.
+    /// The place of the first of the last `count` operands of the routine that runs, if it has as many.
     pub fn first_of(&self, frame: &Frame, count: usize) -> Option<usize> {
         let place = self.values.len().checked_sub(count)?;
         if place < frame.operands {

@@ -1,4 +1,4 @@
-//! What the turns of a run tell of one handler.
+//! The turns of a run that concern one handler.
 
 use crate::naming::{Asked, asked_by};
 use sc_code::ClassNumber;
@@ -69,7 +69,7 @@ impl Turn {
         matches!(self.begun, Begun::Takes(_)) && matches!(self.ended, Ended::Fails(_))
     }
 
-    /// Whether the handler stood behind an operation, and failed by what came of that in another handler.
+    /// Whether the handler was after an operation, and failed by its result in another handler.
     pub fn is_behind(&self) -> bool {
         matches!(self.begun, Begun::Fails) || !matches!(self.ended, Ended::Fails(_))
     }

@@ -1,7 +1,7 @@
-//! What is said of a run beside its report, for which its turns are made once more as its record goes on. [`run_note`] tells what each
-//! failure is, where it was and for whom its handler ran, and why the others wait or are busy: for whom, for which condition, and which
-//! requests nobody takes. [`Tracer`] tells turn by turn what is printed, and what a handler asks of others, reserves, waits for, refuses
-//! or fails by.
+//! The explanation of a run beside its report, for which its turns are made once more as its record goes on.
+//! [`run_note`] says what each failure is, its place and the request that its handler ran, and why the others wait
+//! or are busy: for which handler, for which condition, and which requests no handler takes. [`Tracer`] describes
+//! turn by turn what is printed, and what a handler sends to others, reserves, waits for, refuses or fails by.
 //!
 //! The sentences are for people: nothing of the answer, which is the report, depends on them.
 #![tactic(auto)]

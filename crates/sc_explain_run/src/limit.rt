@@ -1,4 +1,4 @@
-//! What is said of a run that didn't come to its end.
+//! The note on a run that didn't end.
 
 use crate::failure::Played;
 use crate::waits::count_of;
@@ -13,9 +13,9 @@ const MOST_TURNS: u32 = 10_000_000;
 /// Where a run ends in any case.
 #[derive(Clone, Copy)]
 pub enum Limit {
-    /// Behind so many turns.
+    /// After this number of turns.
     Turns(u32),
-    /// Where too much was printed, which is told elsewhere.
+    /// Too much was printed, which another line says.
     Output,
     /// With the record that it plays.
     Record,
@@ -53,7 +53,7 @@ fn is_any_busy(world: &World<'_>) -> bool {
     false
 }
 
-/// Adds that a run ended behind so many turns as it was to make, and what helps.
+/// Adds that a run ended after its limit of turns, and what helps.
 fn push_used_up(lines: &mut Lines, limit: u32, made: u64) {
     if made < u64::from(limit) {
         lines.push(" were made, and the record of the run has as many lines as it may have\n")

@@ -21,9 +21,9 @@ pub struct Earlier {
     /// How many handlers there were.
     handlers: usize,
     has_failed: bool,
-    /// Where it stood.
+    /// Its place before the turn.
     stand: Option<Span>,
-    /// Where the name of its routine stands.
+    /// The place of its routine's name.
     routine: Option<Span>,
 }
 
@@ -225,7 +225,7 @@ impl<'o> MadeTurn<'o> {
         }
     }
 
-    /// Begins a line: the turn, and of whom is told.
+    /// Begins a line with the turn and its handler.
     fn begin(&self, lines: &mut Lines, handler: HandlerNumber, words: &str) {
         lines.push_number(self.number);
         lines.push(" ");
@@ -262,7 +262,7 @@ impl<'o> MadeTurn<'o> {
         lines.push_number(u64::from(handler))
     }
 
-    /// Where it has asked another handler for something: it waits there, or has gone on.
+    /// The place at which it has sent something to another handler: it waits there, or has gone on.
     fn asked_at(&self) -> Option<Span> {
         if self.world.core().awaits(self.handler).is_some() {
             stand_in(self.origin, self.world, self.handler)
@@ -271,13 +271,13 @@ impl<'o> MadeTurn<'o> {
         }
     }
 
-    /// The part of the text that the operation was made of which its routine has done last.
+    /// The part of the text of the operation that its routine has executed last.
     fn behind(&self) -> Option<Span> {
         let top = self.world.region(self.handler)?.store().top()?;
         self.origin.span_at(top.routine, top.place.checked_sub(1)?)
     }
 
-    /// Where its routine was as it failed: at an operation, or behind one; or at its beginning.
+    /// The place of its routine as it failed: at an operation, or after one; or at its beginning.
     fn failed_at(&self, is_behind: bool) -> Option<Span> {
         let point = self.world.breakdown(self.handler)?.point?;
         if is_behind && point.place == 0 {
@@ -288,12 +288,12 @@ impl<'o> MadeTurn<'o> {
     }
 }
 
-/// Where a handler stands, if a routine of it runs.
+/// The place of a handler, if a routine of it runs.
 fn stand_in(origin: &RunSource<'_>, world: &World<'_>, handler: HandlerNumber) -> Option<Span> {
     Some(stand_of(origin, world, handler)?.span)
 }
 
-/// Where the name of the routine stands that a handler has come to.
+/// The place of the name of the routine that a handler is in.
 fn routine_in(origin: &RunSource<'_>, world: &World<'_>, handler: HandlerNumber) -> Option<Span> {
     let top = world.region(handler)?.store().top()?;
     Some(origin.text_of(top.routine)?.name)

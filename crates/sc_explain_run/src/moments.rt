@@ -1,4 +1,4 @@
-//! What there was in front of a turn of a run: what is lost behind it.
+//! The moments before a turn of a run, whose state is lost after it.
 
 use crate::clause::{push_attributes, push_false_clause, push_operation_values};
 use crate::failure::Played;
@@ -18,21 +18,21 @@ use sc_region::BrokenInvariant;
 use sc_world::World;
 use std::alloc::Global;
 
-/// Of how many turns this is told at most.
+/// The most turns that this is reported of.
 const MOST_MOMENTS: usize = 32;
 
-/// How many handlers are told at most that waited.
+/// The most waiting handlers that are reported.
 const MOST_CLIENTS: usize = 16;
 
-/// How many requests are told at most that were dropped behind a failure.
+/// The most requests dropped by a failure that are reported.
 const MOST_DROPPED: usize = 8;
 
-/// What a turn comes to.
+/// The result of a turn.
 #[derive(Clone, Copy)]
 pub enum Kind {
     /// The handler has failed.
     Failure,
-    /// It has refused a request for which nobody waits, or by which the one has failed that waited for it.
+    /// It has refused a request for which no handler waits, or whose waiting handler failed by that.
     Refusal,
 }
 
@@ -50,8 +50,8 @@ pub struct Moment {
     pub behind: Lines,
 }
 
-/// What there was in front of each failure of a run that has ended like this, and of each refusal for which nobody waited or by
-/// which a handler has failed. Where memory is refused, the lines lack something.
+/// The moments before each failure of a run with this end, and before each refusal for which no handler waited or by
+/// which one has failed. If memory is refused, the lines are incomplete.
 pub fn moments_of(
     origin: &RunSource<'_>,
     lines: &mut Lines,
@@ -73,8 +73,8 @@ pub fn moments_of(
     moments
 }
 
-/// Adds the failure of a handler, and the refusal of what it had asked for, if it has failed by that; and each of its refusals
-/// for which nobody waits.
+/// Adds the failure of a handler, and the refusal of its request, if it has failed by that; and each of its refusals
+/// for which no handler waits.
 fn add_of(
     alloc: Global,
     lines: &mut Lines,
@@ -111,7 +111,7 @@ fn add_of(
     }
 }
 
-/// Adds a moment of which nothing is told as yet, where there is room.
+/// Adds a moment that nothing is known of yet, if there is room.
 fn add(
     alloc: Global,
     lines: &mut Lines,
@@ -136,7 +136,7 @@ fn add(
     }
 }
 
-/// Tells of each moment where the run is played once more, of the earliest first.
+/// Fills in each moment as the run is played once more, the earliest first.
 fn tell_each<'o>(
     origin: &'o RunSource<'o>,
     lines: &mut Lines,
@@ -164,7 +164,7 @@ fn tell_each<'o>(
     }
 }
 
-/// The earliest moment that wasn't told of.
+/// The earliest moment that isn't filled in.
 fn earliest(moments: &[Moment]) -> Option<usize> {
     let mut found: Option<usize> = None;
     let mut least = usize::MAX;
@@ -267,8 +267,8 @@ impl<'o> Before<'o> {
         }
     }
 
-    /// Who waited for the handler, and who for that one, and so on: where each asked for what, and for whom. One that waited with a
-    /// routine and serves a callback now is told without its place.
+    /// Notes which handler waited for the failed one, which for that one, and so on: with what each requested, and
+    /// where. One that waited with a routine and serves a callback now gets no place.
     fn tell_clients(&self, moment: &mut Moment) {
         let mut handler = moment.handler;
         let mut end = moment.place.saturating_add(1);
@@ -299,7 +299,7 @@ impl<'o> Before<'o> {
         }
     }
 
-    /// Which requests stood behind the one that failed.
+    /// Notes which requests came after the one that failed.
     fn tell_dropped(&self, turn: &Turn, moment: &mut Moment) {
         let core = self.world.core();
         let handler = moment.handler;

@@ -10,17 +10,17 @@ use sc_source::source::Place;
 use sc_text::Span;
 use sc_world::World;
 
-/// How many callers of a routine are told at most.
+/// The most callers of a routine that are reported.
 const MOST_CALLERS: usize = 16;
 
-/// Where a handler stands: the part of the text, and the name of the routine.
+/// The place of a handler: the part of the text, and the name of the routine.
 #[derive(Clone, Copy)]
 pub struct Stand<'r> {
     pub span: Span,
     pub routine: &'r str,
 }
 
-/// Where a handler stands, if it has frames.
+/// The place of a handler, if it has frames.
 pub fn stand_of<'r>(
     origin: &RunSource<'r>,
     world: &World<'_>,
@@ -67,7 +67,7 @@ pub fn asked_feature(origin: &RunSource<'_>, asked: &Asked) -> Option<Span> {
     origin.feature_name(asked.class, name)
 }
 
-/// Adds the number of a handler behind these words, and the class of its root object.
+/// Adds the number of a handler after these words, and the class of its root object.
 pub fn push_name(
     origin: &RunSource<'_>,
     lines: &mut Lines,
@@ -105,7 +105,7 @@ pub fn push_request(origin: &RunSource<'_>, lines: &mut Lines, world: &World<'_>
     }
 }
 
-/// Adds where a handler stands in the text, if it has frames.
+/// Adds the place of a handler in the text, if it has frames.
 pub fn push_stand(
     origin: &RunSource<'_>,
     lines: &mut Lines,
@@ -119,8 +119,8 @@ pub fn push_stand(
     }
 }
 
-/// Adds where the routine stands that has called the one that a handler has come to, and where that is which has called that one,
-/// and so on, the innermost first, each on a line: as far as they serve the same request.
+/// Adds the place of the caller of the routine that a handler is in, that of its caller, and so on, the innermost
+/// first, each on a line: as far as they serve one request.
 pub fn push_callers(
     origin: &RunSource<'_>,
     lines: &mut Lines,
@@ -143,7 +143,7 @@ pub fn push_callers(
     }
 }
 
-/// Adds where a routine stands that has called another one.
+/// Adds the place of a routine that has called another one.
 fn push_caller(origin: &RunSource<'_>, lines: &mut Lines, caller: &Activation) {
     let place = caller.place.saturating_sub(1);
     if let Some(text) = origin.text_of(caller.routine)
@@ -154,7 +154,8 @@ fn push_caller(origin: &RunSource<'_>, lines: &mut Lines, caller: &Activation) {
     }
 }
 
-/// Adds the file, the line and the column at which a part of the text begins, behind these words: whether there is such a place.
+/// Adds the file, the line and the column at which a part of the text begins, after these words. Returns whether
+/// there is such a place.
 pub fn push_place(origin: &RunSource<'_>, lines: &mut Lines, before: &str, part: Span) -> bool {
     let Some(Place { file, line, column }) = origin.source.place_of(part.start as usize) else {
         return false;

@@ -1,4 +1,4 @@
-//! What a run is of, and where that stands in its text.
+//! A run's program, and the places of its parts in its text.
 
 use sc_code::{ClassText, ClauseText, FeatureCode, NameNumber, Program, RoutineText, TextSite};
 use sc_source::source::Source;
@@ -14,7 +14,7 @@ pub struct RunSource<'r> {
 }
 
 impl<'r> RunSource<'r> {
-    /// A part of the text, with the letters that stand there.
+    /// A part of the text, with its own letter case.
     pub fn written(&self, span: Span) -> &'r str {
         self.source
             .text()
@@ -27,12 +27,12 @@ impl<'r> RunSource<'r> {
         Some(self.written(self.class_text(class)?.name))
     }
 
-    /// Where the class at a number stands in the text.
+    /// The place of the class at a number in the text.
     fn class_text(&self, class: usize) -> Option<&'r ClassText> {
         Some(&self.program.classes().get(class)?.text)
     }
 
-    /// The number of the class in whose text a part stands.
+    /// The number of the class that contains a part of the text.
     pub fn class_around(&self, part: Span) -> Option<usize> {
         let mut found = None;
         for number in 0..self.program.classes().len() {
@@ -45,7 +45,7 @@ impl<'r> RunSource<'r> {
         found
     }
 
-    /// Where a routine stands in the text, and what its operations were made of.
+    /// The place of a routine in the text, and the parts that its operations were made of.
     pub fn text_of(&self, routine: usize) -> Option<&'r RoutineText> {
         Some(&self.program.routine(routine)?.text)
     }
@@ -55,12 +55,12 @@ impl<'r> RunSource<'r> {
         self.text_of(routine)?.sites.get(place).copied()
     }
 
-    /// The part of the text of which the operation at a place of a routine was made.
+    /// The part of the text that the operation at a place of a routine was made of.
     pub fn span_at(&self, routine: usize, place: usize) -> Option<Span> {
         Some(self.site_at(routine, place)?.span)
     }
 
-    /// Where the name of the feature stands that the name of this number is in a class.
+    /// The place of the name of the feature that the name of this number is in a class.
     pub fn feature_name(&self, class: usize, name: NameNumber) -> Option<Span> {
         let class = self.program.classes().get(class)?;
         match (*class.features.get(name as usize)?)? {

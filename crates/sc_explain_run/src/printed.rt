@@ -2,11 +2,11 @@
 
 use sc_explain_text::Lines;
 
-/// How many bytes of what a turn prints are told at most.
+/// The most bytes of what a turn prints that are shown.
 const MOST_BYTES: usize = 256;
 
-/// Adds what was printed as a string of the language, with its marks. A character that would change how a terminal shows what
-/// stands beside it is told by a question mark, and what is too long ends by two dots.
+/// Adds what was printed as a string of the language, with its escapes. A character that would change how a terminal
+/// shows its neighbours is shown as a question mark, and what is too long ends with two dots.
 pub fn push_printed(lines: &mut Lines, printed: &[u8]) {
     lines.push("\"");
     if let Ok(text) = str::from_utf8(printed) {
@@ -34,7 +34,7 @@ fn push_character(lines: &mut Lines, character: char) {
     }
 }
 
-/// What is told in place of a character.
+/// The escape that is shown in place of a character.
 fn mark_of(character: char) -> Option<&'static str> {
     match character {
         '\n' => Some("%N"),

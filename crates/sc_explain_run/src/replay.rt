@@ -4,7 +4,8 @@ use sc_audit::RecordLine;
 use sc_world::{Turned, World};
 use std::alloc::AllocError;
 
-/// How far the record of a run is played once more, each of its turns settled by itself, so that the log tells of each.
+/// The part of a run's record that was played once more, each of its turns settled by itself, so that the log has
+/// each.
 #[derive(Clone, Copy)]
 pub struct Replay {
     /// The line that is played, and how many turns of it are made.
@@ -18,7 +19,7 @@ impl Replay {
         Replay { line: 0, made: 0 }
     }
 
-    /// Plays on in the world of these lines until so many turns are made in all, or the record ends.
+    /// Plays on in the world of these lines until this number of turns are made in all, or the record ends.
     pub fn advance(
         &mut self,
         world: &mut World<'_>,

@@ -20,7 +20,7 @@ pub struct Scene<'o, 'r> {
 }
 
 impl<'o, 'r> Scene<'o, 'r> {
-    /// Adds a handler: what it holds, what it waits for, and where it stands.
+    /// Adds a handler: what it holds, what it waits for, and its place.
     pub fn push_handler(&self, lines: &mut Lines, handler: HandlerNumber, wait: Wait) {
         self.push_name(lines, "handler ", handler);
         self.push_held(lines, handler);
@@ -108,7 +108,7 @@ impl<'o, 'r> Scene<'o, 'r> {
         }
     }
 
-    /// Adds which requests stand at a handler that waits, if any do: whether some do.
+    /// Adds the requests in the queue of a handler that waits, if there are any. Returns whether there are.
     pub fn push_requests(&self, lines: &mut Lines, handler: HandlerNumber) -> bool {
         let count = self.world.core().queue_len(handler);
         let Some(request) = self.world.core().asked_at(handler, 0) else {

@@ -1,4 +1,4 @@
-//! What one operation of a routine comes to.
+//! The result of one operation of a routine.
 
 use crate::evaluation::Evaluation;
 use crate::operators::{binary_value, decided_by, unary_value};
@@ -119,7 +119,7 @@ impl<'r> Evaluation<'r> {
         }
     }
 
-    /// Tells whether the last operand is Void. Where it isn't, it goes into the slot.
+    /// Tests whether the last operand is Void. If it isn't, it is written to the slot.
     pub fn test(&mut self, slot: usize) -> bool {
         match self.pop() {
             None => false,

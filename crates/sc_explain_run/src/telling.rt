@@ -1,4 +1,4 @@
-//! Of whom is spoken, and in which order.
+//! Which handlers are reported, and in which order.
 
 use crate::chains::{Chains, Cycle};
 use crate::origin::RunSource;
@@ -9,12 +9,13 @@ use sc_explain_text::Lines;
 use sc_lockpass::HandlerNumber;
 use sc_world::World;
 
-/// How many handlers are told of at most, beside those of cycles.
+/// The most handlers that are reported, beside those of cycles.
 const MOST_TOLD: usize = 64;
 
-/// Adds why handlers wait or are busy where the turns of a world have stopped; nothing where each is free or has failed:
-/// first the cycles of handlers that wait for each other, then those that wait for a condition, then the others that wait, each
-/// with the chain that it waits in, then those that are busy, and last the requests that stand where nobody takes them.
+/// Adds why handlers wait or are busy after the turns of a world have stopped; nothing if each is free or has failed.
+/// First come the cycles of handlers that wait for each other, then those that wait for a condition, then the others
+/// that wait, each with the chain that it waits in, then those that are busy, and last the requests that no handler
+/// takes.
 pub fn push_waits(origin: &RunSource<'_>, lines: &mut Lines, world: &World<'_>) {
     let chains = Chains::of(origin.alloc, lines, world);
     let heading = if chains.is_any_busy {
@@ -41,33 +42,34 @@ pub fn push_waits(origin: &RunSource<'_>, lines: &mut Lines, world: &World<'_>) 
     note.tell_each(lines, Part::Requests)
 }
 
-/// What is told of the handlers, one after the other.
+/// A part of the report on handlers, one after the other.
 #[derive(Clone, Copy)]
 enum Part {
     /// Each cycle of handlers that wait for each other.
     Cycles,
     /// Those that wait for a condition.
     Conditions,
-    /// Each chain of handlers that wait for one that was told of, or for one that is busy, from one that no other waits for.
+    /// Each chain of handlers that wait for one that was reported, or for one that is busy, from one that no other
+    /// waits for.
     Chains,
-    /// Those that wait or are busy and were not told of.
+    /// Those that wait or are busy and were not reported.
     Others,
-    /// What stands in the queues of those that wait.
+    /// The queues of those that wait.
     Requests,
 }
 
-/// Of whom is spoken.
+/// What the report is about.
 #[derive(Drop)]
 struct Note<'o, 'r> {
     scene: Scene<'o, 'r>,
     chains: Chains,
-    /// What stands in front of the next that waits for a condition.
+    /// The words before the next handler that waits for a condition.
     heading: &'static str,
     /// Of how many handlers more is said.
     room: usize,
     /// Of how many nothing is said for lack of room.
     left_out: usize,
-    /// The requests of how many handlers more are told.
+    /// How many further handlers have their requests reported.
     room_of_requests: usize,
 }
 
@@ -117,7 +119,7 @@ impl<'o, 'r> Note<'o, 'r> {
         }
     }
 
-    /// The handlers from this one on, each of which waits for the next.
+    /// Reports the handlers from this one on that each wait for the next.
     fn tell_chain(&mut self, lines: &mut Lines, first: HandlerNumber) {
         let length = self.chains.chain_length(first);
         if self.room > 0 && length > 1 {
@@ -127,7 +129,7 @@ impl<'o, 'r> Note<'o, 'r> {
         self.tell_path(lines, first, length)
     }
 
-    /// Adds so many handlers, each of which waits for the next, behind these words.
+    /// Adds this number of handlers that each wait for the next, after these words.
     fn push_path(
         &self,
         lines: &mut Lines,
@@ -145,7 +147,7 @@ impl<'o, 'r> Note<'o, 'r> {
         }
     }
 
-    /// So many handlers, each of which waits for the next.
+    /// Reports this number of handlers that each wait for the next.
     fn tell_path(&mut self, lines: &mut Lines, first: HandlerNumber, length: usize) {
         let mut handler = first;
         for _member in 0..length {
@@ -154,7 +156,7 @@ impl<'o, 'r> Note<'o, 'r> {
         }
     }
 
-    /// A handler, where it wasn't told of and there is room.
+    /// Reports a handler, if it wasn't reported and there is room.
     fn tell(&mut self, lines: &mut Lines, handler: HandlerNumber) {
         let member = self.chains.at(handler);
         if member.is_told {

@@ -1,4 +1,4 @@
-//! A run that is told as it goes on.
+//! A run that is described as it goes on.
 
 use crate::made_turn::{Earlier, MadeTurn};
 use crate::origin::RunSource;
@@ -11,7 +11,7 @@ use sc_source::source::Source;
 use sc_world::{Turned, World};
 use std::alloc::{AllocError, Global};
 
-/// Which turns are told.
+/// Which turns are reported.
 #[derive(Clone, Copy)]
 pub enum Told {
     /// Those that print or concern other handlers.
@@ -20,8 +20,8 @@ pub enum Told {
     Printed,
 }
 
-/// Makes the turns of a run once more, as its record goes on, and tells of each what a person follows. It has a world of its
-/// own, so the run is what it would be without it.
+/// Makes the turns of a run once more, as its record goes on, and describes each for a person who follows it. It has
+/// a world of its own, so the run is what it would be without it.
 #[derive(Drop)]
 pub struct Tracer<'r> {
     origin: RunSource<'r>,
@@ -33,10 +33,9 @@ pub struct Tracer<'r> {
 }
 
 impl<'r> Tracer<'r> {
-    /// At the opening of the program of a source text, where there may be as many handlers as the version has.
+    /// At the opening of the program of a source text, with the version's limit on handlers.
     ///
-    /// # Errors
-    /// Where there is no memory.
+    /// # Errors Memory ran out.
     pub fn open(
         alloc: Global,
         source: &'r Source,
@@ -59,10 +58,10 @@ impl<'r> Tracer<'r> {
         })
     }
 
-    /// Makes the turns of a line of the record: what is told of them. A turn of a handler that has nothing to do is none.
+    /// Makes the turns of a line of the record, and returns their description. A turn of a handler that has no job is
+    /// none.
     ///
-    /// # Errors
-    /// Where there is no memory.
+    /// # Errors Memory ran out.
     pub fn play(&mut self, line: RecordLine) -> Result<Vec<u8>, AllocError> {
         let mut lines = Lines::new(self.origin.alloc);
         for _turn in 0..line.turns {

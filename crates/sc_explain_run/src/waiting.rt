@@ -1,4 +1,4 @@
-//! Who was told to wait.
+//! Which handlers were reported to wait.
 
 use sc_lockpass::HandlerNumber;
 use std::alloc::{AllocError, Global};
@@ -6,7 +6,7 @@ use std::alloc::{AllocError, Global};
 /// How many handlers there may be.
 const MOST_HANDLERS: usize = 512;
 
-/// The handlers of which was told that they wait to reserve others, since their last reservation.
+/// The handlers that were reported to wait to reserve others, since their last reservation.
 #[derive(Drop)]
 pub struct Waiting {
     told: Vec<bool>,
@@ -20,12 +20,12 @@ impl Waiting {
         })
     }
 
-    /// Whether it was told of a handler.
+    /// Whether a handler was reported.
     pub fn is_told(&self, handler: HandlerNumber) -> bool {
         self.told.get(handler as usize).copied().unwrap_or(true)
     }
 
-    /// It is told of a handler, or it has reserved what it was to.
+    /// Notes that a handler was reported, or that it has reserved what it waited for.
     pub fn set(&mut self, handler: HandlerNumber, is_told: bool) {
         if let Some(place) = self.told.get_mut(handler as usize) {
             *place = is_told;

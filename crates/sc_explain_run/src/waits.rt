@@ -36,7 +36,8 @@ pub fn count_of(world: &World<'_>) -> u16 {
     world.handler_count().min(u16::MAX as usize) as u16
 }
 
-/// Who keeps others from reserving a handler: the one that holds it, or itself where it isn't idle. None where it can be had.
+/// The handler that keeps others from reserving a handler: its holder, or itself if it isn't idle. None if it can be
+/// reserved.
 pub fn keeper_of(core: &Core, handler: HandlerNumber) -> Option<HandlerNumber> {
     match (core.holder(handler), core.status(handler)) {
         (Some(holder), _) => Some(holder),
@@ -77,7 +78,8 @@ fn is_unkept(core: &Core, handler: HandlerNumber) -> bool {
     true
 }
 
-/// The routine that a handler has come to last, how far it is there, and whether it is to reserve the handlers of its formals.
+/// The routine that a handler entered last, how far it is in it, and whether it is to reserve the handlers of its
+/// formals.
 #[derive(Clone, Copy)]
 pub struct Standing {
     pub routine: usize,
@@ -86,7 +88,7 @@ pub struct Standing {
     pub is_entry: bool,
 }
 
-/// Where a handler stands, if it has frames.
+/// The place of a handler, if it has frames.
 pub fn standing_of(world: &World<'_>, handler: HandlerNumber) -> Option<Standing> {
     let top = world.region(handler)?.store().top()?;
     let is_behind = matches!(top.stage, Stage::ReservesBlock | Stage::Awaits { .. });

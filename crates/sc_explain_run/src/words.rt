@@ -1,4 +1,4 @@
-//! What stands at a place of a routine, in words.
+//! A place of a routine, in words.
 
 use crate::origin::RunSource;
 use sc_code::{Assertion, RoutineText, SiteKind, TextSite};
@@ -7,13 +7,13 @@ use sc_model::Cause;
 use sc_text::Span;
 use sc_tree::UnaryOperator;
 
-/// Adds the name of a routine and that of the class in which it stands.
+/// Adds the name of a routine and that of its class.
 pub fn push_routine(origin: &RunSource<'_>, lines: &mut Lines, text: &RoutineText) {
     let class = class_name(origin, text.class);
     lines.push_all(&["in `", origin.written(text.name), "` of ", class, ", "])
 }
 
-/// Adds what stands at a place of a routine where a handler failed by this cause.
+/// Adds what is at a place of a routine whose handler failed there with this cause.
 pub fn push_site(
     origin: &RunSource<'_>,
     lines: &mut Lines,
@@ -74,7 +74,7 @@ pub fn push_clause(origin: &RunSource<'_>, lines: &mut Lines, tag: Option<Span>)
     }
 }
 
-/// Adds that a clause is false, and from which class it is, unless that is told anyway.
+/// Adds that a clause is false, and its class, unless that is reported anyway.
 pub fn push_false(origin: &RunSource<'_>, lines: &mut Lines, class: usize, is_told: bool) {
     if !is_told {
         lines.push_all(&[" from ", class_name(origin, class)]);

@@ -11,7 +11,7 @@ IsSameWord a b = map to_ascii_lowercase a ≡ map to_ascii_lowercase b
 abbrev pub heading_of : List ℕ → List ℕ
 heading_of page = before_first (λ b. b == 10) page
 
--- The word is what stands before the first space of the page's first line, its code, or what stands after it, its name.
+-- The word is the code, before the first space of the page's first line, or the name after it.
 abbrev pub IsPageOf : List ℕ → List ℕ → Type 0
 IsPageOf page word =
     IsSameWord (before_first (λ b. b == 32) (heading_of page)) word

@@ -10,15 +10,15 @@ use std::alloc::Global;
 /// The most bytes of a beginning for which it is tried how it may go on.
 const MOST: usize = 4_096;
 
-/// What stands for classes and routines that are whole: behind it a text goes on as behind them.
+/// In place of whole classes and routines: a text goes on after it as after them.
 const ROUTINE: &str = "class x feature x do end";
 
-/// What stands for instructions that are whole.
+/// In place of whole instructions.
 const INSTRUCTION: &str = "check end";
 
-/// What a text begins with up to a place, or what goes on in the same ways and is shorter: classes and routines that end
-/// before that place are left out, and instructions that are whole there, and what is no token. Where memory is refused to
-/// some of it, it is lacking.
+/// The beginning of a text up to a place, or a shorter one that goes on in the same ways: without classes and
+/// routines that end before that place, instructions that are whole there, and anything that is no token. If memory
+/// is refused to a part of it, that is missing.
 #[derive(Drop)]
 pub struct Beginning {
     alloc: Global,
@@ -27,8 +27,9 @@ pub struct Beginning {
 }
 
 impl Beginning {
-    /// That of a text of which these are the first tokens. Behind them stands this in the text up to its fault, and then the
-    /// word at fault, if the text has one there: where what is shorter doesn't go on so, nothing is left out.
+    /// The beginning of a text with these first tokens. After them come this part of the text up to its fault, and
+    /// then the word at fault, if the text has one there: if a shorter beginning doesn't go on so, nothing is left
+    /// out.
     pub fn of(
         alloc: Global,
         lines: &mut Lines,
@@ -89,13 +90,13 @@ impl Beginning {
         self.text.len() <= MOST
     }
 
-    /// Whether a system begins with it and this behind it, and none with that and the word at fault.
+    /// Whether a system begins with it and this text, and none with these and the word at fault.
     fn goes_as(&self, lines: &mut Lines, between: &str, fault: &str) -> bool {
         self.goes_on(lines, between, "")
             && (fault.is_empty() || !self.goes_on(lines, between, fault))
     }
 
-    /// Whether a system begins with it and these two behind it. The lines lack something where memory runs out.
+    /// Whether a system begins with it and these two texts. The lines are incomplete if memory runs out.
     pub fn goes_on(&self, lines: &mut Lines, behind: &str, last: &str) -> bool {
         if self.is_lacking {
             lines.lack();

@@ -5,8 +5,8 @@ use crate::lines::Lines;
 use crate::reading::first_bytes;
 use sc_text::Span;
 
-/// Adds what is said of the character that begins here and begins no token, and what is written in its place, or why it
-/// can't stand there.
+/// Adds an explanation of the character that begins here and begins no token: what is written in its place, or why it
+/// isn't allowed there.
 pub fn explain_character(lines: &mut Lines, text: &str, span: Span) {
     let from = text.get(span.start as usize..).unwrap_or("");
     let character = first_character(from);
@@ -20,7 +20,7 @@ pub fn explain_character(lines: &mut Lines, text: &str, span: Span) {
     }
 }
 
-/// The first character of a text; nothing where it has none.
+/// The first character of a text; nothing if it is empty.
 fn first_character(text: &str) -> &str {
     for length in 1..5_usize {
         let character = first_bytes(text, length);

@@ -1,9 +1,9 @@
-//! What could stand at a place at which no system goes on.
+//! What may be at a place at which no system goes on.
 
 use crate::beginning::Beginning;
 use crate::lines::Lines;
 
-/// What is tried, a line each: how it is called, and behind a tab a token of it.
+/// What is tried, a line each: its name, a tab, and one of its tokens.
 const TOKENS: &str = "\
 a name\tx
 an integer\t1
@@ -71,14 +71,14 @@ a string\t\"\"
 `{`\t{
 `}`\t}";
 
-/// Adds a line that says which tokens may stand behind a beginning, where it is short enough to try them all.
+/// Adds a line with the tokens that may follow a beginning, if it is short enough to try them all.
 pub fn push_expected(lines: &mut Lines, beginning: &Beginning) {
     if beginning.is_short() {
         push_all_expected(lines, beginning, TOKENS)
     }
 }
 
-/// Adds the same of these tokens.
+/// Adds a line with those of these tokens that may follow a beginning.
 fn push_all_expected(lines: &mut Lines, beginning: &Beginning, tokens: &str) {
     let mut is_first = true;
     for row in tokens.lines() {

@@ -4,8 +4,8 @@ use crate::instead::{NAMES, SIGNS, WORDS};
 use crate::lines::Lines;
 use crate::reading::first_bytes;
 
-/// Adds a line that says what is written in place of what this name shows, of which nothing is known, and whether there
-/// is one.
+/// Adds a line with what is written in place of the construct that this unknown name shows. Returns whether there is
+/// one.
 pub fn push_instead_of(lines: &mut Lines, name: &str) -> bool {
     push_instead_of_word(lines, name) || push_among(lines, NAMES, name)
 }
@@ -26,8 +26,8 @@ fn push_among(lines: &mut Lines, known: &str, word: &str) -> bool {
     false
 }
 
-/// Adds a line that says what is written in place of signs that a text begins with, of so many bytes at least, and
-/// whether there is one.
+/// Adds a line with what is written in place of signs that a text begins with, of at least this number of bytes.
+/// Returns whether there is one.
 pub fn push_instead_at(lines: &mut Lines, text: &str, least: usize) -> bool {
     match sign_among(SIGNS, text, least) {
         None => false,
@@ -35,7 +35,8 @@ pub fn push_instead_at(lines: &mut Lines, text: &str, least: usize) -> bool {
     }
 }
 
-/// What is written in place of the construct among these that a text begins with, by signs of so many bytes at least.
+/// What is written in place of the construct among these that a text begins with, by signs of at least this number of
+/// bytes.
 fn sign_among<'f>(known: &'f str, text: &str, least: usize) -> Option<&'f str> {
     for row in known.lines() {
         if let Some((spelt, instead)) = row.rsplit_once('\t')
@@ -62,7 +63,8 @@ fn is_among(words: &str, word: &str) -> bool {
     false
 }
 
-/// Whether the text begins with one of these signs, which have tabs between, of so many bytes at least, in any letter case.
+/// Whether the text begins with one of these signs, separated by tabs, of at least this number of bytes, in any
+/// letter case.
 fn begins_with(signs: &str, text: &str, least: usize) -> bool {
     for sign in signs.split('\t') {
         let beginning = first_bytes(text, sign.len());

@@ -20,9 +20,9 @@ struct Stop<'t> {
     span: Span,
 }
 
-/// Adds what is said of a text of which no system begins with the text up to the end of this part: what is written in
-/// place of a construct that isn't here, a word that was meant, or else what may stand there. Then the construct that
-/// hasn't ended, where it goes with the fault. The lines lack something where memory runs out.
+/// Adds an explanation of a text with which no system begins, up to the end of this part: what is written in place of
+/// a construct that isn't in the language, a word that was meant, or else what may be there. Then the construct that
+/// hasn't ended, if it belongs to the fault. The lines are incomplete if memory runs out.
 pub fn explain_grammar(
     alloc: Global,
     lines: &mut Lines,
@@ -43,7 +43,7 @@ pub fn explain_grammar(
     }
 }
 
-/// The number of the first token that begins at this part or behind it.
+/// The number of the first token that begins at this part or after it.
 fn number_of(tokens: &[Token], span: Span) -> usize {
     for (number, token) in tokens.iter().enumerate() {
         if token.span.start >= span.start {
@@ -67,20 +67,20 @@ impl<'t> Stop<'t> {
         open_construct(alloc, lines, self.text, self.before(0))
     }
 
-    /// What the text begins with before the token that stands so many before that at fault.
+    /// The beginning of the text before the token `back` tokens before the one at fault.
     fn beginning(self, alloc: Global, lines: &mut Lines, back: usize) -> Beginning {
         let between = self.text_between(back, self.start(0));
         let fault = self.word(0);
         Beginning::of(alloc, lines, self.text, self.before(back), between, fault)
     }
 
-    /// The token that stands so many before that at fault; none behind the last.
+    /// The token `back` tokens before the one at fault; none after the last.
     fn token(self, back: usize) -> Option<&'t Token> {
         self.tokens.get(self.number.saturating_sub(back))
     }
 
-    /// How the token is spelt that stands so many before that at fault; nothing where the text ends before its last class
-    /// does.
+    /// The spelling of the token `back` tokens before the one at fault; nothing if the text ends before its last
+    /// class does.
     fn word(self, back: usize) -> &'t str {
         match self.token(back) {
             None => "",
@@ -88,7 +88,7 @@ impl<'t> Stop<'t> {
         }
     }
 
-    /// Where the token begins that stands so many before that at fault; else the end of the text.
+    /// The start of the token `back` tokens before the one at fault; else the end of the text.
     fn start(self, back: usize) -> usize {
         match self.token(back) {
             None => self.text.len(),
@@ -96,13 +96,13 @@ impl<'t> Stop<'t> {
         }
     }
 
-    /// The text from the token that stands so many before that at fault to this place.
+    /// The text from the token `back` tokens before the one at fault to this place.
     fn text_between(self, back: usize, end: usize) -> &'t str {
         let start = self.start(back);
         self.text.get(start..end).unwrap_or("")
     }
 
-    /// The tokens before that which stands so many before that at fault.
+    /// The tokens before the one `back` tokens before that at fault.
     fn before(self, back: usize) -> &'t [Token] {
         let number = self.number.saturating_sub(back);
         self.tokens.get(..number).unwrap_or(self.tokens)
@@ -146,13 +146,14 @@ impl<'t> Stop<'t> {
             || self.push_sign_at(lines, 0, 1)
     }
 
-    /// The same of signs of so many bytes at least that begin at the token so many before that at fault.
+    /// Adds a line with what is written in place of signs of at least this number of bytes, from the token `back`
+    /// tokens before the one at fault. Returns whether there is one.
     fn push_sign_at(self, lines: &mut Lines, back: usize, least: usize) -> bool {
         let from = self.text_between(back, self.text.len());
         self.is_sign(back) && push_instead_at(lines, from, least)
     }
 
-    /// Whether so many tokens before that at fault stands no name and no number.
+    /// Whether the token `back` tokens before the one at fault is no name and no number.
     fn is_sign(self, back: usize) -> bool {
         match self.kind(back) {
             Some(TokenKind::Terminal(_)) => true,
@@ -161,14 +162,14 @@ impl<'t> Stop<'t> {
         }
     }
 
-    /// What the token is that stands so many before that at fault.
+    /// The kind of the token `back` tokens before the one at fault.
     fn kind(self, back: usize) -> Option<&'t TokenKind> {
         let token = self.tokens.get(self.number.checked_sub(back)?)?;
         Some(&token.kind)
     }
 
-    /// Adds what is written in place of a construct that a word shows which stands in the line before the fault and is
-    /// declared nowhere.
+    /// Adds a line with what is written in place of a construct that is shown by a word in the line before the fault,
+    /// if that word is declared nowhere.
     fn push_word_in_line(self, lines: &mut Lines) -> bool {
         for token in self.tokens_in_line() {
             if let TokenKind::Name(name) = &token.kind {
@@ -180,7 +181,7 @@ impl<'t> Stop<'t> {
         false
     }
 
-    /// Whether the name stands somewhere as one that is declared or assigned.
+    /// Whether the name is declared or assigned somewhere.
     fn is_declared(self, name: &str) -> bool {
         let mut is_name = false;
         for token in self.tokens {
@@ -192,7 +193,7 @@ impl<'t> Stop<'t> {
         false
     }
 
-    /// The tokens that stand in the line of the fault before it, eight at the most.
+    /// The tokens in the line of the fault before it, at most eight.
     fn tokens_in_line(self) -> &'t [Token] {
         let mut first = self.number;
         for number in (self.number.saturating_sub(8)..self.number).rev() {
@@ -204,7 +205,7 @@ impl<'t> Stop<'t> {
         self.tokens.get(first..self.number).unwrap_or(&[])
     }
 
-    /// Whether the token of this number stands in the line of the fault.
+    /// Whether the token of this number is in the line of the fault.
     fn is_in_line(self, number: usize) -> bool {
         match self.tokens.get(number) {
             None => false,
@@ -232,7 +233,7 @@ impl<'t> Stop<'t> {
         false
     }
 
-    /// The word that is near to the name so many tokens before that at fault, if that is a token.
+    /// The word that is similar to the name `back` tokens before the one at fault, if that is a token.
     fn near(self, back: usize) -> Option<&'static str> {
         self.kind(0)?;
         match self.kind(back) {
@@ -241,13 +242,13 @@ impl<'t> Stop<'t> {
         }
     }
 
-    /// Whether a system goes on further with this word in place of what stands so many tokens before that at fault.
+    /// Whether a system goes on further with this word in place of the token `back` tokens before the one at fault.
     fn is_better(self, alloc: Global, lines: &mut Lines, back: usize, word: &str) -> bool {
         let beginning = self.beginning(alloc, lines, back);
         beginning.is_short() && beginning.goes_on(lines, word, self.text_behind(back))
     }
 
-    /// The text behind the token that stands so many before that at fault, to the end of that.
+    /// The text after the token `back` tokens before the one at fault, to its end.
     fn text_behind(self, back: usize) -> &'t str {
         match back.checked_sub(1) {
             None => "",
@@ -275,7 +276,7 @@ fn is_named(kind: &TokenKind, name: &str) -> bool {
     }
 }
 
-/// Whether this stands behind a name that is declared or assigned.
+/// Whether this comes after a name that is declared or assigned.
 fn is_behind_declared(kind: &TokenKind) -> bool {
     match kind {
         TokenKind::Terminal(Terminal::Colon | Terminal::Comma | Terminal::Becomes) => true,

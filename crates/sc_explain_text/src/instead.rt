@@ -1,9 +1,10 @@
 //! The constructs of Eiffel and of other languages that aren't here, and what is written in their place.
 //!
-//! docs/COMING_FROM.md has the same table, which `.ci/documents` writes there. Each line has, with tabs between, how constructs
-//! are spelt that the same is written for, by a word or the characters that they begin with, and last what is written in their place.
+//! docs/users/COMING_FROM.md has the same table, which `.ci/documents` writes there. Each line has, with tabs
+//! between, the spellings of a construct, by a word or the characters that it begins with, and last what is written
+//! in its place.
 
-/// Constructs that begin with these characters. Of those that begin alike the longest stands first.
+/// Constructs that begin with these characters. Of those with a common beginning the longest comes first.
 pub const SIGNS: &str = "\
 ()\ta call without actuals is the name alone, as `f`
 ==\t===\t`=` compares, and `:=` assigns
@@ -52,7 +53,7 @@ extends\timplements\t`inherit` names the parent
 import\tinclude\tusing\tpackage\tnamespace\tmodule\tthe files of a system are all named on the command line
 io\tprintf\tprintln\tputs\twriteln\tput_string\tput_integer\tnew_line\t`print` takes an INTEGER, a BOOLEAN or a text, whose `%N` ends a line: `print (\"..%N\")`";
 
-/// Constructs that are shown by a name, where nothing is declared that has it.
+/// Constructs that are shown by a name, if nothing is declared with it.
 pub const NAMES: &str = "\
 out\tto_string\t`print` takes an INTEGER or a BOOLEAN as it is
 is_equal\tequal\ttwin\tcopy\tclone\tdefault_create\tgenerating_type\tANY has no feature but `print`: declare one in the class

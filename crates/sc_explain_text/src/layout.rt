@@ -11,20 +11,19 @@ use std::alloc::Global;
 #[derive(Drop)]
 pub struct Layout {
     open: Vec<Opening>,
-    /// The first construct that was ended by an `end` which stands further left than its own would.
+    /// The first construct that was ended by an `end` further left than its own would be.
     early: Option<Span>,
     /// How many tokens there are up to the end of the last class, or of the last routine in it.
     pub settled: usize,
     /// Whether that is a routine's end.
     pub is_in_class: bool,
-    /// The instructions behind that which are whole, in their order: behind each of these another one stands or may
-    /// begin.
+    /// The whole instructions after that, in their order: after each of these another one follows or may begin.
     pub whole: Vec<Part>,
     /// Whether memory was refused to some of it.
     pub is_lacking: bool,
 }
 
-/// Tokens that stand side by side: the number of the first, and of the one behind the last.
+/// Tokens in a row: the number of the first, and of the one after the last.
 #[derive(Clone, Copy)]
 pub struct Part {
     pub start: usize,
@@ -39,7 +38,7 @@ struct Opening {
     whole: Option<Part>,
     /// Whether it is a separate block whose `do` is still to come.
     waits_for_do: bool,
-    /// The least column, from 0, at which its `end` is taken to stand, where that is the first word of its line.
+    /// The least column, from 0, at which its `end` is expected, if that is the first word of its line.
     least: usize,
 }
 
@@ -117,8 +116,8 @@ impl Layout {
         }
     }
 
-    /// Does what a word between the parts of a construct does, or one that begins or ends an instruction: the token of
-    /// this number, behind this one.
+    /// Takes a word between the parts of a construct, or one that begins or ends an instruction: the token of this
+    /// number, after this one.
     fn turn(&mut self, terminal: Terminal, last: Option<Terminal>, number: usize) {
         let behind = number.saturating_add(1);
         match terminal {
@@ -179,7 +178,7 @@ impl Layout {
         }
     }
 
-    /// Does what the token of this number does, which stands at this place.
+    /// Takes the token of this number, at this place.
     fn take(&mut self, step: Step, text: &str, margin: Margin, number: usize, span: Span) {
         match step {
             Step::Opens(waits_for_do) => {
@@ -211,7 +210,7 @@ impl Layout {
         }
     }
 
-    /// The least column at which the `end` of what begins here is taken to stand.
+    /// The least column at which the `end` of what begins here is expected.
     fn least(&self, margin: Margin) -> usize {
         if self.open.len() == 1 {
             margin.indent.min(1)
@@ -298,7 +297,7 @@ fn step_of(terminal: Terminal, last: Option<Terminal>, open: Option<&Opening>) -
     }
 }
 
-/// Whether a `separate` behind this token belongs to a type and begins no block.
+/// Whether a `separate` after this token belongs to a type and begins no block.
 fn is_before_type(last: Terminal) -> bool {
     match last {
         Terminal::Colon | Terminal::OpenBrace | Terminal::Question => true,

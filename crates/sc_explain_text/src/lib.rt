@@ -1,11 +1,11 @@
-//! What each code stands for that the program answers, a page for each: [`find`] finds the page of a code, and [`list`]
-//! tells the codes and their names. A page begins with a line of the code and the name, or of the name where there is no
-//! code. Then it says what that stands for, with examples and their answers, and why it is so. Each example is a whole text,
-//! indented.
+//! What each code means that the program answers, a page for each: [`find`] finds the page of a code, and [`list`]
+//! lists the codes and their names. A page begins with a line of the code and the name, or of the name if there is
+//! no code. Then it says what that means, with examples and their answers, and why it is so. Each example is a whole
+//! text, indented.
 //!
-//! And what helps with a text that is no system, or with a name that isn't known: what is written in place of a construct of
-//! Eiffel or of another language that isn't here, a word that is near, what may stand at a place, and the construct that
-//! was meant to end. See [`explain_grammar`].
+//! And what helps with a text that is no system, or with a name that isn't known: what is written in place of a
+//! construct of Eiffel or of another language that isn't here, a word that is similar, what may be at a place, and
+//! the construct that was meant to end. See [`explain_grammar`].
 //!
 //! What is said is for people: nothing else depends on it.
 #![tactic(auto)]

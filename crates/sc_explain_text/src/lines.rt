@@ -2,7 +2,7 @@
 
 use std::alloc::{AllocError, Global};
 
-/// How many bytes of a part of a text are told at most.
+/// The most bytes of a part of a text that are shown.
 const MOST_BYTES: usize = 120;
 
 /// Lines, to which words are added. Where memory is refused to some of them they are lacking, and all is no answer in the end.
@@ -76,7 +76,7 @@ impl Lines {
         self.is_lacking = true;
     }
 
-    /// The lines, where nothing is lacking.
+    /// The lines, if nothing is missing.
     pub fn finish(self) -> Result<Vec<u8>, AllocError> {
         if self.is_lacking {
             return Err(AllocError);

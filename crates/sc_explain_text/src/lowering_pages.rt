@@ -1,4 +1,4 @@
-//! What a system is refused for behind the rules: its code is too long.
+//! What a system is refused for after the rules: its code is too long.
 
 /// A page for what has a name and no code.
 pub fn pages() -> &'static [&'static str] {

@@ -1,12 +1,12 @@
-//! How far a text is indented where its tokens stand.
+//! How far a text is indented at its tokens.
 
-/// A place in a text that goes on from token to token, with what stands before it in its line.
+/// A place in a text that moves from token to token, with the part of its line before it.
 #[derive(Clone, Copy)]
 pub struct Margin {
     place: usize,
     /// How many blanks and tabs its line begins with.
     pub indent: usize,
-    /// Whether nothing else stands before it in its line.
+    /// Whether only blanks come before it in its line.
     pub is_blank: bool,
 }
 

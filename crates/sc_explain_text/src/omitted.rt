@@ -5,7 +5,7 @@ use crate::reading::tokens_of;
 use sc_text::{Terminal, Token, TokenKind};
 use std::alloc::{AllocError, Global};
 
-/// How many comments stand in a text, and whether there are notes, a line for each. Its canonical text has none of them.
+/// The number of comments in a text, and whether it has notes, a line for each. Its canonical text has none of them.
 pub fn left_out(alloc: Global, text: &str) -> Result<Vec<u8>, AllocError> {
     let mut lines = Lines::new(alloc);
     if let Some(tokens) = tokens_of(alloc, &mut lines, text) {
@@ -14,7 +14,7 @@ pub fn left_out(alloc: Global, text: &str) -> Result<Vec<u8>, AllocError> {
     lines.finish()
 }
 
-/// Adds the same of a text of these tokens.
+/// Adds the number of comments in a text of these tokens, and whether it has notes.
 fn push_left_out(lines: &mut Lines, text: &str, tokens: &[Token]) {
     let comments = comment_count(text.as_bytes(), tokens);
     if comments > 0 {
@@ -44,7 +44,7 @@ fn begins_note(token: &Token) -> bool {
     )
 }
 
-/// How many comments stand between the tokens of a text.
+/// The number of comments between the tokens of a text.
 fn comment_count(text: &[u8], tokens: &[Token]) -> usize {
     let mut count = 0usize;
     let mut end = 0;
@@ -55,7 +55,7 @@ fn comment_count(text: &[u8], tokens: &[Token]) -> usize {
     count.saturating_add(comments_in(text, end, text.len()))
 }
 
-/// How many comments stand in a gap of a text: each runs from two dashes to the end of its line.
+/// The number of comments in a gap of a text: each goes from two dashes to the end of its line.
 fn comments_in(text: &[u8], start: usize, end: usize) -> usize {
     let mut count = 0_usize;
     let mut is_comment = false;

@@ -1,4 +1,5 @@
-//! A text read again for what is said of it. What is wrong with it was told before; want of memory is told here.
+//! A text read again for what is said about it. Its faults were reported before; running out of memory is reported
+//! here.
 
 use crate::lines::Lines;
 use sc_parse::{ParseFault, parse};
@@ -36,13 +37,13 @@ fn parsed(alloc: Global, tokens: &[Token]) -> Result<Option<System>, AllocError>
     }
 }
 
-/// What a part of the text says; nothing where it begins or ends inside of a character.
+/// The text of a part; nothing if it begins or ends inside a character.
 pub fn word_at(text: &str, span: Span) -> &str {
     text.get(span.start as usize..span.end as usize)
         .unwrap_or("")
 }
 
-/// The first bytes of a text, so many; nothing where that is inside of a character or behind its end.
+/// The first `count` bytes of a text; nothing if that is inside a character or after its end.
 pub fn first_bytes(text: &str, count: usize) -> &str {
     text.get(..count).unwrap_or("")
 }

@@ -1,4 +1,4 @@
-//! What stands in the classes of a system and is refused: V1 to V20.
+//! What is refused in the classes of a system: V1 to V20.
 
 /// A page for each code.
 pub fn pages() -> &'static [&'static str] {

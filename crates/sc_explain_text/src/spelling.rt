@@ -2,7 +2,7 @@
 
 use sc_tree::BinaryOperator;
 
-/// An operator as a text has it, in lower case and with one space between two words, to be told to people.
+/// An operator as a text has it, in lower case and with one space between two words, to be shown to people.
 pub fn binary_spelling(operator: BinaryOperator) -> &'static str {
     match operator {
         BinaryOperator::Times => "*",

@@ -1,4 +1,4 @@
--- The arithmetic of INTEGER: whole numbers, of which 64 bits with sign hold some.
+-- The arithmetic of INTEGER: whole numbers within 64 bits with sign.
 use Rattle.std.specs.Prelude.{◌≡◌, ℕ, List, codes, ℤ, pos, unsigned_abs, ◌<◌, ◌≤ℤ◌, ◌+ℤ◌, ◌-ℤ◌, ◌*ℤ◌, neg_ℤ, int_le, int_div, int_rem, ◌-◌, ◌^◌, Bool, ◌&&◌, if◌then◌else◌, Result, Ok, Err}
 use Rattle.std.specs.Ordering.{int_eq}
 use Rattle.sc_formula.specs.declared.arithmetic.ArithmeticFault.{ArithmeticFault}
@@ -11,7 +11,7 @@ abbrev pub message_of : ArithmeticFault → List ℕ
 message_of Overflow = codes "a result lies outside 64 bits"
 message_of DivideByZero = codes "the divisor is zero"
 
--- what an operation on integers comes to: an INTEGER, or a fault
+-- the result of an operation on integers: an INTEGER, or a fault
 abbrev pub ArithmeticResult : Type 0
 ArithmeticResult = Result ℤ ArithmeticFault
 
@@ -27,7 +27,7 @@ greatest_integer = pos (2 ^ 63 - 1)
 abbrev pub is_integer : ℤ → Bool
 is_integer z = int_le least_integer z && int_le z greatest_integer
 
--- this whole number, where it is an INTEGER
+-- this whole number, if it is an INTEGER
 abbrev pub in_range : ℤ → ArithmeticResult
 in_range z = if is_integer z then Ok z else Err Overflow
 
@@ -59,8 +59,8 @@ result_of Times a b = product_of a b
 result_of Quotient a b = quotient_of a b
 result_of Remainder a b = remainder_of a b
 
--- Division that rounds toward zero: what it leaves is smaller than the divisor, and has the dividend's sign where it
--- isn't 0.
+-- Division that rounds toward zero: its remainder is smaller than the divisor, and has the dividend's sign unless it
+-- is 0.
 pub record Divides (dividend divisor quotient remainder : ℤ) : Type 0 where
   pub whole : quotient *ℤ divisor +ℤ remainder ≡ dividend
   pub smaller : unsigned_abs remainder < unsigned_abs divisor

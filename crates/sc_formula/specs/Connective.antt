@@ -20,7 +20,7 @@ truth_table Implies a b = not a || b
 truth_table Equal a b = not (either a b)
 truth_table NotEqual a b = either a b
 
--- What the left side decides alone: only the semistrict operators leave the right side unevaluated, where it can't
+-- What the left side decides alone: only the semistrict operators leave the right side unevaluated, if it can't
 -- matter.
 abbrev pub decision_of : Connective → Bool → Option Bool
 decision_of AndThen false = Some false
@@ -33,7 +33,7 @@ abbrev pub decision_or : Option Bool → Option Bool → Option Bool
 decision_or (Some b) other = Some b
 decision_or None other = other
 
--- The truth of two sides joined. A side may have no truth: the left one always counts, the right one where it is
+-- The truth of two sides joined. A side may have no truth: the left one always counts, the right one if it is
 -- evaluated.
 abbrev pub connection_of : Connective → Option Bool → Option Bool → Option Bool
 connection_of c None right = None

@@ -19,7 +19,7 @@ pub data PlainFormula : Type 0 where
   Compared : (left : PlainTerm) (comparison : Comparison) (right : PlainTerm) → PlainFormula
   Connected : (left : PlainFormula) (connective : Connective) (right : PlainFormula) → PlainFormula
 
--- The truth of a formula, where it has one: no part that is evaluated overflows or divides by zero.
+-- The truth of a formula, if it has one: no part that is evaluated overflows or divides by zero.
 abbrev pub truth_of : PlainFormula → List Atom → Option Bool
 truth_of (Constant b) atoms = Some b
 truth_of (Attribute n) atoms = boolean_at atoms n

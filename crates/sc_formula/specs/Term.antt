@@ -20,7 +20,7 @@ abbrev pub with_both : {T U : Type 0} → (T → T → Option U) → Option T �
 with_both f None b = None
 with_both f (Some a) b = option_and_then (f a) b
 
--- the value of a term, where it has one: no part overflows or divides by zero
+-- the value of a term, if it has one: no part overflows or divides by zero
 abbrev pub value_of : PlainTerm → List Atom → Option ℤ
 value_of (Integer z) atoms = Some z
 value_of (Attribute n) atoms = integer_at atoms n

@@ -37,7 +37,7 @@ impl Atom {
     }
 }
 
-/// The integer of the attribute of this number, where it is there and has one.
+/// The integer of the attribute with this number, if there is one and it has an integer.
 pub(crate) fn integer_at(atoms: &[Atom], number: u8) -> Option<i64>
     ensures { result ≡ integer_at atoms.now number }
 {
@@ -47,7 +47,7 @@ pub(crate) fn integer_at(atoms: &[Atom], number: u8) -> Option<i64>
     }
 }
 
-/// The truth value of the attribute of this number, where it is there and has one.
+/// The truth value of the attribute with this number, if there is one and it has a truth value.
 pub(crate) fn boolean_at(atoms: &[Atom], number: u8) -> Option<bool>
     ensures { result ≡ boolean_at atoms.now number }
 {
@@ -57,7 +57,7 @@ pub(crate) fn boolean_at(atoms: &[Atom], number: u8) -> Option<bool>
     }
 }
 
-/// Whether the attribute of this number is Void, where it is there and may be.
+/// Whether the attribute with this number is Void, if there is one and it may be.
 pub(crate) fn void_at(atoms: &[Atom], number: u8) -> Option<bool>
     ensures { result ≡ void_at atoms.now number }
 {

@@ -55,10 +55,10 @@ impl Formula {
     }
 }
 
-/// The truth of a formula, or None where it overflows or divides by zero, or names an attribute that has no atom of
-/// its kind.
+/// The truth of a formula, or None if it overflows, divides by zero, or names an attribute that has no atom of its
+/// kind.
 ///
-/// No memory is taken but a stack frame for each level of the formula: a parsed clause has at most 64, and some
+/// It takes no memory but a stack frame for each level of the formula: a parsed clause has at most 64, and some
 /// thousands fit into a megabyte.
 pub fn eval(formula: &Formula, atoms: &[Atom]) -> Option<bool>
     ensures { result ≡ truth_of (plain_formula formula.now) atoms.now }

@@ -54,7 +54,7 @@ impl Term {
         Ok(Term::Arithmetic(left, operator, right))
     }
 
-    /// The value of the term, or None where it overflows or divides by zero, or names an attribute that has no INTEGER.
+    /// The value of the term, or None if it overflows, divides by zero, or names an attribute that has no INTEGER.
     pub fn value(&self, atoms: &[Atom]) -> Option<i64>
         ensures { result ≡ value_of (plain_term self.now) atoms.now }
     {

@@ -1,4 +1,4 @@
--- What is made of faults where nothing is made of a source text.
+-- The answer to faults that leave a source text without a program.
 use Rattle.sc_text.specs.declared.fault.LexFault.{LexFault}
 use Rattle.sc_text.specs.declared.fault.LexFault.TheVariants as lexing
 use Rattle.sc_parse.specs.declared.fault.ParseFault.{ParseFault}

@@ -35,7 +35,7 @@ pub record IsSpelled (text : List ℕ) (tree : System) : Type 0 where
   pub shallow : nesting ≤ 64
   pub grammar : IsSystem tree (kinds tokens) nesting
 
--- The text spells tokens that spell the system, and each part of it stands where its tokens do.
+-- The text spells tokens that spell the system, and the place of each part is that of its tokens.
 pub record IsRead (text : List ℕ) (system : System) : Type 0 where
   pub tokens : List Lexeme
   pub nesting : ℕ
@@ -67,7 +67,7 @@ pub record MustBeAccepted (text : List ℕ) (root : Root) : Type 0 where
   pub spelled : IsSpelled text tree
   pub sound : (system : System) → IsRead text system → IsSound system root
 
--- The same, and its code is no longer than that of a program may be.
+-- The text spells a sound system with this root, and its code is no longer than that of a program may be.
 pub record MustBeRun (text : List ℕ) (root : Root) : Type 0 where
   pub tree : System
   pub spelled : IsSpelled text tree

@@ -101,7 +101,7 @@ fn load_system(alloc: Global, system: &System, root: &Root) -> Result<Program, R
     Ok(lower(alloc, checked)?)
 }
 
-/// The system, where it is sound; else what is at fault: its classes first, then what stands in a class.
+/// The system, if it has no fault; else the fault: one of its classes first, then one in a class.
 fn judge<'s>(alloc: Global, system: &'s System, root: &Root) -> Result<Checked<'s>, Rejection>
     ensures sound { OnOk result (IsSound (system_of system.now) (root_of root.now)) }
     ensures of_it { IfOk result (λ checked. system_in (tables_of checked) ≡ system_of system.now) }

@@ -1,4 +1,4 @@
--- What the core keeps of each handler: where it stands, what it serves, and what it is asked for.
+-- What the core keeps of each handler: its stage, what it serves, and its queue.
 use Rattle.std.specs.Prelude.{ℕ, List, [], ◌∷◌, Option, None, is_some, Bool, true, false, ◌==◌, if◌then◌else◌}
 use Rattle.sc_lockpass.specs.Rights.{Rights}
 use Rattle.sc_lockpass.specs.Passing.{Passed}
@@ -8,7 +8,7 @@ use Rattle.sc_model.specs.declared.cause.Cause.{Cause}
 use Rattle.sc_region.specs.declared.value.Value.{Value}
 use Rattle.sc_region.specs.declared.job.Request.{Request}
 
--- a request that stands at a handler, with the rights that went with it
+-- a request in a handler's queue or callback, with the rights that were passed with it
 pub record Posted : Type 0 where
   pub request : Request
   pub passed : Option Passed
@@ -22,9 +22,9 @@ pub data Answer : Type 0 where
   SupplierFailed : Answer
   Refused : Answer
 
--- What the next turn of a handler stands on: it has no frames; or its next step is always enabled, perhaps with a
--- handler that was made for it; or it reserves what it doesn't hold of these, after a wait with a mark; or it waits for
--- a supplier's answer, perhaps to a creation.
+-- What the next turn of a handler goes on from: it has no frames; or its next step is always enabled, perhaps with a
+-- handler that was made for it; or it reserves those of these that it doesn't hold, after a wait with a mark; or it
+-- waits for a supplier's answer, perhaps to a creation.
 pub data HandlerStage : Type 0 where
   Idle : HandlerStage
   Runs : HandlerStage
@@ -70,7 +70,7 @@ pub record State : Type 0 where
   pub handlers : ℕ → Handler
   pub rights : Rights
 
--- the state, of which the handler of the number is this one
+-- the state with this handler at the number
 abbrev pub put : ℕ → Handler → State → State
 put h x s = record s { handlers = λ k. if k == h then x else s.handlers k }
 

@@ -47,7 +47,7 @@ sent r is_waited passed = record { request = record r { is_waited = is_waited };
 abbrev pub posting_of : Posting → Posted
 posting_of p = posted p.request (option_map passed_of p.passed)
 
--- the request as it then stands at its target
+-- the request as its target then has it
 abbrev pub posted_as : Request → Bool → Option Listing → Posted
 posted_as r is_waited passed = posting_of (sent r is_waited passed)
 
@@ -80,7 +80,7 @@ handler_of x = record {
   refused = x.refused;
 }
 
--- the handler, so many sessions of which have ended
+-- the handler, with this number of ended sessions
 abbrev pub handler_with : ℕ → coded.Handler → Handler
 handler_with n x = record (handler_of x) { sessions = n }
 
@@ -102,7 +102,7 @@ cleared x =
       answer = None;
     }
 
--- a handler that nobody has asked for anything
+-- a handler to which nothing was ever posted
 abbrev pub fresh : coded.Handler
 fresh = record {
   stage = stage.Idle;

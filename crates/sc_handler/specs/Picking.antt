@@ -17,7 +17,7 @@ use Rattle.sc_handler.specs.Handlers.{Posted, Answer, Replied, SupplierFailed, R
 abbrev pub needs : ℕ → List ℕ → Rights → List ℕ
 needs h ks r = needed r h (map Some ks)
 
--- a reserve step fails where one of these is lost, and else comes once all may be reserved
+-- a reserve step fails if one of these is lost, and else comes once all may be reserved
 abbrev pub job_reserving : Bool → Bool → List ℕ → Option Job
 job_reserving true may ks = Some job.Failed
 job_reserving false true ks = Some (job.Granted (record { items = ks }))
@@ -32,7 +32,7 @@ abbrev pub job_idle : List Posted → Option Job
 job_idle [] = None
 job_idle (p ∷ ps) = Some (job.Take p.request)
 
--- an answer; the one to a creation with lock passing tells of the handler that was made
+-- an answer; the one to a creation with lock passing names the handler that was made
 abbrev pub job_answered : ℕ → Bool → Answer → Job
 job_answered k true (Replied v) = job.Made k
 job_answered k false (Replied v) = job.Reply v

@@ -2,7 +2,7 @@
 use Rattle.std.specs.Prelude.{◌≡◌}
 use Rattle.sc_handler.specs.Handlers.{Handler}
 
--- Two handlers stand the same, whatever they serve and are asked for.
+-- Two handlers have equal stages, whatever they serve and whatever is in their queues.
 pub record StandAlike (x y : Handler) : Type 0 where
   pub stage : x.stage ≡ y.stage
   pub entry : x.entry ≡ y.entry
@@ -10,7 +10,7 @@ pub record StandAlike (x y : Handler) : Type 0 where
   pub failure : x.failure ≡ y.failure
   pub refused : x.refused ≡ y.refused
 
--- They serve the same requests, and are asked for the same.
+-- They serve equal requests, and have equal queues.
 pub record AreAskedAlike (x y : Handler) : Type 0 where
   pub services : x.services ≡ y.services
   pub queue : x.queue ≡ y.queue

@@ -1,4 +1,4 @@
-//! Whether what two logs have packed is the same, and whether it is what a settlement comes to.
+//! Whether what two logs have packed is equal, and whether it is a settlement's.
 ghost use Rattle.std.specs.Prelude.{◌≡◌, ◌≤◌, ◌↔◌, IsTrue, length, take};
 ghost use Rattle.sc_handler.specs.Packed.{packed_job, packed_of, packed_request, packed_want, unpacked, values_in};
 
@@ -7,7 +7,7 @@ use arrayvec::ArrayVec;
 use sc_lockpass::HandlerNumber;
 use sc_region::{Errand, Job, Request, Value, Want};
 
-/// Whether two packed settlements tell the same, each with the first of its values.
+/// Whether two packed settlements are equal, each with the first of its values.
 pub(crate) fn same_told(
     a: &PackedSettlement,
     values: &[Value],
@@ -21,7 +21,7 @@ pub(crate) fn same_told(
     same_packed(a, b) && same_first(values, a.values(), its, b.values())
 }
 
-/// Whether so many of some values are as many of others.
+/// Whether the first values of two lists are equal, up to these counts.
 fn same_first(values: &[Value], count: usize, its: &[Value], its_count: usize) -> bool
     requires there { count ≤ length values.now }
     requires its_there { its_count ≤ length its.now }
@@ -30,7 +30,7 @@ fn same_first(values: &[Value], count: usize, its: &[Value], its_count: usize) -
     same_values(&values[..count], &its[..its_count])
 }
 
-/// Whether two packed settlements are the same.
+/// Whether two packed settlements are equal.
 pub(crate) fn same_packed(a: &PackedSettlement, b: &PackedSettlement) -> bool
     ensures { IsTrue result ↔ a.now ≡ b.now }
 {
@@ -131,14 +131,14 @@ fn same_handlers(a: &ArrayVec<HandlerNumber, 16>, b: &ArrayVec<HandlerNumber, 16
     have_same(a, b)
 }
 
-/// Whether the same handlers are in two arrays, one after another.
+/// Whether two arrays have equal handlers, one after another.
 fn have_same(a: &ArrayVec<HandlerNumber, 16>, b: &ArrayVec<HandlerNumber, 16>) -> bool
     ensures { IsTrue result ↔ a.now.items ≡ b.now.items }
 {
     a.as_slice() == b.as_slice()
 }
 
-/// Whether the same values are in two slices, one after another. Where there are none it is no call.
+/// Whether two slices have equal values, one after another. Empty ones take no call.
 #[inline(always)]
 pub(crate) fn same_values(a: &[Value], b: &[Value]) -> bool
     ensures { IsTrue result ↔ a.now ≡ b.now }
@@ -149,7 +149,7 @@ pub(crate) fn same_values(a: &[Value], b: &[Value]) -> bool
     have_same_values(a, b)
 }
 
-/// The same, of any.
+/// Whether two slices have equal values, one after another.
 #[inline(never)]
 fn have_same_values(a: &[Value], b: &[Value]) -> bool
     ensures { IsTrue result ↔ a.now ≡ b.now }
@@ -159,7 +159,7 @@ fn have_same_values(a: &[Value], b: &[Value]) -> bool
 
 // ---- what isn't packed yet
 
-/// Whether this is what packing these turns of a handler comes to.
+/// Whether this is how these turns of a handler are packed.
 pub(crate) fn is_packed(
     packed: &PackedSettlement,
     handler: HandlerNumber,

@@ -25,7 +25,7 @@ pub struct Dropped {
 }
 
 impl Handler {
-    /// Takes the next of its queue or its callback, as it stands. It is served from now on.
+    /// Takes the callback, or the first of the queue, as its stage says. The handler serves it from now on.
     pub fn take(&mut self)
         requires { length self.old.services + 1 < 2 ^ 63 }
         ensures handler { (n : ℕ) → handler_with n self.new ≡ takes (handler_with n self.old).stage (handler_with n self.old) }
@@ -84,7 +84,7 @@ impl Handler {
         }
     }
 
-    /// A request stands as its callback, or at its queue's end, in one of these places.
+    /// Puts a request, in one of these places, as its callback or at its queue's end.
     pub fn place(
         &mut self,
         is_callback: bool,
@@ -123,8 +123,8 @@ impl Handler {
         }
     }
 
-    /// Takes the request that it serves, with its node, and stands as it did when it took that. A refusal is counted where
-    /// nobody waits.
+    /// Removes the request that it serves, with its node, and returns to the stage at which it took it. A refusal is
+    /// counted if no handler waits.
     pub fn pop_service(&mut self, refused: bool) -> LinkedList<Posting>
         requires counted { self.old.refused + 1 < 2 ^ 64 }
         requires over { IfSome (slice_get self.old.services 0) (λ p. reserves_at p.over ≡ false) }
@@ -143,7 +143,7 @@ impl Handler {
         service
     }
 
-    /// It is as one that nobody has asked for anything.
+    /// Makes it a handler to which nothing was ever posted.
     pub fn renew(&mut self)
         ensures handler { (n : ℕ) → handler_with n self.new ≡ record new_handler { sessions = n } }
         ensures out { self.new.out ≡ self.old.out }

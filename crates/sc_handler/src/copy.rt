@@ -5,7 +5,7 @@ use arrayvec::ArrayVec;
 use sc_lockpass::HandlerNumber;
 use sc_region::{Request, Value};
 
-/// The same request once more.
+/// A copy of the request.
 pub(crate) fn copy_request(request: &Request) -> Request
     ensures { result ≡ request.now }
 {
@@ -18,7 +18,7 @@ pub(crate) fn copy_request(request: &Request) -> Request
     }
 }
 
-/// Makes a request the same as another one, but that it is waited for or not.
+/// Makes a request equal to another one, except for whether it is waited for.
 pub(crate) fn write_request(place: &mut Request, request: &Request, is_waited: bool)
     ensures { place.new ≡ record request.now { is_waited = is_waited } }
 {
@@ -29,7 +29,7 @@ pub(crate) fn write_request(place: &mut Request, request: &Request, is_waited: b
     place.is_waited = is_waited;
 }
 
-/// Makes values the same as these.
+/// Makes values equal to these.
 pub(crate) fn write_values(place: &mut ArrayVec<Value, 16>, values: &[Value])
     requires { length values.now ≤ 16 }
     ensures { place.new ≡ record { items = values.now } }
@@ -40,7 +40,7 @@ pub(crate) fn write_values(place: &mut ArrayVec<Value, 16>, values: &[Value])
     }
 }
 
-/// The same values once more.
+/// A copy of the values.
 pub fn copy_values(values: &ArrayVec<Value, 16>) -> ArrayVec<Value, 16>
     ensures { result ≡ values.now }
 {
@@ -49,7 +49,7 @@ pub fn copy_values(values: &ArrayVec<Value, 16>) -> ArrayVec<Value, 16>
     copy
 }
 
-/// The same handlers once more.
+/// A copy of the handlers.
 pub fn copy_handlers(handlers: &ArrayVec<HandlerNumber, 16>) -> ArrayVec<HandlerNumber, 16>
     ensures { result ≡ handlers.now }
 {

@@ -11,7 +11,7 @@ use sc_lockpass::HandlerNumber;
 use sc_model::Cause;
 use sc_region::{Errand, Request, Want};
 
-/// Whether the last of so many turns under the job may ask this, where the handler stood so before them.
+/// Whether the last of this number of turns under the job may want this, after the handler had this stage.
 pub fn fits_turns(turns: u32, stage: HandlerStage, kind: &JobKind, want: &Want) -> bool
     ensures { (entry : List ℕ) (mark : List Marked) → result ≡ fits_turns turns (stage_of entry mark stage) (of_kind kind.now) want.now }
 {

@@ -27,7 +27,7 @@ pub enum Answer {
     Refused,
 }
 
-/// What the next turn of a handler stands on.
+/// What a handler's next turn goes on from.
 #[derive(Clone, Copy, PartialEq, Eq)]
 pub enum HandlerStage {
     /// It has no frames.
@@ -47,8 +47,8 @@ pub enum HandlerStage {
     },
 }
 
-/// A request that stands at a handler, or that frames of it serve. It takes 80 bytes, and 16 more in a list; and memory beside
-/// only where it has more than one actual, or rights went with it.
+/// A request in a handler's queue or callback, or one that its frames serve. It takes 80 bytes, and 16 more in a
+/// list; and further memory only if it has more than one actual, or rights were passed with it.
 #[derive(Drop)]
 pub struct Posting {
     /// What is asked, as it was sent.
@@ -73,7 +73,7 @@ impl Posting {
 /// What the core keeps of a handler, but for the count of its sessions.
 #[derive(Drop)]
 pub struct Handler {
-    /// What its next turn stands on.
+    /// What its next turn goes on from.
     pub stage: HandlerStage,
     /// The handlers that its last reserve step was for.
     pub entry: ArrayVec<HandlerNumber, 16>,
@@ -89,14 +89,14 @@ pub struct Handler {
     pub answer: Option<Answer>,
     /// Why it has failed, if it has.
     pub failure: Option<Cause>,
-    /// How many requests it refused for which nobody waited.
+    /// How many requests it refused for which no handler waited.
     pub refused: u64,
     /// The job that it is out with.
     pub out: JobSlot,
 }
 
 impl Handler {
-    /// A handler that nobody has asked for anything.
+    /// A handler to which nothing was ever posted.
     pub fn new(alloc: Global) -> Handler
         ensures { result ≡ fresh }
     {
@@ -141,7 +141,7 @@ impl Handler {
         self.stage == HandlerStage::Idle && self.failure.is_none() && self.queue.is_empty()
     }
 
-    /// Whether nobody has asked it for anything yet.
+    /// Whether nothing was ever posted to it.
     pub fn is_fresh(&self) -> bool
         ensures { IsTrue result ↔ handler_of self.now ≡ new_handler }
     {
@@ -243,7 +243,7 @@ fn job_answered(supplier: HandlerNumber, is_creation: bool, answer: Answer) -> J
     }
 }
 
-/// The same, written into the place of the job that it is out with.
+/// Writes an answer into the place of the job that it is out with.
 fn set_answered(out: &mut JobSlot, supplier: HandlerNumber, is_creation: bool, answer: Answer)
     ensures { out.new ≡ Some (job_answered supplier is_creation (answer_of answer)) }
 {

@@ -1,4 +1,4 @@
-//! Numbers by which handlers are told apart at a glance.
+//! Hashes of handlers.
 
 use crate::handler::{Answer, Handler, HandlerStage, Posting};
 use crate::posted_request::PostedRequest;
@@ -6,8 +6,8 @@ use sc_lockpass::HandlerNumber;
 use sc_region::{Errand, NameNumber, Reference, Value};
 use std::hash::{FoldHasher, Hasher};
 
-/// Adds what is kept of a handler to a number. Nothing is promised of that. It takes time for each request that stands at
-/// the handler.
+/// Adds what is kept of a handler to a hash. No contract says which number that gives. It takes time for each request
+/// in the handler's queue.
 pub fn write_handler(hasher: &mut FoldHasher, handler: &Handler) {
     hasher.write_u64(stage_word(handler.stage));
     for reserved in handler.entry.as_slice() {

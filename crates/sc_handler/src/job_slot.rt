@@ -9,10 +9,10 @@ use sc_lockpass::HandlerNumber;
 use sc_region::{Job, Request, Value};
 use std::marker::Model;
 
-/// The place of the job that a handler is out with. It is empty where the handler isn't out.
+/// The place of the job that a handler is out with. It is empty if the handler isn't out.
 ///
-/// A job that goes leaves its memory as it is, so that the next one is written over it where it is of the same kind, and no
-/// large value is moved.
+/// A job that goes leaves its memory as it is, so that the next one is written over it if it is of the same kind, and
+/// no large value is moved.
 #[derive(Drop)]
 pub struct JobSlot {
     job: Job,
@@ -125,7 +125,7 @@ impl JobSlot {
     }
 }
 
-/// Makes a job the same as another one. Where both are of one kind no large value is moved.
+/// Makes a job equal to another one. If both are of one kind, no large value is moved.
 pub fn write_job(place: &mut Job, job: &Job)
     ensures { place.new ≡ job.now }
 {
@@ -168,7 +168,7 @@ fn renew_take(place: &mut Job, request: &Request)
     *place = Job::Take(copy_request(request));
 }
 
-/// The job that takes a request that stands at a handler.
+/// Writes the job that takes a request from the handler's queue.
 fn write_posted(place: &mut Job, request: &PostedRequest)
     ensures { place.new ≡ job.Take request.now }
 {

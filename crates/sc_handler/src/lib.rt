@@ -1,8 +1,9 @@
-//! What the core keeps of one handler: how it stands, what it serves and is asked for, and the job that it is out with;
-//! and what it keeps of each settlement, in a log.
+//! What the core keeps of one handler: its stage, what it serves, its queue, and the job that it is out with; and
+//! what it keeps of each settlement, in a log.
 //!
-//! Nothing here knows of other handlers, or of who holds whom. `specs/Handlers` says what is kept, `specs/InMemory` how it
-//! lies in memory, `specs/Picking` what the handler has to do by it, and `specs/Changes` what a settlement changes of it.
+//! Nothing here knows of other handlers, or of who holds which. `specs/Handlers` says what is kept, `specs/InMemory`
+//! how it lies in memory, `specs/Picking` which job the handler has by it, and `specs/Changes` what a settlement
+//! changes of it.
 #![tactic(auto)]
 
 mod agreement;

@@ -20,7 +20,7 @@ const PLACES_AT_ONCE: usize = 16;
 /// For how many packed settlements it is: mostly there are fewer, so that there is always room for some ahead.
 const PACKED_AT_ONCE: usize = 64;
 
-/// A settlement: where the log has what it tells.
+/// A settlement: the places of its parts in the log.
 #[derive(Clone, Copy)]
 struct LogEntry {
     /// The number of the packed settlement.
@@ -31,8 +31,8 @@ struct LogEntry {
 
 /// Settlements, the first one first.
 ///
-/// Each takes an entry of 8 bytes. What it tells lies beside, where those that come again share it: the settlement without its
-/// values is mostly one that came before, and so are the values of an answer, which its supplier's settlement has, too.
+/// Each takes an entry of 8 bytes. Its parts are kept once and shared by equal settlements: a settlement without its
+/// values mostly equals an earlier one, and the values of an answer are also in its supplier's settlement.
 #[derive(Drop)]
 pub struct Log {
     entries: Vec<LogEntry>,
@@ -107,7 +107,7 @@ impl Log {
         Some(settlement_at(entry, self.packed.as_slice(), self.values.as_slice()))
     }
 
-    /// Whether the settlement at a place is that at a place of another log. Where there is none at both, it is, too.
+    /// Whether the settlement at a place equals the one at a place of another log, or neither is there.
     pub fn agrees_at(&self, place: usize, other: &Log, its_place: usize) -> bool
         ensures { IsTrue result ↔ slice_get (settlements_of self.now) place ≡ slice_get (settlements_of other.now) its_place }
     {
@@ -131,9 +131,9 @@ impl Log {
         }
     }
 
-    /// Makes room for so many settlements. Err where there is no memory.
+    /// Makes room for this number of settlements. Its error says that memory ran out.
     ///
-    /// It is a test where that is called, and seldom a call.
+    /// It is inlined as a test, and seldom makes a call.
     #[inline(always)]
     pub fn reserve(&mut self, more: usize) -> Result<(), AllocError>
         requires few { more ≤ 1024 }
@@ -149,7 +149,7 @@ impl Log {
         self.find_room(more)
     }
 
-    /// Looks for room for so many settlements, and for more beyond them. It takes memory where there is none for them.
+    /// Finds room for this number of settlements and more. It takes memory if there is none for them.
     #[inline(never)]
     fn find_room(&mut self, more: usize) -> Result<(), AllocError>
         requires few { more ≤ 1024 }
@@ -171,7 +171,7 @@ impl Log {
         Ok(())
     }
 
-    /// Whether there is room for so many settlements.
+    /// Whether there is room for this number of settlements.
     fn has_places(&self, more: usize) -> bool
         requires few { more ≤ 1024 }
         ensures { IsTrue result ↔ HasPlaces more self.now }
@@ -182,7 +182,7 @@ impl Log {
             && self.values.capacity() - self.values.len() >= 32 * more
     }
 
-    /// Whether there are numbers of 32 bits for so many settlements.
+    /// Whether there are numbers of 32 bits for this number of settlements.
     fn has_numbers(&self, more: usize) -> bool
         requires few { more ≤ 1024 }
         ensures { IsTrue result ↔ (vec_len self.now.packed + more ≤ 2 ^ 32) × (vec_len self.now.values + 32 * more ≤ 2 ^ 32) }
@@ -190,7 +190,7 @@ impl Log {
         self.packed.len() <= (1 << 32) - more && self.values.len() <= (1 << 32) - 32 * more
     }
 
-    /// Takes memory for so many settlements.
+    /// Takes memory for this number of settlements.
     #[inline(never)]
     fn grow(&mut self, more: usize) -> Result<(), AllocError>
         requires few { more ≤ 1024 }
@@ -210,7 +210,7 @@ impl Log {
         self.values.reserve(32 * more)
     }
 
-    /// Adds the settlement of a handler, where there is room.
+    /// Adds the settlement of a handler, if there is room.
     pub fn push(&mut self, handler: HandlerNumber, job: &Job, turns: u32, want: &Want)
         requires room { HasPlaces 1 self.old }
         ensures settlements { settlements_of self.new ≡ settlements_of self.old ++ settlement handler job.now turns want.now ∷ [] }
@@ -246,7 +246,7 @@ fn packed_at(entry: LogEntry, packed: &[PackedSettlement]) -> &PackedSettlement
     &packed[entry.packed as usize]
 }
 
-/// What the entry tells, with what lies beside all entries.
+/// The settlement of the entry, from the parts of the log.
 fn settlement_at(entry: LogEntry, packed: &[PackedSettlement], values: &[Value]) -> Settlement
     requires { IsWithin packed.now (length values.now) entry }
     ensures { result ≡ settlement_in packed.now values.now entry }
@@ -254,7 +254,7 @@ fn settlement_at(entry: LogEntry, packed: &[PackedSettlement], values: &[Value])
     packed_at(entry, packed).unpack(&values[entry.first_value as usize..])
 }
 
-/// Whether two entries tell the same, each with what lies beside those of its log.
+/// Whether two entries are equal settlements, each with the parts of its log.
 fn same_settlement(a: LogEntry, all: Beside<'_>, b: LogEntry, its: Beside<'_>) -> bool
     requires within { IsWithin all.packed.now (length all.values.now) a }
     requires its_within { IsWithin its.packed.now (length its.values.now) b }

@@ -1,5 +1,5 @@
-//! Numbers by which what the log keeps once is found again. Those of what is the same are the same, and nothing more is
-//! promised of them.
+//! Hashes by which the log finds what it keeps once. Equal parts have equal hashes, and no contract says more of
+//! them.
 
 use crate::hashing::{errand_word, reference_word, value_word};
 use arrayvec::ArrayVec;

@@ -59,7 +59,7 @@ pub(crate) enum PackedWant {
     Fail(Cause),
 }
 
-/// A settlement without its values. Those of its job come first, and those of its want behind them.
+/// A settlement without its values. Those of its job come first, then those of its want.
 #[derive(Drop)]
 pub(crate) struct PackedSettlement {
     pub(crate) handler: HandlerNumber,
@@ -133,7 +133,7 @@ fn unpack_request(packed: PackedRequest, actuals: &[Value]) -> Request
     }
 }
 
-/// So many of these actuals.
+/// The first `count` of these actuals.
 fn first_actuals(actuals: &[Value], count: u8) -> ArrayVec<Value, 16>
     requires few { count ≤ 16 }
     requires there { count ≤ length actuals.now }
@@ -144,7 +144,7 @@ fn first_actuals(actuals: &[Value], count: u8) -> ArrayVec<Value, 16>
     first
 }
 
-/// The first of these values, where there is to be one.
+/// The first of these values, if there is to be one.
 fn first_value(values: &[Value], is_there: bool) -> Option<Value>
     ensures { result ≡ value_if is_there values.now }
 {

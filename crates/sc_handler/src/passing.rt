@@ -84,7 +84,7 @@ impl Passing {
         self.place = Some(place);
     }
 
-    /// Gives its place back, where it has one.
+    /// Gives its place back, if it has one.
     pub(crate) fn give_back(&mut self, places: &mut Vec<Box<PassedPlace>>)
         ensures { vec_len places.old ≤ vec_len places.new }
     {
@@ -93,7 +93,7 @@ impl Passing {
         }
     }
 
-    /// Gives its place back. It is let go where there is no room for it, since this takes no memory.
+    /// Gives its place back. The place is dropped if there is no room for it, since this takes no memory.
     #[inline(never)]
     fn give_place_back(&mut self, places: &mut Vec<Box<PassedPlace>>)
         ensures { vec_len places.old ≤ vec_len places.new }

@@ -1,4 +1,4 @@
-//! What is asked of a handler, as it stands there.
+//! A request in a handler's queue.
 ghost use Rattle.std.specs.Prelude.{◌≡◌, ◌≤◌, ◌+◌, IfOk, length, vec_len};
 ghost use Rattle.sc_handler.specs.Actuals.{actuals_of};
 
@@ -25,7 +25,7 @@ pub(crate) enum Actuals {
     Many(Box<Block>),
 }
 
-/// A request that stands at a handler. It takes 56 bytes, and a block of memory beside where it has more than one actual.
+/// A request in a handler's queue. It takes 56 bytes, and a further block of memory if it has more than one actual.
 #[derive(Drop)]
 pub struct PostedRequest {
     pub(crate) poster: Option<HandlerNumber>,
@@ -61,7 +61,7 @@ impl PostedRequest {
         }
     }
 
-    /// This request. Err where there is no memory.
+    /// This request. Its error says that memory ran out.
     pub(crate) fn new(alloc: Global, request: &Request) -> Result<PostedRequest, AllocError>
         ensures { IfOk result (λ r. r ≡ request.now) }
     {
@@ -74,7 +74,7 @@ impl PostedRequest {
         })
     }
 
-    /// Makes it the same as another one, but that it is waited for or not. More than one actual takes a block.
+    /// Makes it equal to another one, except for whether it is waited for. More than one actual takes a block.
     pub(crate) fn write(&mut self, request: &Request, is_waited: bool, blocks: &mut Vec<Box<Block>>)
         requires { 1 ≤ vec_len blocks.old }
         ensures request { self.new ≡ record request.now { is_waited = is_waited } }
@@ -87,7 +87,7 @@ impl PostedRequest {
         write_actuals(&mut self.actuals, &request.actuals, blocks);
     }
 
-    /// Gives the block of its actuals back, where it has one.
+    /// Gives the block of its actuals back, if it has one.
     pub(crate) fn give_back(&mut self, blocks: &mut Vec<Box<Block>>)
         ensures { vec_len blocks.old ≤ vec_len blocks.new }
     {
@@ -111,7 +111,7 @@ impl PostedRequest {
         self.is_waited
     }
 
-    /// The actuals, of which there are at most 16.
+    /// The actuals: at most 16.
     pub(crate) fn actuals(&self) -> &[Value]
         ensures actuals { result.now ≡ self.now.actuals.items }
         ensures few { length result.now ≤ 16 }
@@ -123,7 +123,7 @@ impl PostedRequest {
         }
     }
 
-    /// The same request once more.
+    /// A copy of the request.
     pub fn to_request(&self) -> Request
         ensures { result ≡ self.now }
     {
@@ -138,7 +138,7 @@ impl PostedRequest {
         }
     }
 
-    /// Makes a request the same as this one.
+    /// Makes a request equal to this one.
     pub(crate) fn write_to(&self, place: &mut Request)
         ensures { place.new ≡ self.now }
     {
@@ -152,7 +152,7 @@ impl PostedRequest {
 
 // ---- actuals
 
-/// These actuals. Err where there is no memory.
+/// These actuals. Its error says that memory ran out.
 fn new_actuals(alloc: Global, values: &Block) -> Result<Actuals, AllocError>
     ensures { IfOk result (λ actuals. actuals_of actuals ≡ values.now) }
 {
@@ -163,7 +163,7 @@ fn new_actuals(alloc: Global, values: &Block) -> Result<Actuals, AllocError>
     }
 }
 
-/// Makes values the same as these actuals.
+/// Makes values equal to these actuals.
 fn copy_actuals(actuals: &Actuals, values: &mut ArrayVec<Value, 16>)
     ensures { values.new ≡ actuals_of actuals.now }
 {
@@ -204,7 +204,8 @@ fn write_block(place: &mut Actuals, values: &Block, blocks: &mut Vec<Box<Block>>
     *place = Actuals::Many(block);
 }
 
-/// Gives the block of actuals back, where there is one. It is let go where there is no place for it, since this takes no memory.
+/// Gives the block of actuals back, if there is one. The block is dropped if there is no place for it, since this
+/// takes no memory.
 #[inline(never)]
 fn give_back(place: &mut Actuals, blocks: &mut Vec<Box<Block>>)
     ensures { vec_len blocks.old ≤ vec_len blocks.new }

@@ -1,4 +1,4 @@
-//! Whether the same is kept of two handlers.
+//! Whether two handlers are kept alike.
 ghost use Rattle.std.specs.Prelude.{◌≡◌, ◌↔◌, IsTrue, map};
 ghost use Rattle.std.specs.Option.{option_map};
 ghost use Rattle.sc_lockpass.specs.Tables.{passed_of};
@@ -13,14 +13,14 @@ use arrayvec::ArrayVec;
 use sc_lockpass::HandlerNumber;
 use std::collections::LinkedList;
 
-/// Whether the same is kept of two handlers, but for the counts of their sessions and the jobs that they are out with.
+/// Whether two handlers are kept alike, apart from the counts of their sessions and the jobs that they are out with.
 pub fn same_handler(a: &Handler, b: &Handler) -> bool
     ensures { IsTrue result ↔ handler_of a.now ≡ handler_of b.now }
 {
     same_standing(a, b) && same_requests(a, b)
 }
 
-/// Whether two handlers stand the same, whatever they serve and are asked for.
+/// Whether two handlers have equal stages and counts, whatever they serve and whatever is in their queues.
 fn same_standing(a: &Handler, b: &Handler) -> bool
     ensures { IsTrue result ↔ StandAlike (handler_of a.now) (handler_of b.now) }
 {
@@ -31,7 +31,7 @@ fn same_standing(a: &Handler, b: &Handler) -> bool
         && a.refused == b.refused
 }
 
-/// Whether two handlers serve the same requests, and are asked for the same.
+/// Whether two handlers serve equal requests and have equal queues.
 fn same_requests(a: &Handler, b: &Handler) -> bool
     ensures { IsTrue result ↔ AreAskedAlike (handler_of a.now) (handler_of b.now) }
 {
@@ -40,7 +40,7 @@ fn same_requests(a: &Handler, b: &Handler) -> bool
         && same_callback(&a.callback, &b.callback)
 }
 
-/// Whether two handlers have the same stage. An entry and its mark count only where they are to be reserved.
+/// Whether two handlers have equal stages. An entry and its mark count only if they are to be reserved.
 fn same_stage(a: &Handler, b: &Handler) -> bool
     ensures { IsTrue result ↔ stage_of a.now.entry.items a.now.mark a.now.stage ≡ stage_of b.now.entry.items b.now.mark b.now.stage }
 {
@@ -58,7 +58,7 @@ fn same_handlers(a: &ArrayVec<HandlerNumber, 16>, b: &ArrayVec<HandlerNumber, 16
     a.as_slice() == b.as_slice()
 }
 
-/// Whether the same requests are served, one after another, each over the same stage.
+/// Whether equal requests are served, one after another, each over an equal stage.
 fn same_services(a: &LinkedList<Posting>, b: &LinkedList<Posting>) -> bool
     ensures { IsTrue result ↔ map service_of a.now ≡ map service_of b.now }
 {
@@ -80,7 +80,7 @@ fn same_service(a: &Posting, b: &Posting) -> bool
     a.over == b.over && same_posting(a, b)
 }
 
-/// Whether the same is asked, one request after another.
+/// Whether the requests are equal, one after another.
 fn same_postings(a: &LinkedList<Posting>, b: &LinkedList<Posting>) -> bool
     ensures { IsTrue result ↔ map posting_of a.now ≡ map posting_of b.now }
 {
@@ -96,7 +96,7 @@ fn same_postings(a: &LinkedList<Posting>, b: &LinkedList<Posting>) -> bool
     right.next().is_none()
 }
 
-/// Whether the first request is the same, or there is none.
+/// Whether the first requests are equal, or there is none.
 fn same_callback(a: &LinkedList<Posting>, b: &LinkedList<Posting>) -> bool
     ensures { IsTrue result ↔ first_posted a.now ≡ first_posted b.now }
 {
@@ -107,7 +107,7 @@ fn same_callback(a: &LinkedList<Posting>, b: &LinkedList<Posting>) -> bool
     }
 }
 
-/// Whether two requests are the same, with the rights that went with them.
+/// Whether two requests are equal, with the rights that were passed with them.
 fn same_posting(a: &Posting, b: &Posting) -> bool
     ensures { IsTrue result ↔ posting_of a.now ≡ posting_of b.now }
 {

@@ -9,9 +9,9 @@ use sc_lockpass::HandlerNumber;
 use sc_region::{Job, Value, Want};
 use std::alloc::{AllocError, Global};
 
-/// The places where what comes again is looked for first: the last one for each of so many marks.
+/// The places that are looked at first for a repeated value: the last one for each of a fixed number of hashes.
 ///
-/// Nothing is promised of them. What is found there is compared.
+/// No contract says what is found there: it is compared.
 #[derive(Drop)]
 pub(crate) struct Recent {
     places: Vec<u32>,
@@ -25,7 +25,7 @@ impl Recent {
         }
     }
 
-    /// Takes the memory that it needs, where it hasn't yet.
+    /// Takes the memory that it needs, if it hasn't yet.
     pub(crate) fn reserve(&mut self) -> Result<(), AllocError> {
         if self.places.is_empty() {
             self.places.resize(1024, 0)?;
@@ -47,7 +47,7 @@ impl Recent {
     }
 }
 
-/// The number of these turns of a handler among all that are packed. Where they aren't found they are added.
+/// The number of these turns of a handler among all that are packed. They are added if they aren't found.
 #[tactic(auto, using(crate::proofs::Places::whole_is, crate::proofs::Places::begins_with, crate::proofs::Places::last_at))]
 pub(crate) fn number_of(
     all: &mut Vec<PackedSettlement>,
@@ -77,7 +77,7 @@ pub(crate) fn number_of(
     number
 }
 
-/// Where these values lie among all, some behind the others. Where they aren't found they are added.
+/// The place of these values among all, with the others after them. They are added if they aren't found.
 #[tactic(auto, using(crate::proofs::Places::whole_is, crate::proofs::Places::begins_with_it, crate::proofs::Places::both_lie_behind))]
 pub(crate) fn place_of(
     all: &mut Vec<Value>,
@@ -107,7 +107,7 @@ pub(crate) fn place_of(
     place
 }
 
-/// Whether these values lie at the place among all, some behind the others.
+/// Whether these values are at the place among all, with the others after them.
 fn lie_at(all: &[Value], place: u32, values: &[Value], others: &[Value]) -> bool
     requires few { length values.now ≤ 16 }
     requires few_others { length others.now ≤ 16 }
@@ -122,7 +122,7 @@ fn lie_at(all: &[Value], place: u32, values: &[Value], others: &[Value]) -> bool
     same_values(front, values) && same_values(&back[..others.len()], others)
 }
 
-/// Adds to the end, where there is room.
+/// Adds items at the end, if there is room.
 fn append<T: Copy>(items: &mut Vec<T>, more: &[T])
     requires { vec_len items.old + length more.now ≤ vec_capacity items.old }
     ensures items { items.new.items ≡ items.old.items ++ more.now }

@@ -76,9 +76,9 @@ impl SparePlaces {
         let _ = self.nodes.append(&mut node);
     }
 
-    /// Adds what is missing of so many places. Err where there is no memory.
+    /// Adds places until there are this many. Its error says that memory ran out.
     ///
-    /// It is a test where that is called, and seldom a call.
+    /// It is inlined as a test, and seldom makes a call.
     #[inline(always)]
     pub fn add_places(&mut self, wanted: usize) -> Result<(), AllocError>
         ensures ok { OnOk result (wanted ≤ self.new) }
@@ -94,7 +94,7 @@ impl SparePlaces {
         self.push_places(wanted)
     }
 
-    /// Adds places up to so many.
+    /// Adds places until there are this many.
     #[inline(never)]
     fn push_places(&mut self, wanted: usize) -> Result<(), AllocError>
         ensures ok { OnOk result (wanted ≤ self.new) }

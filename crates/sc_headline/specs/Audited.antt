@@ -7,8 +7,8 @@ use Rattle.sc_driver.specs.Audits.{IsAudited}
 use Rattle.sc_frontend.specs.Texts.{IsLoaded}
 use Rattle.sc_headline.specs.Headline.{StandsForReached}
 
--- The turns of the record lead to a world that has the same of each handler as what is left. That world stands for a
--- state that the machine reaches, of which the headline holds.
+-- The turns of the record lead to a world that has the same of each handler as what is left. That world represents a
+-- state that the machine reaches, and the headline holds of that state.
 pub record HasAuditedHeadline (text : List ℕ) (root : Root) (program : Image) (left : Left) : Type 0 where
   pub audited : IsAudited program left
   pub reached : StandsForReached text root program left.version audited.world

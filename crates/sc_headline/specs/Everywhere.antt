@@ -26,7 +26,7 @@ pub record StandsNearReached (text : List ℕ) (root : Root) (program : Image) (
 abbrev pub RunsProgram : Image → PlainWorld → Type 0
 RunsProgram p w = (r : PlainRegion) → slice_get w.regions 0 ≡ Some r → r.store.program ≡ p
 
--- The world is so where it runs the program of a text that is accepted.
+-- The world has the headline if it runs the program of a text that is accepted.
 abbrev pub HasHeadlineAnyhow : PlainWorld → Type 0
 HasHeadlineAnyhow w =
     (text : List ℕ) (root : Root) (program : Image) → IsLoaded text root program → RunsProgram program w →

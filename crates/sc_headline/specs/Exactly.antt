@@ -22,7 +22,7 @@ OneWorld =
     IsLoaded text root program → Runs handlers (opened program version) x → Runs handlers (opened program version) y →
     x ≡ y
 
--- The record is one, there is a run of it, and each run of it ends in a world of which this holds.
+-- The record is one, there is a run of it, and each run of it ends in a world with this property.
 pub record EachEnds (p : Image) (left : Left) (Ends : PlainWorld → Type 0) : Type 0 where
   pub is_record : IsRecord left.version left.lines.items
   pub world : PlainWorld
@@ -48,7 +48,7 @@ pub record IsExact (p : Image) (left : Left) (answer : Result Unit AuditFault) :
   pub differs : (h : ℕ) → (answer ≡ Err (Differs h)) ↔ EndsApart p left h
   pub misfits : (line : ℕ) → (answer ≡ Err (BadRecord line)) ↔ IsFirstMisfit left.version left.lines.items line
 
--- Whatever is left, what an audit answers of a text's program is exact, where there is memory to play the record.
+-- Whatever is left, the answer of an audit of a text's program is exact, if there is memory to play the record.
 abbrev pub AuditsAreExact : Type 0
 AuditsAreExact =
     (text : List ℕ) (root : Root) (program : Image) (left : Left) (answer : Result Unit AuditFault) →

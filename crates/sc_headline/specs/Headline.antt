@@ -23,7 +23,7 @@ use Rattle.sc_driver.specs.Execution.{IsReplay, IsRunOf, line_turns}
 
 -- ---- the machine
 
--- Of each state that the machine on a text's system reaches, where there may be so many handlers, the headline holds.
+-- The headline holds of each state that the machine on a text's system reaches, with this limit on handlers.
 abbrev pub MachineHeadline : Type 0
 MachineHeadline =
     (text : List ℕ) (root : Root) (system : System) (most : ℕ) (state : World) →
@@ -31,8 +31,8 @@ MachineHeadline =
 
 -- ---- worlds
 
--- The text spells a system that is sound. The world stands for a state that the machine on this system reaches, and of
--- that state the headline holds.
+-- The text spells a system that is sound. The world represents a state that the machine on this system reaches, and
+-- the headline holds of that state.
 pub record StandsForReached (text : List ℕ) (root : Root) (program : Image) (version : Version)
     (world : PlainWorld) : Type 0 where
   pub system : System
@@ -56,7 +56,7 @@ Headline =
 abbrev pub machine_after : System → Root → Version → List ℕ → World
 machine_after s root version handlers = run (most_handlers version) s handlers (opening s root)
 
--- The report of the state, and how its handlers stand, in order of number.
+-- The report of the state, and the statuses of its handlers, in order of number.
 pub record IsReportOf (state : World) (report : List ℕ) (statuses : List Status) : Type 0 where
   pub report_is : report ≡ machine.report state
   pub statuses_are : statuses ≡ map (λ h. machine.status_of h state) (range_with_len 0 state.count)
@@ -81,14 +81,15 @@ ReplaysAreTheMachines =
     IsLoaded text root program → IsReplay program version lines report statuses →
     IsMachineRun text root version (flat_map line_turns lines) report statuses
 
--- From the state on each of these handlers has a turn when it comes to it, behind the turns of those before it.
+-- From the state on each of these handlers has a turn when its number is reached, after the turns of those before
+-- it.
 abbrev pub HaveTurns : ℕ → System → List ℕ → World → Type 0
 HaveTurns most s [] w = Unit {0}
 HaveTurns most s (h ∷ hs) w = (has_turn h w ≡ true) × HaveTurns most s hs (turn most s h w)
 
--- The same of the turns of a run's record, where there may be 512 handlers. From the opening of the system on each of
--- them is one that its handler has. They are so many at most, and the lines 1,000,000. Both are fewer only where no
--- handler has a turn any more.
+-- The turns of a run's record are the machine's, with at most 512 handlers. From the opening of the system on each
+-- of them is one that its handler has. There are at most `limit` turns, and at most 1,000,000 lines. Both are fewer
+-- only if no handler has a turn any more.
 pub record IsMachineRunOf (text : List ℕ) (root : Root) (limit : ℕ) (lines : List RecordLine) (report : List ℕ)
     (statuses : List Status) : Type 0 where
   pub is_run : IsMachineRun text root Two (flat_map line_turns lines) report statuses

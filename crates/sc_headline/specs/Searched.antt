@@ -18,7 +18,7 @@ use Rattle.sc_search.specs.Found.{LeadsTo, turns_of}
 use Rattle.sc_search.specs.Limits.{AreMet, ArePlayed, GivesUp, turns_a_state}
 use Rattle.sc_headline.specs.Headline.{HasNoTurn, machine_after}
 
--- how the handlers of the machine stand, in order of number
+-- the statuses of the machine's handlers, in order of number
 abbrev pub statuses_in : World → List Status
 statuses_in w = map (λ h. machine.status_of h w) (range_with_len 0 w.count)
 
@@ -29,7 +29,7 @@ StuckHaveNoTurn = (w : World) → AreStuck (statuses_in w) → HasNoTurn w
 -- ---- an order that was found
 
 -- The text spells a system that is sound. After the turns of these lines, from its opening on, the handlers of the
--- machine stand so.
+-- machine have these statuses.
 pub record LeadsMachineTo (text : List ℕ) (root : Root) (version : Version) (lines : List RecordLine)
     (aim : Aim) : Type 0 where
   pub system : System
@@ -47,7 +47,7 @@ FoundOrdersAreTheMachines =
 -- ---- where nothing was found
 
 -- The text spells a system that is sound, and no list of handler numbers, of any length, leads the machine from its
--- opening to a state in which the handlers stand as is looked for.
+-- opening to a state whose statuses are what is looked for.
 pub record NoOrderMeets (text : List ℕ) (root : Root) (version : Version) (aim : Aim) : Type 0 where
   pub system : System
   pub read : IsRead text system
@@ -62,8 +62,8 @@ WholeSearchesFindAll =
 
 -- ---- where a search gives up
 
--- A search of a text's program gives up only where it has met as many states as it may keep, or has played as many
--- turns as go with them.
+-- A search of a text's program gives up only if it has met as many states as it may keep, or has played as many
+-- turns as that allows.
 abbrev pub SearchesGiveUpAtLimits : Type 0
 SearchesGiveUpAtLimits =
     (text : List ℕ) (root : Root) (program : Image) (version : Version) (aim : Aim) (limit : ℕ) →

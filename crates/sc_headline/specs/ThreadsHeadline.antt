@@ -16,9 +16,9 @@ use Rattle.sc_recording.specs.Recorded.{turns_of}
 use Rattle.sc_frontend.specs.Texts.{IsLoaded}
 use Rattle.sc_headline.specs.Headline.{HaveTurns, IsMachineRun, StandsForReached}
 
--- One thread that makes the turns of the record's lines, from the opening of the program, ends in a world with just the
--- core and the regions that are left. Each of these turns is one of a handler that has something to do. The world
--- stands for a state that the machine reaches, of which the headline holds.
+-- One thread that makes the turns of the record's lines, from the opening of the program, ends in a world with just
+-- the core and the regions that are left. Each of these turns is one of a handler that has a job. The world
+-- represents a state that the machine reaches, and the headline holds of that state.
 pub record HasThreadsHeadline (text : List ℕ) (root : Root) (program : Image) (left : Left) : Type 0 where
   pub world : PlainWorld
   pub makes : MakeTurns (turns_of (log_of left.core)) (opened program Two) world
@@ -32,8 +32,8 @@ ThreadsHaveHeadline =
     IsLoaded text root program → IsRun program limit left →
     ∥ HasThreadsHeadline text root program left ∥₁
 
--- The report of what is left, and how its handlers stand, is what the machine reports after the turns of the record's
--- lines.
+-- The report of what is left, and its handlers' statuses, are what the machine reports after the turns of the
+-- record's lines.
 abbrev pub ThreadsReportAsMachine : Type 0
 ThreadsReportAsMachine =
     (text : List ℕ) (root : Root) (program : Image) (limit : ℕ) (left : Left) →
@@ -41,8 +41,8 @@ ThreadsReportAsMachine =
     ∥ IsMachineRun text root Two (turns_of (log_of left.core)) (told.report (world_of left))
     (told.statuses (world_of left)) ∥₁
 
--- Each handler of the turns of the record's lines has a turn when it comes to it, from the opening of the text's system
--- on.
+-- Each handler of the turns of the record's lines has a turn when its number is reached, from the opening of the
+-- text's system on.
 abbrev pub ThreadsMakeTurns : Type 0
 ThreadsMakeTurns =
     (text : List ℕ) (root : Root) (program : Image) (limit : ℕ) (left : Left) →

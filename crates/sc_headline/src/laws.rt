@@ -29,7 +29,7 @@ pub fn machine_headline()
     machine_has_headline();
 }
 
-/// So it is of the world of the text's program, which stands for such a state.
+/// The headline: the world of an accepted text's program, after any turns, represents such a state.
 pub fn headline()
     ensures { Headline }
 {
@@ -57,9 +57,9 @@ pub fn replays_are_the_machines()
     world_reports_as_machine();
 }
 
-/// What a run leaves is what the machine on trees reports after the turns of its record's lines, each of which is one that its
-/// handler has in the machine, in the state to which those before it lead: at most so many, and fewer only where no handler has a
-/// turn any more or the lines are 1,000,000.
+/// What a run leaves is what the machine on trees reports after the turns of its record's lines. Each of these is a
+/// turn that its handler has in the machine, in the state to which those before it lead: at most as many as the limit
+/// says, and fewer only if no handler has a turn any more or the lines are 1,000,000.
 pub fn runs_are_the_machines()
     ensures { RunsAreTheMachines }
 {
@@ -70,9 +70,9 @@ pub fn runs_are_the_machines()
     world_reports_as_machine();
 }
 
-/// For every source text that is accepted, and in whatever order the threads of a run come to their turns: what the run leaves
-/// is what one thread leaves that makes the turns of the record's lines. It stands for a state that the machine on trees
-/// reaches, and of that state the headline holds.
+/// For every source text that is accepted, and in whatever order the threads of a run make their turns: what the run
+/// leaves is what one thread leaves that makes the turns of the record's lines. It represents a state that the
+/// machine on trees reaches, and the headline holds of that state.
 pub fn threads_have_headline()
     ensures { ThreadsHaveHeadline }
 {
@@ -97,26 +97,26 @@ pub fn threads_make_turns()
     runs_are_one_threads();
 }
 
-/// For every source text that is accepted, where an audit says yes to what a run of its program left: the turns of the record
-/// lead to a world that has the same of each handler. It stands for a state that the machine on trees reaches, and of that
-/// state the headline holds.
+/// For every source text that is accepted, if an audit says yes to what a run of its program left: the turns of the
+/// record lead to a world that has the same of each handler. It represents a state that the machine on trees reaches,
+/// and the headline holds of that state.
 pub fn audited_worlds_have_headline()
     ensures { AuditedWorldsHaveHeadline }
 {
     headline();
 }
 
-/// For every source text that is accepted: from the opening of its program, turns of the same handlers in the same order lead to
-/// one world.
+/// For every source text that is accepted: from the opening of its program, turns of the same handlers in the same
+/// order lead to one world.
 pub fn worlds_are_one()
     ensures { OneWorld }
 {
     runs_are_functional();
 }
 
-/// So what an audit answers speaks of each run of the record: it says yes exactly where the record is one and its run ends in
-/// what is left, A2 exactly where its run differs from that, of this handler first, and A1 exactly where this line is the first
-/// that doesn't fit. Where there is no memory to play the record it says that.
+/// So the answer of an audit holds for each run of the record: it says yes exactly if the record is one and its run
+/// ends in what is left, A2 exactly if its run differs from that, first at this handler, and A1 exactly if this line
+/// is the first that doesn't fit. If memory ran out as the record was played, it says that.
 pub fn audits_are_exact()
     ensures { AuditsAreExact }
 {
@@ -135,8 +135,8 @@ pub fn runs_are_answered_yes()
     runs_audit_yes();
 }
 
-/// For every source text that is accepted: after the turns of an order that a search found, the handlers of the machine on
-/// trees stand as those of the program's world do, stuck or with one that has failed.
+/// For every source text that is accepted: after the turns of an order that a search found, the handlers of the
+/// machine on trees have the statuses of the world's, stuck or with one that has failed.
 pub fn found_orders_are_the_machines()
     ensures { FoundOrdersAreTheMachines }
 {

@@ -67,7 +67,7 @@ pub fn push_attribute(
     }
 }
 
-/// The operand of the topmost routine under the last so many, if there is one.
+/// The operand of the topmost routine below the last `count`, if there is one.
 #[inline(always)]
 pub fn value_under(store: &Store<'_>, count: usize) -> Option<Value>
     ensures { result ≡ option_and_then (λ (a : PlainActivation). slice_get a.operands.values count) (top_activation store.now.frames) }

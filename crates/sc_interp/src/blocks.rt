@@ -21,7 +21,7 @@ fn block_at(program: &Program, number: usize) -> Option<Heads>
     program.pool().blocks.get(number).copied()
 }
 
-/// A separate block begins, whose heads go into these slots: F16 where there are no such slots, or fewer operands.
+/// Begins a separate block, whose heads go into these slots: F16 if there are no such slots, or fewer operands.
 fn open_block(activation: &Activation, block: Heads) -> Hop
     ensures hops { (count : ℕ) → Hops count (plain.Open block.first block.count) result (activation_of activation.now) (activation_of activation.now) }
     ensures told { (p : Image) → HasBlock p block.first block.count → Tells p result (activation_of activation.now) }

@@ -1,4 +1,4 @@
-//! Calls, creations and separate blocks: what they name is told, and the routine stays as it is.
+//! Calls, creations and separate blocks: what they name is returned, and the routine stays as it is.
 ghost use Rattle.std.specs.Prelude.{◌≡◌, ℕ, IfSome, Some, None, ◌||◌, not, drop, length, nat_lt, slice_get, if◌then◌else◌};
 ghost use Rattle.std.specs.Option.{option_map, option_and_then};
 ghost use Rattle.sc_region.specs.Frames.{activation_of};
@@ -33,7 +33,7 @@ fn has_procedure(pool: &ConstantPool, procedure: Option<NameNumber>) -> bool
     }
 }
 
-/// The call's site of the number, where it and its name are there.
+/// The call site of the number, if it and its name exist.
 #[inline(always)]
 pub fn call_at(program: &Program, number: usize) -> Option<CallSite>
     ensures site { let pool = pool_of program.now.image.pool in
@@ -49,7 +49,7 @@ pub fn call_at(program: &Program, number: usize) -> Option<CallSite>
     }
 }
 
-/// The creation's site of the number, where it and the name of its procedure are there.
+/// The creation site of the number, if it and the name of its procedure exist.
 fn creation_at(program: &Program, number: usize) -> Option<CreationSite>
     ensures site { let pool = pool_of program.now.image.pool in
         option_map (creation_in pool) result ≡ option_and_then (creation_of pool) (slice_get pool.creations number) }
@@ -64,7 +64,7 @@ fn creation_at(program: &Program, number: usize) -> Option<CreationSite>
     }
 }
 
-/// Whether there is room for what comes where the last so many operands are gone, if anything comes.
+/// Whether there is room for the result, if there is one, after the last `count` operands are removed.
 #[inline(always)]
 pub fn has_room(activation: &Activation, count: usize, gives: bool) -> bool
     ensures { let operands = (activation_of activation.now).operands in
@@ -73,7 +73,7 @@ pub fn has_room(activation: &Activation, count: usize, gives: bool) -> bool
     !gives || activation.operands.has_room_under(count)
 }
 
-/// No case fits, where so many operands are gone.
+/// Fails with F16, with this number of operands removed.
 fn misfit(activation: &mut Activation, count: usize) -> Hop
     ensures gone { activation_of activation.new ≡ record (activation_of activation.old) {
       operands = record (activation_of activation.old).operands { values = drop count (activation_of activation.old).operands.values };

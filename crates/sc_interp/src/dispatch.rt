@@ -20,8 +20,8 @@ use sc_model::Cause;
 use sc_region::{Activation, Reference, Value};
 use std::alloc::AllocError;
 
-/// The operation of the routine that runs on `me`, whose code has `count` operations, where it is silent, needs no memory and
-/// asks nothing but of the routine itself. None where it is another one; nothing has changed then.
+/// Executes the operation of the routine that runs on `me`, whose code has `count` operations, if it is silent, needs
+/// no memory, and reads nothing but the routine itself. None if it is another one, and nothing has changed then.
 #[inline(always)]
 pub fn step_on(
     activation: &mut Activation,
@@ -61,8 +61,8 @@ pub fn step_on(
     }
 }
 
-/// An operation that asks nothing of the attributes of objects, and that `step_on` leaves. Err where there is no memory; nothing
-/// has changed then.
+/// Executes an operation that reads no attributes of objects, and that `step_on` doesn't execute. Its error says that
+/// memory ran out, and nothing has changed then.
 pub fn hop_on(
     program: &Program,
     activation: &mut Activation,

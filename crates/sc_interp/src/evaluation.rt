@@ -1,4 +1,4 @@
-//! What operators and reads come to.
+//! The results of operators and reads.
 ghost use Rattle.std.specs.Prelude.{◌≡◌};
 ghost use Rattle.std.specs.Option.{option_map};
 ghost use Rattle.sc_model.specs.Operators as operators;
@@ -11,7 +11,7 @@ use sc_model::Cause;
 use sc_region::{Reference, Value};
 use sc_tree::{BinaryOperator, UnaryOperator};
 
-/// An entity is read: F7 where its type is attached and it is still Void, F16 where there is none.
+/// Reads an entity: F7 if its type is attached and it is still Void, F16 if there is none.
 #[inline(always)]
 pub fn read(is_attached: bool, value: Option<Value>) -> Result<Value, Cause>
     ensures { evaluated result ≡ flat.read is_attached (option_map value_of value) }
@@ -31,7 +31,7 @@ pub fn read(is_attached: bool, value: Option<Value>) -> Result<Value, Cause>
     }
 }
 
-/// A kept value is read: F16 where there is none.
+/// Reads a kept value: F16 if there is none.
 pub fn found(value: Option<Value>) -> Result<Value, Cause>
     ensures { evaluated result ≡ flat.found (option_map value_of value) }
 {
@@ -49,7 +49,7 @@ fn outcome(found: Result<i64, ArithmeticFault>) -> Result<Value, Cause>
     }
 }
 
-/// The value of a unary operator: F16 where it takes no such operand.
+/// The value of a unary operator: F16 if it takes no such operand.
 #[inline(always)]
 pub fn unary_value(operator: UnaryOperator, operand: Value) -> Result<Value, Cause>
     ensures { evaluated result ≡ flat.unary_value operator (value_of operand) }
@@ -80,7 +80,7 @@ fn connective_of(operator: BinaryOperator) -> Option<Connective>
     }
 }
 
-/// What `=` and `/=` make of two references, by whether they are the same.
+/// The result of `=` or `/=` for two references, by whether they are equal.
 #[inline(always)]
 fn identity_of(operator: BinaryOperator, same: bool) -> Option<bool>
     ensures { result ≡ operators.identity_of operator same }
@@ -109,8 +109,8 @@ fn truth(found: Option<bool>) -> Result<Value, Cause>
     }
 }
 
-/// What a binary operator gives of two integers: F16 where it takes none. (One choice over the operator, in place: it is done most
-/// often.)
+/// The result of a binary operator for two integers: F16 if it takes none. (One match over the operator, inlined,
+/// since it is the most frequent.)
 #[inline(always)]
 pub fn of_integers(operator: BinaryOperator, left: i64, right: i64) -> Result<Value, Cause>
     ensures { evaluated result ≡ flat.of_integers (operators.arithmetic_of operator) (operators.comparison_of operator) left right }
@@ -141,7 +141,7 @@ fn of_booleans(operator: BinaryOperator, left: bool, right: bool) -> Result<Valu
     }
 }
 
-/// The value of a binary operator: F16 where it takes no such operands.
+/// The value of a binary operator: F16 if it takes no such operands.
 #[inline(always)]
 pub fn binary_value(operator: BinaryOperator, left: Value, right: Value) -> Result<Value, Cause>
     ensures { evaluated result ≡ flat.binary_value operator (value_of left) (value_of right) }

@@ -85,7 +85,7 @@ fn has_room_past(activation: &Activation, site: CallSite, gives: bool) -> bool
     has_room(activation, past(activation, site), gives)
 }
 
-/// The value of an attribute comes in the place of the call's operands: F7 where it is still Void and may not be.
+/// Replaces the call's operands by the value of an attribute: F7 if it is still Void and may not be.
 #[inline(always)]
 pub fn read_target(
     activation: &mut Activation,
@@ -229,7 +229,7 @@ fn feature_at(store: &Store<'_>, target: Value, name: NameNumber) -> Option<Foun
     }
 }
 
-/// The call's site of the number, where it and its name are there.
+/// The call site of the number, if it and its name exist.
 #[inline(always)]
 pub fn site_at(store: &Store<'_>, number: usize) -> Option<CallSite>
     ensures site { IsSite store.now number result }

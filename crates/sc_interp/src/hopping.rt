@@ -19,8 +19,9 @@ use std::alloc::AllocError;
 
 // ---- operations
 
-/// The operation of the topmost routine, which runs on `me` and whose code has `count` operations, where it is silent, needs no
-/// memory and asks nothing but of the routine itself. None where it is another one; nothing has changed then.
+/// Executes the operation of the topmost routine, which runs on `me` and whose code has `count` operations, if it is
+/// silent, needs no memory, and reads nothing but the routine itself. None if it is another one, and nothing has
+/// changed then.
 fn step_in_place(
     store: &mut Store<'_>,
     me: Reference,
@@ -38,7 +39,7 @@ fn step_in_place(
     }
 }
 
-/// The same, where the operation may ask the attributes of Current too.
+/// Executes the operation of the topmost routine as `step_in_place` does, also if it reads the attributes of Current.
 fn step_by(
     store: &mut Store<'_>,
     me: Reference,
@@ -163,8 +164,8 @@ fn hop_in(store: &mut Store<'_>, me: Reference, code: &RoutineCode) -> Result<Ho
     }
 }
 
-/// The next operation of the topmost routine: a silent one is done, a visible one told, and still to be done. F16 where
-/// there is none. Err where there is no memory; nothing has changed then.
+/// The next operation of the topmost routine: a silent one is executed, a visible one is returned and still to be
+/// executed. F16 if there is none. Its error says that memory ran out, and nothing has changed then.
 pub fn hop(store: &mut Store<'_>) -> Result<Hop, AllocError>
     ensures next { IfOk result (λ hop. NextIs hop store.old store.new) }
     ensures remains { Remains store.old store.new }
@@ -211,9 +212,9 @@ fn moves_in(store: &mut Store<'_>, me: Reference, code: &RoutineCode) -> Result<
     Ok(Hop::Failed(Cause::BadCode))
 }
 
-/// The silent operations of the topmost routine are done, up to one that isn't silent, which is told as `hop` tells it: where
-/// it is still to be done, no more than they has changed. Err where there is no memory; as many silent operations are done then
-/// as there was memory for.
+/// Executes the silent operations of the topmost routine, up to one that isn't silent, which is returned as `hop`
+/// returns it: if that is still to be executed, only the silent ones have changed anything. Its error says that
+/// memory ran out; as many silent operations are executed then as there was memory for.
 pub fn moves(store: &mut Store<'_>) -> Result<Hop, AllocError>
     ensures comes { IfOk result (λ hop. ComesTo hop store.old store.new) }
     ensures remains { Remains store.old store.new }

@@ -1,11 +1,11 @@
-//! What operations come to.
+//! The results of operations.
 ghost use Rattle.std.specs.Prelude.{◌≡◌};
 ghost use Rattle.sc_interp.specs.Standing.{stepped};
 
 use sc_acts::Act;
 use sc_model::Cause;
 
-/// What an operation comes to.
+/// The result of an operation.
 #[derive(Clone, Copy)]
 pub enum Hop {
     /// It was silent, and is done.
@@ -16,7 +16,7 @@ pub enum Hop {
     Comes(Act),
 }
 
-/// What a silent operation comes to: it passed, or the handler fails.
+/// The result of a silent operation: it passed, or the handler fails.
 pub fn stepped(step: Result<(), Cause>) -> Hop
     ensures { result ≡ stepped step }
 {

@@ -1,8 +1,8 @@
-//! What flat code does on the store of a handler.
+//! What flat code does to the store of a handler.
 //!
-//! An operation is done in place, on the routine that has come to it. A silent one is done; a visible one is told as an
-//! [`Act`](sc_acts::Act). Where the end of the routine or a call on an object of another handler comes next, that is told at once
-//! ([`next_coming`]).
+//! An operation is executed in place, on the routine that has reached it. A silent one is executed; a visible one is
+//! returned as an [`Act`](sc_acts::Act). The end of the routine, or a call on an object of another handler, is
+//! recognised at once if it comes next ([`next_coming`]).
 #![tactic(auto)]
 
 mod attributes;

@@ -8,7 +8,7 @@ ghost use Rattle.sc_interp.specs.Standing.{Drops, Passes, Stays, stepped};
 use sc_model::Cause;
 use sc_region::{Activation, Value};
 
-/// On past so many operations behind this one; F16 where the code, of `count` operations, has none there.
+/// Skips this number of operations after this one; F16 if the code, of `count` operations, has none there.
 #[inline(always)]
 pub fn skip(activation: &mut Activation, count: usize, passed: usize) -> Result<(), Cause>
     ensures passes { Passes count (λ c f. flat.skips c passed f) (stepped result) (activation_of activation.old) (activation_of activation.new) }
@@ -23,7 +23,7 @@ pub fn skip(activation: &mut Activation, count: usize, passed: usize) -> Result<
     }
 }
 
-/// One more operand, and on; F16 where there is no room.
+/// Pushes one more operand and goes on; F16 if there is no room.
 #[inline(always)]
 pub fn push(activation: &mut Activation, count: usize, value: Value) -> Result<(), Cause>
     ensures passes { Passes count (λ c f. flat.push c (value_of value) f) (stepped result) (activation_of activation.old) (activation_of activation.new) }
@@ -36,7 +36,7 @@ pub fn push(activation: &mut Activation, count: usize, value: Value) -> Result<(
     skip(activation, count, 0)
 }
 
-/// Whether a code of `count` operations has one behind this place.
+/// Whether a code of `count` operations has one after this place.
 #[inline(always)]
 pub fn has_next(place: usize, count: usize) -> bool
     ensures { IsTrue result ↔ (place + 1 < count) }
@@ -60,7 +60,7 @@ pub fn push_found(
     }
 }
 
-/// The value comes in the place of operands that were popped, and so many operations are passed.
+/// Pushes the value in place of operands that were popped, and skips this number of operations.
 #[inline(always)]
 pub fn put_past(
     activation: &mut Activation,
@@ -103,7 +103,7 @@ pub fn pass_last(activation: &mut Activation, count: usize) -> Result<(), Cause>
     skip(activation, count, 0)
 }
 
-/// The slot gets the value; F16 where there is no such slot.
+/// Writes the value to the slot; F16 if there is no such slot.
 #[inline(always)]
 pub fn store(
     activation: &mut Activation,

@@ -89,7 +89,8 @@ pub fn initialize(
     store(activation, count, slot, default_of(value))
 }
 
-/// The last operand is the value of the next `old`. Err where there is no memory for it; nothing has changed then.
+/// Keeps the last operand as the value of the next `old`. Its error says that memory ran out, and nothing has changed
+/// then.
 #[tactic(auto, using(crate::proofs::GoingOn::values_more))]
 pub fn keep_old(activation: &mut Activation, count: usize) -> Result<Hop, AllocError>
     ensures hops { IfOk result (λ hop. Hops count flat.KeepOld hop (activation_of activation.old) (activation_of activation.new)) }

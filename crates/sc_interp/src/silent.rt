@@ -43,7 +43,8 @@ pub fn apply_binary(
     }
 }
 
-/// The right operand was popped, and the left one is the last. Where there is none the right one stays.
+/// Applies an operator to the last operand and the right one, which was popped. If there is no left one, the right
+/// one stays.
 fn apply_to(
     activation: &mut Activation,
     count: usize,
@@ -123,7 +124,7 @@ pub fn store_result(activation: &mut Activation, count: usize) -> Result<(), Cau
     }
 }
 
-/// Where the last operand is False, so many operations are passed.
+/// Skips this number of operations if the last operand is False.
 #[inline(always)]
 pub fn skip_if_false(activation: &mut Activation, count: usize, passed: usize) -> Result<(), Cause>
     ensures hops { Hops count (flat.SkipIfFalse passed) (stepped result) (activation_of activation.old) (activation_of activation.new) }

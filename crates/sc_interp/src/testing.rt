@@ -62,7 +62,7 @@ fn lies_with(slots: &[Value], slot: usize, handler: HandlerNumber) -> bool
     }
 }
 
-/// Whether an object of a handler lies where it has to, seen from the handler `me`.
+/// Whether an object of a handler has the handler that it must have, seen from the handler `me`.
 fn resides(residence: Residence, me: HandlerNumber, slots: &[Value], handler: HandlerNumber) -> bool
     ensures { result ≡ flat.resides (residence_of residence) me (values_of slots.now) handler }
 {
@@ -123,7 +123,7 @@ fn bind(activation: &mut Activation, count: usize, slot: usize, value: Value) ->
     stepped(store(activation, count, slot, value))
 }
 
-/// The answer of an object test is the last operand; where it is True, the slot gets the value.
+/// Makes the answer of an object test the last operand; if it is True, writes the value to the slot.
 #[inline(always)]
 fn bind_if(
     activation: &mut Activation,

@@ -1,4 +1,4 @@
-//! Visible operations: what they name is told, and the routine stays as it is.
+//! Visible operations: what they name is returned, and the routine stays as it is.
 ghost use Rattle.std.specs.Prelude.{◌≡◌, ℕ, IfSome};
 ghost use Rattle.sc_acts.specs.declared.act.Act.TheVariants as act;
 ghost use Rattle.sc_interp.specs.declared.hops.Hop.TheVariants as outcome;
@@ -17,7 +17,7 @@ use sc_code::Program;
 use sc_model::Cause;
 use sc_region::{Activation, Value};
 
-/// The value of the last operand is printed: F16 where it is none of INTEGER or BOOLEAN.
+/// Prints the value of the last operand: F16 if it is neither INTEGER nor BOOLEAN.
 pub fn print(activation: &mut Activation) -> Hop
     ensures hops { (count : ℕ) → Hops count flat.Print result (activation_of activation.old) (activation_of activation.new) }
     ensures stays { Stays (activation_of activation.old) (activation_of activation.new) }
@@ -37,7 +37,7 @@ pub fn print(activation: &mut Activation) -> Hop
     }
 }
 
-/// The text of the number is printed, where there is one.
+/// Prints the text of the number, if there is one.
 pub fn print_text(program: &Program, text: usize) -> Hop
     ensures follows { (me : code.Reference) (count : ℕ) (a : PlainActivation) → Follows program.now.image me count (coded.PrintText text) result a a }
     ensures told { (a : PlainActivation) → Tells program.now.image result a }
@@ -49,7 +49,7 @@ pub fn print_text(program: &Program, text: usize) -> Hop
     }
 }
 
-/// The loop ends where the last operand is True, else its body comes again, so many operations back.
+/// Ends the loop if the last operand is True; else its body comes again, this number of operations back.
 pub fn end_loop(activation: &mut Activation, back: usize) -> Hop
     ensures hops { (count : ℕ) → Hops count (flat.EndLoop back) result (activation_of activation.old) (activation_of activation.new) }
     ensures stays { Stays (activation_of activation.old) (activation_of activation.new) }
@@ -83,7 +83,7 @@ fn demand_on(activation: &mut Activation, count: usize, number: usize) -> Hop
     }
 }
 
-/// The same, where the program has such a list.
+/// Takes a clause's value by the number of its list of formals, if the program has such a list.
 #[inline]
 pub fn demand(program: &Program, activation: &mut Activation, count: usize, number: usize) -> Hop
     ensures follows { FollowsOnEach program.now.image count (coded.Demand number) result (activation_of activation.old) (activation_of activation.new) }
@@ -98,8 +98,8 @@ pub fn demand(program: &Program, activation: &mut Activation, count: usize, numb
     }
 }
 
-/// What the `until` comes to whose value is the last operand, where that is a truth value: the loop ends, or so many
-/// operations come again.
+/// The result of the `until` whose value is the last operand, if that is a truth value: the loop ends, or goes this
+/// number of operations back.
 pub fn until(activation: &Activation, back: usize) -> Option<Option<usize>>
     ensures hops { IfSome result (λ next. ComesToUntil back next (activation_of activation.now)) }
     ensures told { IfSome result (λ next. (p : Image) → Tells p (outcome.Comes (act.Until next)) (activation_of activation.now)) }

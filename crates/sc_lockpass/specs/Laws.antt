@@ -43,11 +43,11 @@ OthersKeep = (r : Rights) (h other k : ℕ) → other ≢ h → held (release_al
 abbrev pub ReserverHolds : Type 0
 ReserverHolds = (r : Rights) (h k : ℕ) (ks : List ℕ) → held (reserve h ks r) h k ≡ (is_among k ks || held r h k)
 
--- nobody may post to any of these
+-- no handler may post to any of these
 abbrev pub AreUnreserved : List ℕ → Rights → Type 0
 AreUnreserved ks r = (k : ℕ) → is_among k ks ≡ true → r.queue k ≡ None
 
--- Reserving handlers that nobody may post to takes nothing from anybody, and releasing them restores all rights.
+-- Reserving handlers that are free takes nothing from any handler, and releasing them restores all rights.
 abbrev pub TakesNothing : Type 0
 TakesNothing =
     (r : Rights) (h other k : ℕ) (ks : List ℕ) → AreUnreserved ks r → other ≢ h →

@@ -2,7 +2,7 @@
 use Rattle.std.specs.Prelude.{◌≡◌, ◌==◌, ℕ, Option, Some, None, if◌then◌else◌}
 use Rattle.sc_lockpass.specs.Rights.{Rights, is_handler}
 
--- What was passed: the rights that are listed, each with its holder before, which may be nobody.
+-- What was passed: the rights that are listed, each with its holder before, if it had one.
 pub record Passed : Type 0 where
   pub queue : ℕ → Option (Option ℕ)
   pub top : ℕ → Option (Option ℕ)
@@ -18,7 +18,7 @@ pass client supplier r = record {
   top = λ k. if k == client then Some supplier else moved client supplier (r.top k);
 }
 
--- a right is listed where it is the client's
+-- a right is listed if it is the client's
 abbrev pub listed : ℕ → Option ℕ → Option (Option ℕ)
 listed client holder = if is_handler client holder then Some holder else None
 
@@ -38,6 +38,6 @@ returned (Some before) holder = before
 abbrev pub give_back : Passed → Rights → Rights
 give_back p r = record { queue = λ k. returned (p.queue k) (r.queue k); top = λ k. returned (p.top k) (r.top k) }
 
--- Of the rights over the handler the same are listed, with the same holders.
+-- Both list equal rights over the handler, with equal holders.
 abbrev pub AreListedAlike : ℕ → Passed → Passed → Type 0
 AreListedAlike k p q = (p.queue k ≡ q.queue k) × (p.top k ≡ q.top k)

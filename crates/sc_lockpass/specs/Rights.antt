@@ -1,13 +1,13 @@
--- Rights: who holds which handler, and what reserving and releasing make of it.
+-- Rights: which handler holds which, and what reserving and releasing change.
 use Rattle.std.specs.Prelude.{◌==◌, ◌||◌, ℕ, Bool, false, List, Option, Some, None, if◌then◌else◌}
 use Rattle.std.specs.List.{list_any}
 
--- For each handler who may post to it, and who may push on its waiting stack: a handler, or nobody.
+-- For each handler which handler may post to it, and which may push on its waiting stack, if any.
 pub record Rights : Type 0 where
   pub queue : ℕ → Option ℕ
   pub top : ℕ → Option ℕ
 
--- all rights are nobody's
+-- no handler holds a right
 abbrev pub unreserved : Rights
 unreserved = record { queue = λ k. None; top = λ k. None }
 
@@ -27,14 +27,14 @@ is_among k ks = list_any (λ j. j == k) ks
 abbrev pub reserve : ℕ → List ℕ → Rights → Rights
 reserve h ks r = record { queue = λ k. if is_among k ks then Some h else r.queue k; top = r.top }
 
--- Nobody may post to any of these.
+-- No handler may post to any of these.
 abbrev pub release : List ℕ → Rights → Rights
 release ks r = record { queue = λ k. if is_among k ks then None else r.queue k; top = r.top }
 
--- a right that was the handler's goes to nobody
+-- a right that was the handler's is free
 abbrev pub lost_by : ℕ → Option ℕ → Option ℕ
 lost_by h holder = if is_handler h holder then None else holder
 
--- Every right that the handler holds goes to nobody, one that was passed to it too.
+-- Every right that the handler holds is free, also one that was passed to it.
 abbrev pub release_all : ℕ → Rights → Rights
 release_all h r = record { queue = λ k. lost_by h (r.queue k); top = λ k. lost_by h (r.top k) }

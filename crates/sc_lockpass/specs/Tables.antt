@@ -5,13 +5,13 @@ use Rattle.sc_lockpass.specs.declared.version.Version.{Version}
 use Rattle.sc_lockpass.specs.Rights.{Rights, is_handler}
 use Rattle.sc_lockpass.specs.Passing.{Passed}
 
--- who may post to each handler of a version, and who may push on its waiting stack
+-- which handler may post to each handler of a version, and which may push on its waiting stack
 pub record Table : Type 0 where
   pub version : Version
   pub queue : List (Option ℕ)
   pub top : List (Option ℕ)
 
--- the holder at this number, and nobody past the end
+-- the holder at this number, and none after the end
 abbrev pub holder_at : List (Option ℕ) → ℕ → Option ℕ
 holder_at holders k = slice_index_or holders k None
 
@@ -19,7 +19,7 @@ holder_at holders k = slice_index_or holders k None
 abbrev pub rights_of : Table → Rights
 rights_of t = record { queue = holder_at t.queue; top = holder_at t.top }
 
--- from this number on, all is nobody's
+-- from this number on, no handler holds a right
 abbrev pub IsNobodysFrom : ℕ → List (Option ℕ) → Type 0
 IsNobodysFrom reach holders = (k : ℕ) → reach ≤ k → holder_at holders k ≡ None
 
@@ -35,8 +35,8 @@ is_member words k = bit_at (slice_index_or words (k / 64) 0) (k % 64) == 1
 abbrev pub IsBelow : ℕ → List ℕ → Type 0
 IsBelow reach words = (k : ℕ) → reach ≤ k → is_member words k ≡ false
 
--- What a client passed: the handlers to which it could post and on whose waiting stack it could push, as two sets, and
--- who could push on its own.
+-- What a client passed: the handlers to which it could post and on whose waiting stack it could push, as two sets,
+-- and which handler could push on its own.
 pub record Listing : Type 0 where
   pub client : ℕ
   pub top_holder : Option ℕ

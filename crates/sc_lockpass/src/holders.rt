@@ -1,4 +1,4 @@
-//! Tables of holders: for each handler another one that holds it, or nobody.
+//! Tables of holders: for each handler the one that holds it, if any.
 ghost use Rattle.std.specs.Prelude.{◌≡◌, ◌<◌, ◌≤◌, ℕ, false, None, length, if◌then◌else◌};
 ghost use Rattle.std.specs.List.{All};
 ghost use Rattle.sc_lockpass.specs.Rights.{is_among, is_handler};
@@ -17,14 +17,14 @@ pub(crate) fn holds(handler: HandlerNumber, holder: Option<HandlerNumber>) -> bo
     }
 }
 
-/// A table in which nobody holds any handler.
+/// A table in which no handler is held.
 pub(crate) fn nobody() -> [Option<HandlerNumber>; 512]
     ensures { (k : ℕ) → holder_at result k ≡ None }
 {
     [None; 512]
 }
 
-/// Which handlers this one holds in a table that has nobody from `reach` on.
+/// Which handlers this one holds, in a table that has no holders from `reach` on.
 pub(crate) fn held_by(
     handler: HandlerNumber,
     holders: &[Option<HandlerNumber>],
@@ -44,7 +44,7 @@ pub(crate) fn held_by(
     held
 }
 
-/// Gives what a handler holds to another, or to nobody, in a table that has nobody from `reach` on.
+/// Gives what a handler holds to another one, or frees it, in a table that has no holders from `reach` on.
 pub(crate) fn replace(
     holders: &mut [Option<HandlerNumber>],
     reach: usize,

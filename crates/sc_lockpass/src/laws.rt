@@ -46,7 +46,7 @@ pub fn reserver_holds()
     ensures { ReserverHolds }
 {}
 
-/// Reserving handlers that nobody may post to takes nothing from anybody.
+/// Reserving handlers that are free takes nothing from any handler.
 pub fn reserving_takes_nothing()
     ensures { TakesNothing }
 {}

@@ -1,9 +1,9 @@
-//! Who holds which handler, and how these rights are passed with a request and return with its answer.
+//! Which handler holds which, and how these rights are passed with a request and return with its answer.
 //!
-//! `specs/Rights` and `specs/Passing` are the definitions, on maps from handlers to a handler or nobody. `specs/Posting` says
-//! where what is asked of a handler stands.
+//! `specs/Rights` and `specs/Passing` are the definitions, on maps from handlers to their holders. `specs/Posting`
+//! says where a request goes.
 //!
-//! What an entry needs reserved, and when one that waits is tried again, stands in [`wait_conditions`].
+//! What an entry needs reserved, and when one that waits is tried again, is in [`wait_conditions`].
 #![tactic(auto)]
 
 mod handler_number;

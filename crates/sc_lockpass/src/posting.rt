@@ -1,11 +1,11 @@
-//! Where what is asked of a handler stands.
+//! Where a request goes.
 ghost use Rattle.std.specs.Prelude.{◌≡◌, ◌<◌, ◌+◌, ◌^◌, false, length};
 ghost use Rattle.sc_lockpass.specs.Posting.{called_back, queued};
 
 use std::collections::LinkedList;
 
-/// What is asked of a handler, in a node of its own, comes to stand there: in the callback's place, on top of the waiting
-/// stack, or at the queue's end.
+/// Puts a request, in a node of its own, into the target's callback place, onto its waiting stack, or at its queue's
+/// end.
 pub fn post<T: Drop>(
     is_callback: bool,
     mut node: LinkedList<T>,

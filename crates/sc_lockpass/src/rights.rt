@@ -1,4 +1,4 @@
-//! Who holds which handler.
+//! Which handler holds which.
 ghost use Rattle.std.specs.Prelude.{◌≡◌, ◌<◌, ◌≤◌, Some, None};
 ghost use Rattle.std.specs.List.{All};
 ghost use Rattle.sc_lockpass.specs.Versions.{most_handlers};
@@ -12,17 +12,17 @@ use crate::passed::Passed;
 use crate::version::Version;
 use std::marker::Model;
 
-/// For each handler who may post to it, its `queue`, and who may push on its waiting stack, its `top`: a handler, or
-/// nobody. Handlers are numbered from 0, below the most of the version.
+/// For each handler, which handler may post to it (its `queue`) and which may push on its waiting stack (its `top`),
+/// if any. Handlers are numbered from 0, below the most of the version.
 ///
 /// Two tables of fixed size, so that no call takes memory. Handlers are made one after another, and each is reserved
-/// as it is made: so a right over one that doesn't exist yet is nobody's. The tables know the highest number over which
-/// a right was ever given, and no call looks beyond it: the time of a call grows with the handlers that exist, and not
-/// with the version.
+/// as it is made: so no handler has a right over one that doesn't exist yet. The tables know the highest number over
+/// which a right was ever given, and no call looks beyond it: the time of a call grows with the handlers that exist,
+/// and not with the version.
 #[derive(Drop)]
 pub struct Rights {
     version: Version,
-    /// All rights over handlers from this number on are nobody's.
+    /// No handler has a right over handlers from this number on.
     reach: usize,
     queue: [Option<HandlerNumber>; 512],
     top: [Option<HandlerNumber>; 512],
@@ -44,7 +44,7 @@ impl Model for Rights {
 }
 
 impl Rights {
-    /// All rights over the handlers of a version, which are nobody's.
+    /// All rights over the handlers of a version, held by no handler.
     pub fn new(version: Version) -> Self
         ensures rights { rights_of result ≡ maps.unreserved }
         ensures version { result.version ≡ version }
@@ -78,7 +78,7 @@ impl Rights {
         self.top.get(handler as usize).copied().flatten()
     }
 
-    /// From which number on all rights over handlers are nobody's.
+    /// The number from which on no handler has a right.
     pub fn reach(&self) -> usize
         ensures most { result ≤ 512 }
         ensures queue { IsNobodysFrom result self.now.queue }
@@ -94,7 +94,7 @@ impl Rights {
         handler == holder || holds(holder, self.queue(handler)) || holds(holder, self.top(handler))
     }
 
-    /// Lets a handler post to these, which nobody may post to.
+    /// Lets a handler post to these handlers, which were free.
     pub fn reserve(&mut self, holder: HandlerNumber, handlers: &[HandlerNumber])
         requires listed { All (λ k. k < most_handlers self.old.version) handlers.now }
         requires unreserved { All (λ k. (rights_of self.old).queue k ≡ None) handlers.now }
@@ -105,7 +105,7 @@ impl Rights {
         self.reach = reach_with(self.reach, handlers);
     }
 
-    /// Lets nobody post to these, which this handler may post to.
+    /// Frees these handlers, to which this handler may post.
     pub fn release(&mut self, holder: HandlerNumber, handlers: &[HandlerNumber])
         requires { All (λ k. (rights_of self.old).queue k ≡ Some holder) handlers.now }
         ensures rights { rights_of self.new ≡ maps.release handlers.now (rights_of self.old) }
@@ -114,7 +114,7 @@ impl Rights {
         assign(&mut self.queue, handlers, None);
     }
 
-    /// Gives every right that a handler holds to nobody, one that was passed to it too.
+    /// Frees every handler over which this one holds a right, also one that was passed to it.
     pub fn release_all(&mut self, holder: HandlerNumber)
         ensures rights { rights_of self.new ≡ maps.release_all holder (rights_of self.old) }
         ensures version { self.new.version ≡ self.old.version }
@@ -124,7 +124,7 @@ impl Rights {
     }
 
     /// Passes every right that a client holds to its supplier, with the right to push on the client's own waiting
-    /// stack, whoever had it. Answers what was passed, with the holders before.
+    /// stack, whoever held it. Returns what was passed, with the holders before.
     pub fn pass(&mut self, client: HandlerNumber, supplier: HandlerNumber) -> Passed
         requires { client < most_handlers self.old.version }
         ensures passed { passed_of result ≡ passing.passed_by client (rights_of self.old) }

@@ -1,4 +1,4 @@
-//! Whether what was passed with two requests is the same.
+//! Whether two requests passed the same rights.
 ghost use Rattle.std.specs.Prelude.{◌≡◌, ◌<◌, ◌↔◌, IsTrue};
 ghost use Rattle.sc_lockpass.specs.Passing.{AreListedAlike};
 ghost use Rattle.sc_lockpass.specs.Tables.{passed_of};
@@ -7,7 +7,7 @@ use crate::handler_number::HandlerNumber;
 use crate::passed::Passed;
 
 impl Passed {
-    /// Whether the same rights are listed, with the same holders before.
+    /// Whether both list the same rights, with the same holders before.
     pub fn is_same(&self, other: &Passed) -> bool
         ensures { IsTrue result ↔ passed_of self.now ≡ passed_of other.now }
     {
@@ -19,7 +19,7 @@ impl Passed {
         true
     }
 
-    /// Whether the rights over a handler are listed with the same holders, or are not listed.
+    /// Whether both list the rights over a handler with the same holders, or neither lists them.
     fn lists_alike(&self, other: &Passed, handler: usize) -> bool
         requires { handler < 512 }
         ensures { IsTrue result ↔ AreListedAlike handler (passed_of self.now) (passed_of other.now) }

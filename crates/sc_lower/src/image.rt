@@ -39,7 +39,7 @@ fn root_class(tables: &Tables) -> ClassNumber
     }
 }
 
-/// The system in flat code, of at most so many instructions.
+/// The system in flat code, of at most `most` instructions.
 pub fn image<'s>(alloc: Global, tables: &'s Tables<'s>, most: u32) -> Result<Image, LoweringFault>
     requires { WellFormed (system_in tables.now) }
     ensures image { IfOk result (IsProgramOf (system_in tables.now) (root_in tables.now)) }

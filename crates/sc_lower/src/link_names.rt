@@ -35,7 +35,7 @@ impl<'s> Names<'s> {
         }
     }
 
-    /// The number of a name, which is added behind the others where it isn't there yet. It looks once by hash.
+    /// The number of a name, which is added at the end if it is new. It looks once by hash.
     pub fn number(&mut self, text: &'s str) -> Result<NameNumber, AllocError>
         ensures found { IfOk result (λ number. slice_get self.new number ≡ Some text.now) }
         ensures kept { OnOk result (Extends self.old self.new) }

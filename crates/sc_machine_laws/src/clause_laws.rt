@@ -3,7 +3,7 @@
 ghost use Rattle.sc_machine_laws.specs.Formulas.{FormulasAreSteps, InvariantsAreSteps};
 ghost use Rattle.sc_machine_laws.specs.ClauseLaws.{AnswersAreLocal, EvaluationsAreLocal, EvaluationsMayAskMore, StepExtends, StepOfContract, StepKeepsNoOld, TextsAreWithoutOld, TextsAreWithoutTests, TrueEvaluationsHold};
 
-/// A clause whose evaluation by its parts, text by text, comes to its end with True holds in the world.
+/// A clause whose evaluation by its parts, text by text, ends with True holds in the world.
 pub fn true_evaluations_hold()
     ensures { TrueEvaluationsHold }
 {}
@@ -23,7 +23,7 @@ pub fn evaluations_may_ask_more()
     ensures { EvaluationsMayAskMore }
 {}
 
-/// A step of a task without `old` is the same whatever stands behind it, and whatever the values of `old`s are.
+/// A step of a task without `old` doesn't depend on what follows it, nor on the values of `old`s.
 pub fn steps_extend()
     ensures { StepExtends }
 {}
@@ -33,7 +33,7 @@ pub fn steps_stay_without_old()
     ensures { StepKeepsNoOld }
 {}
 
-/// In an accepted system no `old` stands in the body of a routine, nor in its precondition.
+/// In an accepted system neither the body of a routine nor its precondition has an `old`.
 pub fn texts_are_without_old()
     ensures { TextsAreWithoutOld }
 {}
@@ -44,14 +44,15 @@ pub fn contracts_step()
     ensures { StepOfContract }
 {}
 
-/// In an accepted system no object test stands in a contract.
+/// In an accepted system no contract has an object test.
 pub fn contracts_are_without_tests()
     ensures { TextsAreWithoutTests }
 {}
 
-/// An expression of a class invariant is a formula: its silent steps end with a truth value exactly where that is the
-/// formula's truth over the attributes of Current, and in an overflow or a division by zero exactly where it has none.
-/// They are steps of a text in which the attributes are read: none is hidden by an entity, or attached and still Void.
+/// An expression of a class invariant is a formula: its silent steps end with a truth value exactly if that is the
+/// formula's truth over the attributes of Current, and in an overflow or a division by zero exactly if it has none.
+/// They are steps of a text in which the attributes are read: none is hidden by an entity, or attached and still
+/// Void.
 pub fn formulas_are_steps()
     ensures { FormulasAreSteps }
 {}

@@ -9,8 +9,8 @@ pub fn bodies_start_where_clauses_hold()
     ensures { BodiesStartWhereTheyHold }
 {}
 
-/// After a handler's own turn each of its frames follows again: a pure function, or a routine in its precondition, stands
-/// beside the evaluation of a clause by its parts.
+/// After a handler's own turn each of its frames follows again: a pure function, or a routine in its precondition,
+/// runs beside the evaluation of a clause by its parts.
 pub fn frames_follow_after_own_turns()
     ensures { OwnFollows }
 {}
@@ -20,8 +20,8 @@ pub fn frames_follow_after_turns_of_others()
     ensures { OthersFollow }
 {}
 
-/// What a turn makes of a frame that runs a pure function: it goes on beside the evaluation, calls what is pure, or comes to
-/// its end with the same Result.
+/// A turn of a frame that runs a pure function goes on beside the evaluation, calls a pure function, or ends with an
+/// equal Result.
 pub fn pure_functions_move()
     ensures { PureMoves }
 {}

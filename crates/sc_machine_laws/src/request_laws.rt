@@ -17,7 +17,7 @@ ghost use Rattle.sc_machine_laws.specs.RequestLaws.{
   StandsOnce,
 };
 
-/// In each state that is reached, nobody may push on the waiting stack of a handler that has no frames and hasn't
+/// In each state that is reached, no handler may push on the waiting stack of one that has no frames and hasn't
 /// failed.
 pub fn idle_has_no_top()
     ensures { IdleHasNoTop }
@@ -29,7 +29,7 @@ pub fn called_back_waits()
     ensures { CalledBackWaits }
 {}
 
-/// A callback stands only at a handler whose topmost frame awaits an answer.
+/// Only a handler whose topmost frame awaits an answer has a callback.
 pub fn callbacks_meet_waiters()
     ensures { CallbacksMeetWaiters }
 {}
@@ -50,12 +50,12 @@ pub fn ends_the_one()
     ensures { EndsTheOne }
 {}
 
-/// The request stands at one place only, and it is the only one with which its poster lent nothing.
+/// The request is in one place only, and it is the only one with which its poster lent nothing.
 pub fn stands_once()
     ensures { StandsOnce }
 {}
 
-/// A handler that there isn't yet has neither frames nor requests, and nobody has a right over it.
+/// A handler that doesn't exist yet has neither frames nor requests, and no handler has a right over it.
 pub fn beyond_is_unused()
     ensures { BeyondIsUnused }
 {}
@@ -66,13 +66,13 @@ pub fn rights_stay()
     ensures { RightsStay }
 {}
 
-/// A turn leaves the objects, the frames and the failure of another handler. It may bring a request there: behind the
-/// queue where its handler may post, as the callback where it may push.
+/// A turn leaves the objects, the frames and the failure of another handler as they are. It may add a request there:
+/// at the queue's end if its handler may post, as the callback if it may push.
 pub fn others_stay()
     ensures { OthersStay }
 {}
 
-/// The queue of the handler of the turn stays, or gives its first where nothing runs, or falls with its handler.
+/// The queue of the turn's handler stays, or gives its first request if nothing runs, or is lost with its handler.
 pub fn own_queue_shrinks()
     ensures { OwnQueueShrinks }
 {}

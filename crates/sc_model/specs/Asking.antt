@@ -19,7 +19,7 @@ abbrev pub passes : Bool → ℕ → ℕ → World → World
 passes false h k w = w
 passes true h k w = record w { rights = pass h k w.rights }
 
--- the request stands as the callback, or at the queue's end
+-- the request becomes the callback, or the queue's last
 abbrev pub placed : Bool → Request → Handler → Handler
 placed true r x = record x { callback = Some r }
 placed false r x = record x { queue = x.queue ++ r ∷ [] }

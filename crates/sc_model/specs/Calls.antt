@@ -1,5 +1,5 @@
--- Calls (ECMA-367, 8.23): on the same handler the version of the object's class is entered; another handler is asked
--- (after Nienaltowski's thesis).
+-- Calls (ECMA-367, 8.23): on the same handler the version of the object's class is entered; another handler gets a
+-- request (after Nienaltowski's thesis).
 use Rattle.std.specs.Prelude.{ℕ, Bool, false, not, ◌&&◌, ◌||◌, ◌==◌, List, [], ◌∷◌, Option, Some, None, if◌then◌else◌}
 use Rattle.sc_tree.specs.Plain.{System, FeatureKind, Attribute, Routine}
 use Rattle.sc_class.specs.declared.identity.ClassId.TheVariants as class

@@ -1,4 +1,4 @@
--- Who asked for a frame, who waits for whom, and the chain of a request that is waited for.
+-- Which request began a frame, which handler waits for which, and the chain of a request that is waited for.
 use Rattle.std.specs.Prelude.{ℕ, ◌≡◌, Bool, Option, None, Contains}
 use Rattle.sc_rules.specs.declared.entity_types.entity_type.EntityType.{EntityType}
 use Rattle.sc_model.specs.Handlers.{Origin, Called, Requested, Awaits, Frame, World}

@@ -22,7 +22,7 @@ pub record Evaluation : Type 0 where
   pub point : Point
   pub gives : Option EntityType
 
--- What an evaluation comes to: it goes on, over those of its callers, or it ends with a value, or has none.
+-- The state of an evaluation: it goes on, over those of its callers, or it ends with a value, or has none.
 pub data EvaluationState : Type 0 where
   Further : (top : Evaluation) (callers : List Evaluation) → EvaluationState
   Comes : (value : Value) → EvaluationState
@@ -45,7 +45,7 @@ abbrev pub returns : Option Operand → Evaluation → List Evaluation → Evalu
 returns None e callers = Sticks
 returns (Some u) e callers = if is_unset_value u.value u.type then Sticks else goes_to e.gives u.value e callers
 
--- the clause itself comes to its value
+-- the clause itself has its value
 abbrev pub ends : Point → List Evaluation → EvaluationState
 ends p [] = last_value p.values
 ends p (e ∷ callers) = returns p.result e callers
@@ -103,8 +103,8 @@ call_of s w r x us e callers =
 
 -- ---- evaluation
 
--- The steps are those of a turn, but that a call is done at once, on whatever handler. Nothing else that is seen stands
--- in a clause.
+-- The steps are those of a turn, except that a call is made at once, on whatever handler. A clause has nothing else
+-- that is visible.
 abbrev pub acts : System → World → Reference → Act → Point → List Evaluation → EvaluationState
 acts s w me (Enters c r x us gives) p callers =
     call_of s w r x us (record { current = me; point = p; gives = gives }) callers

@@ -19,7 +19,7 @@ use Rattle.sc_model.specs.Tasks.{AssignTo}
 use Rattle.sc_model.specs.Steps.{Point, Creation, Creates, CreatesHandler, Enters, Step, Does, fails, stuck}
 use Rattle.sc_model.specs.Calls.{passes_rights}
 
--- what a variable stands for at the point
+-- what a variable means at the point
 abbrev pub assigned_at : System → Variable → Point → Assignee
 assigned_at s x p = assignee (place_in s p.text) (scope_of p.environment) x
 

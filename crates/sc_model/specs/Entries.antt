@@ -75,13 +75,13 @@ opened_in bs ts = []
 abbrev pub block_needs : ℕ → Frame → World → List ℕ
 block_needs h f w = needed_for h (opened_in f.environment f.tasks) w
 
--- These are reserved, all at once, and the frame becomes this one; where one of them is lost the step fails.
+-- These are reserved, all at once, and the frame becomes this one; if one of them is lost, the step fails.
 abbrev pub reserves : ℕ → List ℕ → Frame → List Frame → World → World
 reserves h ks f below w =
     if reserve_fails (standing_in w) w.rights ks then fail h cause.SupplierFailed w
     else reserve h ks (with_stack h (f ∷ below) w)
 
--- the step, where it is enabled
+-- the step, if it is enabled
 abbrev pub reserves_if : Bool → ℕ → List ℕ → Frame → List Frame → World → World
 reserves_if true h ks f below w = reserves h ks f below w
 reserves_if false h ks f below w = w

@@ -51,7 +51,7 @@ abbrev pub with_binding : Option EntityType → List ℕ → ℕ → Value → O
 with_binding (Some t) x i v (Some bs) = Some (bind x (reserved i t) role.Formal v ∷ bs)
 with_binding t x i v bs = None
 
--- the formals with their actuals, where there are as many; the first has this number among all of the routine
+-- the formals with their actuals, if there are as many; the first has this number among all of the routine
 abbrev pub formals_bound : System → List Declaration → ℕ → List Declaration → List Value → Option (List Binding)
 formals_bound s all i [] [] = Some []
 formals_bound s all i (d ∷ ds) (v ∷ vs) =

@@ -1,4 +1,4 @@
--- The exit of a routine, behind its postcondition, and the end of a separate block.
+-- The exit of a routine, after its postcondition, and the end of a separate block.
 use Rattle.std.specs.Prelude.{ℕ, Bool, true, false, ◌||◌, List, [], ◌∷◌, Option, Some, None, if◌then◌else◌}
 use Rattle.std.specs.Option.{option_map}
 use Rattle.sc_tree.specs.Plain.{System}

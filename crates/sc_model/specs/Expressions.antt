@@ -79,7 +79,7 @@ abbrev pub decided_by : BinaryOperator → Value → Option Bool
 decided_by op (Boolean b) = option_and_then (λ c. decision_of c b) (connective_of op)
 decided_by op v = None
 
--- Where the left operand decides, the right one is left out; where it could have decided, the right one is the result.
+-- If the left operand decides, the right one is left out; if it could have decided, the right one is the result.
 abbrev pub evals_right : Option Bool → Bool → BinaryOperator → ℕ → tree.Expr → Operand → Point → Step
 evals_right (Some b) short op i right left p = gives_boolean b p
 evals_right None true op i right left p = comes (Eval i right ∷ Conclude ∷ []) p

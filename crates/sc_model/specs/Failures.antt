@@ -34,7 +34,7 @@ abbrev pub fallen : Cause → Handler → Handler
 fallen why x = record x { stack = []; failure = Some why; queue = []; callback = None; answer = None }
 
 -- The handler fails, perhaps while it takes a request. It releases every right that it holds, and each handler that
--- waits for it is told.
+-- waits for it learns of it.
 abbrev pub fails_with : ℕ → Cause → List Request → World → World
 fails_with h why taken w = record w {
   handlers = λ k. session_ended (ends_session release.Failure && is_handler h (w.rights.queue k))

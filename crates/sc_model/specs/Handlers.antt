@@ -66,7 +66,7 @@ pub record Frame : Type 0 where
   pub blocks : List (List ℕ)  -- what each of its open separate blocks newly reserved, the innermost first
   pub mark : List Marked  -- of an entry that waits
 
--- where the frame stands, with these objects
+-- the point of the frame, with these objects
 abbrev pub point_of : Frame → List Object → Point
 point_of f objects =
     record {
@@ -124,10 +124,10 @@ pub record World : Type 0 where
   pub handlers : ℕ → Handler
   pub rights : Rights
 
--- the world, of which the handler of the number is this one
+-- the world with this handler at the number
 abbrev pub put : ℕ → Handler → World → World
 put h x w = record w { handlers = λ k. if k == h then x else w.handlers k }
 
--- the world, of which the handler has this stack
+-- the world with this stack of the handler
 abbrev pub with_stack : ℕ → List Frame → World → World
 with_stack h stack w = put h (record (w.handlers h) { stack = stack }) w

@@ -40,7 +40,7 @@ prints (Attached r) p = stuck p
 
 -- ---- conditional and loop (8.17)
 
--- the next condition, or what stands under `else`
+-- the next condition, or the instructions under `else`
 abbrev pub chooses_other : ℕ → Branches → Instrs → Point → Step
 chooses_other depth no_branches other p = comes (Do other ∷ []) p
 chooses_other depth (branch_then e body bs) other p = comes (Eval 0 e ∷ Choose depth body bs other ∷ []) p

@@ -43,12 +43,12 @@ attribute_named name (attribute ∷ others) =
     then Some (zero, attribute.value)
     else option_map (λ found. (suc found.0, found.1)) (attribute_named name others)
 
--- the attribute of the number as a term, where it is an integer
+-- the attribute of the number as a term, if it is an integer
 abbrev pub integer_numbered : ℕ → Value → Option PlainTerm
 integer_numbered number (value.Integer z) = Some (term.Attribute number)
 integer_numbered number other = None
 
--- the attribute of the number as a formula, where it is a truth value
+-- the attribute of the number as a formula, if it is a truth value
 abbrev pub boolean_numbered : ℕ → Value → Option PlainFormula
 boolean_numbered number (value.Boolean b) = Some (formula.Attribute number)
 boolean_numbered number other = None
@@ -62,7 +62,7 @@ abbrev pub arithmetic_term : Option ArithmeticOperator → Option PlainTerm → 
 arithmetic_term (Some operator) (Some left) (Some right) = Some (term.Arithmetic left operator right)
 arithmetic_term operator left right = None
 
--- An expression as a term over these attributes, where it is one.
+-- An expression as a term over these attributes, if it is one.
 abbrev pub term_of : List Binding → Expr → Option PlainTerm
 term_of attributes (Integer span z) = Some (term.Integer z)
 term_of attributes (Call span no_target name no_exprs) =
@@ -95,7 +95,7 @@ void_formula binary.Equal (Some number) = Some (formula.IsVoid number)
 void_formula binary.NotEqual (Some number) = Some (formula.NotVoid number)
 void_formula operator number = None
 
--- An expression as a formula over these attributes, where it is one.
+-- An expression as a formula over these attributes, if it is one.
 abbrev pub formula_of : List Binding → Expr → Option PlainFormula
 formula_of attributes (Boolean span b) = Some (formula.Constant b)
 formula_of attributes (Call span no_target name no_exprs) =
@@ -131,7 +131,7 @@ MeetsClauses (Some clauses) atoms = Meets clauses atoms
 abbrev pub MeetsInvariant : System → Object → Type 0
 MeetsInvariant s object = MeetsClauses (formulas_of s object.class) (atoms_of object.attributes)
 
--- The tests of the same.
+-- The tests of the clauses.
 abbrev pub meets_clauses : Option (List PlainFormula) → List Atom → Bool
 meets_clauses None atoms = false
 meets_clauses (Some clauses) atoms = list_all (λ clause. unwrap_or (truth_of clause atoms) false) clauses

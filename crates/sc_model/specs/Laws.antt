@@ -31,7 +31,7 @@ IsVisible (Does a p) = Unit {0}
 abbrev pub SilentStepsFall : Type 0
 SilentStepsFall = (s : System) (me : Reference) (p q : Point) → step s me p ≡ Goes q → size q.tasks < size p.tasks
 
--- So the silent steps come to a visible one.
+-- So the silent steps end in a visible one.
 abbrev pub TurnsAreVisible : Type 0
 TurnsAreVisible = (s : System) (me : Reference) (p : Point) → IsVisible (moves s me p)
 
@@ -44,11 +44,11 @@ abbrev pub RunsJoin : Type 0
 RunsJoin = (most : ℕ) (s : System) (first second : List ℕ) (w : World) →
     run most s (first ++ second) w ≡ run most s second (run most s first w)
 
--- At no point of the run are there more than so many handlers.
+-- At no point of the run are there more than `n` handlers.
 abbrev pub StaysWithin : ℕ → ℕ → System → List ℕ → World → Type 0
 StaysWithin few most s hs w = (first second : List ℕ) → hs ≡ first ++ second → (run most s first w).count ≤ few
 
--- Where a run stays within fewer handlers, it is the same where there may be no more.
+-- A run that uses fewer handlers is the same with a lower limit on handlers.
 abbrev pub FewerAreEnough : Type 0
 FewerAreEnough =
     (few most : ℕ) (s : System) (hs : List ℕ) (w : World) → few ≤ most → StaysWithin few most s hs w →

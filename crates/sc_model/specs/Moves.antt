@@ -16,7 +16,7 @@ use Rattle.sc_model.specs.Expressions.{apply_unary, applies, decided_by, evals_r
 use Rattle.sc_model.specs.Instructions.{assigns, prints, chooses, ends_loop, tests, required, opens, begins}
 use Rattle.sc_model.specs.Sizes.{size}
 
--- A task that takes the last value; `p` has what is left behind both.
+-- A task that takes the last value; `p` has what is left after both.
 abbrev pub performs_on : System → Reference → Task → Operand → Point → Step
 performs_on s me (ApplyUnary op) u p = apply_unary op u.value p
 performs_on s me (EvalRight op i right) u p = evals_right (decided_by op u.value) (is_short op) op i right u p
@@ -33,7 +33,7 @@ performs_on s me KeepOld u p = Goes (record p { olds = p.olds ++ u ∷ [] })
 performs_on s me Ensured u p = tests cause.Postcondition u.value p
 performs_on s me task u p = stuck p
 
--- A task; `p` has what is left behind it.
+-- A task; `p` has what is left after it.
 abbrev pub performs : System → Reference → Task → List Operand → Point → Step
 performs s me (Do no_instrs) vs p = Goes p
 performs s me (Do (instr_then i is)) vs p = begins i (record p { tasks = Do is ∷ p.tasks })
@@ -67,7 +67,7 @@ abbrev pub then_go : Step → (Point → Step) → Step
 then_go (Goes p) go = go p
 then_go (Does a p) go = Does a p
 
--- at most so many steps
+-- at most this number of steps
 abbrev pub first_visible : ℕ → System → Reference → Point → Step
 first_visible zero s me p = Goes p
 first_visible (suc n) s me p = then_go (step s me p) (first_visible n s me)

@@ -39,7 +39,7 @@ abbrev pub is_tested : System → ℕ → (Reserved → Option ℕ) → Value �
 is_tested s me of v None t = is_attached v
 is_tested s me of v (Some d) t = is_of_type s me of v t
 
--- where it is true, the name is known from now on
+-- if it is true, the name is in scope from now on
 abbrev pub binds_if : Bool → List ℕ → Value → EntityType → Point → Step
 binds_if true x v t p = gives_boolean true (record p { environment = p.environment ++ bind x t role.Test v ∷ [] })
 binds_if false x v t p = gives_boolean false p

@@ -36,7 +36,7 @@ abbrev pub attributes_in : Option Object → List Binding
 attributes_in None = []
 attributes_in (Some object) = object.attributes
 
--- the attributes of the object of the number; none, where there is no object
+-- the attributes of the object of the number; none, if there is no object
 abbrev pub attributes_of : ℕ → List Object → List Binding
 attributes_of number objects = attributes_in (object_numbered number objects)
 
@@ -44,6 +44,6 @@ abbrev pub with_object : ℕ → List Binding → List Object → Option Object 
 with_object place attributes objects None = objects
 with_object place attributes objects (Some object) = slice_set objects place (record object { attributes = attributes })
 
--- the objects, of which the one of the number has these attributes
+-- the objects, with these attributes of the one of the number
 abbrev pub with_attributes : ℕ → List Binding → List Object → List Object
 with_attributes number attributes objects = with_object (number - 1) attributes objects (object_numbered number objects)

@@ -68,7 +68,7 @@ abbrev pub object_meets : System → Option Object → Bool
 object_meets s None = false
 object_meets s (Some o) = meets_invariant s o
 
--- a refusal is counted where nobody waits
+-- a refusal is counted if no handler waits
 abbrev pub counted_refusal : Bool → Handler → Handler
 counted_refusal true x = x
 counted_refusal false x = record x { refused = x.refused + 1 }

@@ -1,4 +1,4 @@
--- How handlers stand, and the report of a run.
+-- The statuses of handlers, and the report of a run.
 use Rattle.std.specs.Prelude.{ℕ, zero, suc, ◌-◌, Bool, true, false, ◌||◌, List, [], ◌∷◌, ◌++◌, Option, Some, None, length, codes}
 use Rattle.std.specs.Fmt.{decimal}
 use Rattle.sc_model.specs.declared.cause.Cause.{Cause}
@@ -14,11 +14,11 @@ status_with None true stack = Busy
 status_with None false (f ∷ below) = Waiting
 status_with None false [] = Free
 
--- how the handler stands
+-- the status of the handler
 abbrev pub status_of : ℕ → World → Status
 status_of h w = status_with (w.handlers h).failure (has_turn h w) (w.handlers h).stack
 
--- one of so many handlers has a turn
+-- one of the first `n` handlers has a turn
 abbrev pub some_has_turn : ℕ → World → Bool
 some_has_turn zero w = false
 some_has_turn (suc n) w = has_turn n w || some_has_turn n w
@@ -52,14 +52,14 @@ status_text Free = codes "free"
 abbrev pub line_feed : List ℕ
 line_feed = 10 ∷ []
 
--- a handler's line, and its output with a line feed behind it
+-- a handler's line, and its output with a line feed after it
 abbrev pub handler_report : ℕ → Handler → Status → List ℕ
 handler_report h x status =
     codes "handler " ++ decimal h ++ codes " " ++ status_text status
     ++ codes " refused " ++ decimal x.refused ++ codes " output " ++ decimal (length x.output) ++ line_feed
     ++ x.output ++ line_feed
 
--- the last so many handlers
+-- the last `n` handlers
 abbrev pub handlers_report : ℕ → World → List ℕ
 handlers_report zero w = []
 handlers_report (suc n) w =

@@ -32,12 +32,12 @@ opening s root = record {
   rights = unreserved;
 }
 
--- the turns of these handlers, one after the other, where there may be so many handlers
+-- the turns of these handlers, one after the other, with this limit on handlers
 abbrev pub run : ℕ → System → List ℕ → World → World
 run most s [] w = w
 run most s (h ∷ hs) w = run most s hs (turn most s h w)
 
--- The world stands after the run of some list from the opening.
+-- The world is the end of the run of some list from the opening.
 pub record IsReached (most : ℕ) (s : System) (root : Root) (w : World) : Type 0 where
   pub numbers : List ℕ
   pub run_is : run most s numbers (opening s root) ≡ w

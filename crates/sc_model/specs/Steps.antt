@@ -1,4 +1,4 @@
--- Steps of a routine: where it stands, what is seen of a step, and what steps are made of.
+-- Steps of a routine: its point, what is visible of a step, and what steps are made of.
 use Rattle.std.specs.Prelude.{ℕ, zero, suc, ℤ, Bool, List, [], ◌∷◌, ◌++◌, Option, Some, None, take, if◌then◌else◌}
 use Rattle.sc_tree.specs.Plain.{Clause}
 use Rattle.sc_rules.specs.declared.entity_types.entity_type.EntityType.{EntityType}
@@ -11,7 +11,7 @@ use Rattle.sc_model.specs.Objects.{Object}
 use Rattle.sc_model.specs.Routines.{Text}
 use Rattle.sc_model.specs.Tasks.{Task}
 
--- Where a routine stands, with the objects of its handler. Silent steps change nothing else.
+-- A routine's point, with the objects of its handler. Silent steps change nothing else.
 pub record Point : Type 0 where
   pub objects : List Object
   pub text : Text
@@ -87,7 +87,7 @@ abbrev pub reads_attribute : Option Binding → EntityType → Point → Step
 reads_attribute None t p = stuck p
 reads_attribute (Some b) t p = reads b.value t p
 
--- the last so many values, in the order of the text, before those given; and what lies under them
+-- the last `n` values, in the order of the text, before those given; and those below them
 abbrev pub popped : ℕ → List Operand → List Operand → Option (List Operand × List Operand)
 popped zero us vs = Some (us, vs)
 popped (suc n) us [] = None
@@ -95,6 +95,6 @@ popped (suc n) us (v ∷ vs) = popped n (v ∷ us) vs
 
 -- ---- names
 
--- so many names stay known
+-- this number of names stay in scope
 abbrev pub forgets : ℕ → Point → Point
 forgets depth p = record p { environment = take depth p.environment }

@@ -65,7 +65,7 @@ takes_errand s h r (Calls x) below w =
 abbrev pub takes : System → ℕ → Request → List Frame → World → World
 takes s h r below w = takes_errand s h r r.errand below w
 
--- the first of the queue, where there is one
+-- the first of the queue, if there is one
 abbrev pub takes_next : System → ℕ → List Request → World → World
 takes_next s h [] w = w
 takes_next s h (r ∷ rs) w = takes s h r [] (put h (record (w.handlers h) { queue = rs }) w)

@@ -19,7 +19,7 @@ use Rattle.sc_model.specs.Takes.{takes_next, takes_callback, takes_answer}
 abbrev pub prints_text : ℕ → List ℕ → World → World
 prints_text h text w = put h (record (w.handlers h) { output = (w.handlers h).output ++ text }) w
 
--- What a visible step does, where `f` stands on `below` after it. There may be so many handlers.
+-- What a visible step does, with `f` on `below` after it, and this limit on handlers.
 abbrev pub effect : ℕ → System → ℕ → Act → Frame → List Frame → World → World
 effect most s h (Prints text) f below w = prints_text h text w
 effect most s h Until f below w = w
@@ -65,6 +65,6 @@ turn_with most s h (Some why) stack w = w
 turn_with most s h None [] w = takes_next s h (w.handlers h).queue w
 turn_with most s h None (f ∷ below) w = goes_on most s h f.stage f below w
 
--- The step of the handler of the number. Where there is none, or its next step isn't enabled, nothing changes.
+-- The step of the handler of the number. If there is none, or its next step isn't enabled, nothing changes.
 abbrev pub turn : ℕ → System → ℕ → World → World
 turn most s h w = if nat_lt h w.count then turn_with most s h (w.handlers h).failure (w.handlers h).stack w else w

@@ -3,7 +3,7 @@
 /// Why a handler has failed.
 #[derive(Clone, Copy, Debug, PartialEq, Eq)]
 pub enum Cause {
-    /// F1: an object doesn't meet its class invariant where it is due.
+    /// F1: an object doesn't meet its class invariant at a point that requires it.
     Invariant,
     /// F2: a clause of a postcondition is false.
     Postcondition,
@@ -29,7 +29,7 @@ pub enum Cause {
     QueueFull,
     /// F13: a handler that is asked isn't held.
     NotHeld,
-    /// F14: an object of another handler stands where one of the current handler has to.
+    /// F14: an object of another handler is used in a place for one of the current handler.
     ForeignObject,
     /// F15: the target of a call is Void.
     VoidTarget,

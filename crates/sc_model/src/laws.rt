@@ -6,7 +6,7 @@ pub fn silent_steps_fall()
     ensures { SilentStepsFall }
 {}
 
-/// The silent steps of a turn come to a visible one.
+/// The silent steps of a turn end in a visible one.
 pub fn turns_are_visible()
     ensures { TurnsAreVisible }
 {}
@@ -21,7 +21,7 @@ pub fn runs_join()
     ensures { RunsJoin }
 {}
 
-/// A run that stays within fewer handlers is the same where there may be no more.
+/// A run that uses fewer handlers is the same with a lower limit on handlers.
 pub fn fewer_handlers_are_enough()
     ensures { FewerAreEnough }
 {}

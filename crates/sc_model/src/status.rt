@@ -1,8 +1,8 @@
-//! How a handler stands.
+//! The status of a handler.
 
 use crate::cause::Cause;
 
-/// How a handler stands: the first of these that is true of it.
+/// The status of a handler: the first of these that is true of it.
 #[derive(Clone, Copy, PartialEq, Eq)]
 pub enum Status {
     Failed(Cause),

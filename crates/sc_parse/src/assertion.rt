@@ -48,7 +48,7 @@ impl<'a> Parser<'a> {
         Ok(Clause { tag, condition })
     }
 
-    /// Clauses, each with the semicolons after it. Right behind one no other begins with `(`, `+` or `-`.
+    /// Clauses, each with the semicolons after it. Right after one no other begins with `(`, `+` or `-`.
     pub fn clauses(&mut self, room: u8) -> Result<Vec<Clause>, ParseFault>
         ensures { Gives clauses_in (spec.clauses room (ahead self.old)) result (ahead self.new) }
     {

@@ -13,7 +13,7 @@ use sc_text::Terminal;
 use sc_tree::{Call, Expr};
 
 impl<'a> Parser<'a> {
-    /// A name with actuals, `Current` or `Result`, and a call for each dot behind it.
+    /// A name with actuals, `Current` or `Result`, and a call for each dot after it.
     #[cycle(expression)]
     #[tactic(auto, unfolding(crate::specs::Reading::Expressions::chain, crate::specs::Reading::Expressions::chain_head))]
     pub fn chain(&mut self, room: u8) -> Result<(Expr, u8), ParseFault>
@@ -33,7 +33,7 @@ impl<'a> Parser<'a> {
         self.calls(room, head, height)
     }
 
-    /// What stands before the dots that follow, with a call for each of them.
+    /// What was read before the dots that follow, with a call for each of them.
     #[cycle(expression)]
     #[tactic(auto, using(crate::proofs::Turns::calls_end, crate::proofs::Turns::calls_turn))]
     fn calls(&mut self, room: u8, first: Expr, first_height: u8) -> Result<(Expr, u8), ParseFault>

@@ -12,7 +12,7 @@ use crate::look::ends_note;
 use sc_text::Terminal;
 use sc_tree::{Class, ClassMark, Clause, Feature, Name, Parent};
 
-/// What stands before the features of a class.
+/// The part of a class before its features.
 #[derive(Drop)]
 struct Header {
     name: Name,
@@ -88,7 +88,7 @@ impl<'a> Parser<'a> {
         self.more_parents(first)
     }
 
-    /// The first parent and those that follow it, each with or without a semicolon behind it.
+    /// The first parent and those that follow it, each with or without a semicolon after it.
     fn more_parents(&mut self, first: Parent) -> Result<Vec<Parent>, ParseFault>
         ensures { Takes parents_in (spec.parents_from (left (ahead self.old)) (parent_in first ∷ [])
             (skip Terminal.Semicolon (ahead self.old))) result (ahead self.new) }

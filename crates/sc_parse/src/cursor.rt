@@ -10,12 +10,12 @@ use sc_tree::Name;
 use std::alloc::Global;
 use std::rc::Rc;
 
-/// The tokens that are still to be read, and where the one before them stands.
+/// The tokens that are still to be read, and the place of the one before them.
 #[derive(Drop)]
 pub struct Parser<'a> {
     pub alloc: Global,
     pub rest: &'a [Token],
-    /// Where the last token that was read stands, or the end of the tokens where none was left.
+    /// The place of the last token that was read, or the end of the tokens if none was left.
     pub last: Span,
 }
 
@@ -44,7 +44,7 @@ impl<'a> Parser<'a> {
         }
     }
 
-    /// Where the next token stands, or nothing at the end of the last where none is left.
+    /// The place of the next token, or an empty span at the end of the last if none is left.
     pub fn next_span(&self) -> Span
         ensures { result ≡ (spec.past (ahead self.now)).last }
     {
@@ -106,7 +106,7 @@ impl<'a> Parser<'a> {
         }
     }
 
-    /// A part that was read, where this terminal stands behind it, which is read too.
+    /// A part that was read, if this terminal follows it, which is read too.
     pub fn closed_by<T: Drop>(&mut self, part: T, terminal: Terminal) -> Result<T, ParseFault>
         ensures same { IfOk result (λ same. same ≡ part) }
         ensures read { MatchResult result (λ _. spec.expect terminal (ahead self.old) ≡ Ok (ahead self.new))
@@ -177,7 +177,7 @@ impl<'a> Parser<'a> {
         self.name()
     }
 
-    /// A part that was read, with the name that it has behind `as`.
+    /// A part that was read, with the name that it has after `as`.
     pub fn named_part<T: Drop>(&mut self, part: T) -> Result<(T, Name), ParseFault>
         ensures same { IfOk result (λ named. named.0 ≡ part) }
         ensures read { MatchResult result (λ named. named_ahead (ahead self.old) ≡ Ok (name_in named.1, ahead self.new))

@@ -32,7 +32,7 @@ fn boxed<T: Drop>(alloc: Global, left: T, right: T) -> Result<(Box<T>, Box<T>), 
     Ok((left, right))
 }
 
-/// An operator with the operands before and behind it.
+/// An operator with the operands before and after it.
 fn joined(
     alloc: Global,
     left: Expr,
@@ -75,8 +75,8 @@ impl<'a> Parser<'a> {
         self.expr(class, room - 1)
     }
 
-    /// An expression of the class, of which one of the class `least` was read: the operators between that follow it,
-    /// those that bind tightest first, with their right operands.
+    /// An expression of the class, after one of the class `least` was read: the operators between the two that follow
+    /// it, those that bind tightest first, with their right operands.
     #[cycle(expression)]
     fn operators_up_to(
         &mut self,
@@ -136,7 +136,7 @@ impl<'a> Parser<'a> {
         Ok((left, height))
     }
 
-    /// A primary expression, or an operator with the operand behind it.
+    /// A primary expression, or an operator with its operand.
     #[cycle(expression)]
     #[tactic(auto, unfolding(crate::specs::Reading::Expressions::operand, crate::specs::Reading::Expressions::prefixed, sc_tree::specs::View::expr_of))]
     fn operand(&mut self, room: u8) -> Result<(Expr, u8), ParseFault>

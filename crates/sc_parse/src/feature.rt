@@ -19,7 +19,7 @@ use sc_tree::{Clause, Declaration, DeclaredType, Feature, FeatureKind, Instr, Na
 use std::alloc::{AllocError, Global};
 use std::rc::Rc;
 
-/// The classes that a feature is exported to by this list; `ANY` alone is the same as no list.
+/// The classes that may use a feature with this export list; `ANY` alone means no list.
 fn exported_to(alloc: Global, names: Vec<Name>) -> Vec<Name>
     ensures { names_in result ≡ grammar.exported_to (names_in names) }
 {
@@ -78,7 +78,7 @@ fn one_feature(
     Ok(features)
 }
 
-/// The feature of this number, if there is one, begins what stands under its `feature`.
+/// Marks the feature of this number, if there is one, as the first under its `feature`.
 fn begin_section(features: &mut Vec<Feature>, number: usize)
     ensures { features.new.items ≡ begun_at number features.old.items }
 {
@@ -100,7 +100,7 @@ impl<'a> Parser<'a> {
         self.export_list()
     }
 
-    /// What follows the brace that opens an export list. An empty one is the same as `{NONE}`.
+    /// The rest of an export list after its opening brace. An empty one means `{NONE}`.
     #[tactic(auto, unfolding(crate::specs::Reading::Classes::export_list))]
     fn export_list(&mut self) -> Result<Vec<Name>, ParseFault>
         ensures { Takes names_in (spec.export_list (ahead self.old)) result (ahead self.new) }
@@ -119,7 +119,7 @@ impl<'a> Parser<'a> {
         Ok(exported_to(self.alloc, names))
     }
 
-    /// What stands before a routine's body: its precondition and its locals.
+    /// The part of a routine before its body: its precondition and its locals.
     fn opening(&mut self, room: u8) -> Result<(Vec<Clause>, Vec<Declaration>), ParseFault>
         ensures { Gives opening_in (opening_ahead room (ahead self.old)) result (ahead self.new) }
     {
@@ -219,7 +219,7 @@ impl<'a> Parser<'a> {
         self.attribute_or_routine(exports, name, formals, result_type, room)
     }
 
-    /// The features that stand under one `feature`, after those that were found.
+    /// The features under one `feature`, after those that were found.
     fn section(
         &mut self,
         exports: &Rc<Vec<Name>>,
@@ -244,7 +244,7 @@ impl<'a> Parser<'a> {
         Ok(found)
     }
 
-    /// The features that stand under each `feature`.
+    /// The features under each `feature`.
     pub fn sections(&mut self, room: u8) -> Result<Vec<Feature>, ParseFault>
         ensures read { Gives features_in (spec.sections room (ahead self.old)) result (ahead self.new) }
         ensures shared { IfOk result (λ found. IsTrue (share_lists found.items)) }

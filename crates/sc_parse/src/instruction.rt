@@ -56,7 +56,7 @@ impl<'a> Parser<'a> {
         self.instructions(room - 1)
     }
 
-    /// The same, up to this word.
+    /// Instructions up to this word.
     #[cycle(instructions)]
     fn instructions_up_to(&mut self, word: Terminal, room: u8) -> Result<Vec<Instr>, ParseFault>
         ensures { Gives instrs_in (inside_ahead room word (ahead self.old)) result (ahead self.new) }
@@ -162,7 +162,7 @@ impl<'a> Parser<'a> {
         }
     }
 
-    /// The call behind what is created, if one stands there.
+    /// The call after what is created, if there is one.
     fn creation_call(&mut self, room: u8) -> Result<Option<CreationCall>, ParseFault>
         ensures { Gives creation_call_in (creation_call_ahead room (ahead self.old)) result (ahead self.new) }
     {
@@ -199,7 +199,7 @@ impl<'a> Parser<'a> {
         self.closed_by(condition, word)
     }
 
-    /// A condition and what stands under it.
+    /// A condition and the instructions under it.
     #[cycle(instructions)]
     fn branch(&mut self, room: u8) -> Result<Branch, ParseFault>
         ensures { Gives branch_in (spec.branch room (spec.nested_instrs room) (ahead self.old))
@@ -210,7 +210,7 @@ impl<'a> Parser<'a> {
         Ok(Branch { condition, body })
     }
 
-    /// Each `elseif` with what stands under it.
+    /// Each `elseif` with the instructions under it.
     #[cycle(instructions)]
     #[tactic(auto, using(crate::proofs::Turns::branches_begin, crate::proofs::Turns::branches_end, crate::proofs::Turns::branches_turn))]
     fn branches(&mut self, room: u8) -> Result<Vec<Branch>, ParseFault>
@@ -229,7 +229,7 @@ impl<'a> Parser<'a> {
         Ok(found)
     }
 
-    /// What stands under `else`, if it is there, up to the `end` of the construct.
+    /// The instructions under `else`, if there is one, up to the `end` of the construct.
     #[cycle(instructions)]
     fn other(&mut self, room: u8) -> Result<Vec<Instr>, ParseFault>
         ensures { Gives instrs_in (other_ahead room (ahead self.old)) result (ahead self.new) }

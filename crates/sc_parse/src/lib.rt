@@ -1,8 +1,8 @@
 //! From tokens to the tree of a system, by recursive descent.
 //!
-//! [`parse`] gives the one tree that the tokens spell, where none of them is nested deeper than
-//! [`MAX_NESTING`], and [`parse_within`] the same for another nesting; a [`ParseFault`] says why there is
-//! none, and where that shows first.
+//! [`parse`] returns the one tree that the tokens spell, if none of them is nested deeper than [`MAX_NESTING`], and
+//! [`parse_within`] does so for another nesting; a [`ParseFault`] says why there is none, and at which token that
+//! shows first.
 #![tactic(auto)]
 
 mod assertion;

@@ -13,7 +13,7 @@ pub fn alone<T: Drop>(alloc: Global, item: T) -> Result<Vec<T>, AllocError>
     Ok(list)
 }
 
-/// The list with the item behind it.
+/// The list with the item at its end.
 pub fn with_last<T: Drop>(list: Vec<T>, item: T) -> Result<Vec<T>, AllocError>
     ensures { IfOk result (λ longer. longer.items ≡ list.items ++ item ∷ []) }
 {
@@ -22,7 +22,7 @@ pub fn with_last<T: Drop>(list: Vec<T>, item: T) -> Result<Vec<T>, AllocError>
     Ok(longer)
 }
 
-/// The list with all of the others behind it.
+/// The list with all of the others at its end.
 pub fn with_all<T: Drop>(list: Vec<T>, others: Vec<T>) -> Result<Vec<T>, AllocError>
     ensures { IfOk result (λ longer. longer.items ≡ list.items ++ others.items) }
 {
@@ -32,7 +32,7 @@ pub fn with_all<T: Drop>(list: Vec<T>, others: Vec<T>) -> Result<Vec<T>, AllocEr
     Ok(longer)
 }
 
-/// The same list, in no more room than it needs. Where no smaller room is had, it keeps its own.
+/// The list in no more room than it needs. It keeps its own room if no smaller one can be had.
 pub fn fitted<T>(list: Vec<T>) -> Vec<T>
     ensures { result.items ≡ list.items }
 {

@@ -220,7 +220,7 @@ impl<'a> Parser<'a> {
         }
     }
 
-    /// Whether what a routine has behind its result type begins here.
+    /// Whether the part of a routine after its result type begins here.
     pub fn begins_routine(&self) -> bool
         ensures { result ≡ classes.begins_routine (ahead self.now) }
     {

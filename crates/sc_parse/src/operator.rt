@@ -36,7 +36,7 @@ fn class_below(operator: BinaryOperator) -> u8
     }
 }
 
-/// Whether the operators just above the class group to the left; the relations stand alone.
+/// Whether the operators just above the class group to the left; relations don't group.
 pub fn is_grouped(class: u8) -> bool
     ensures { result ≡ grammar.groups class }
 {

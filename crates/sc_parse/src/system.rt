@@ -17,9 +17,9 @@ use sc_text::Token;
 use sc_tree::System;
 use std::alloc::Global;
 
-/// How many constructs may stand around a token, counted from the routine's body or the clause: pairs of
-/// parentheses, lists of actuals, operators whose operand it lies in, dots whose target it lies in, `if`s,
-/// loops, `check`s and separate blocks.
+/// How many constructs may be around a token, counted from the routine's body or the clause: pairs of parentheses,
+/// lists of actuals, operators whose operand it is in, dots whose target it is in, `if`s, loops, `check`s and
+/// separate blocks.
 pub const MAX_NESTING: u8 = 64;
 
 /// The system that the tokens spell, where its nesting is at most `room`.
@@ -38,14 +38,13 @@ fn read_within(alloc: Global, tokens: &[Token], room: u8) -> Result<System, Pars
     }
 }
 
-/// The system that the tokens spell, where its nesting is at most `room`, as [`parse`] answers it where the nesting
-/// is at most [`MAX_NESTING`].
+/// The system that the tokens spell, if its nesting is at most `room`. [`parse`] does this with [`MAX_NESTING`].
 ///
 /// # Errors
 ///
-/// `NotInGrammar` where the tokens spell no system, `TooDeep` where they spell none of nesting at most
-/// `room`, and `OutOfMemory`. At fault is the first token that no system of this nesting has there, after
-/// the tokens before it; the fault is `TooDeep` if one of greater nesting has.
+/// `NotInGrammar` if the tokens spell no system, `TooDeep` if they spell only systems with deeper nesting than
+/// `room`, and `OutOfMemory`. The fault is at the first token that no system of this nesting has there, after the
+/// tokens before it; it is `TooDeep` if a system of deeper nesting has that token.
 pub fn parse_within(alloc: Global, tokens: &[Token], room: u8) -> Result<System, ParseFault>
     ensures answer { ParsesWithin room (kinds_of tokens.now) result }
     ensures found { (t : plain.System) (h : ℕ) → h ≤ room → IsSystem t (kinds_of tokens.now) h → IsParsedTo t result }
@@ -54,14 +53,14 @@ pub fn parse_within(alloc: Global, tokens: &[Token], room: u8) -> Result<System,
     read_within(alloc, tokens, room)
 }
 
-/// The system that the tokens spell. The place of each part goes from its first token to its last,
-/// parentheses around an expression left aside: that of `(a + b) * c` begins at `a`.
+/// The system that the tokens spell. The place of each part goes from its first token to its last, without
+/// parentheses around an expression: that of `(a + b) * c` begins at `a`.
 ///
 /// # Errors
 ///
-/// `NotInGrammar` where the tokens spell no system, `TooDeep` where they spell none of nesting at most
-/// [`MAX_NESTING`], and `OutOfMemory`. At fault is the first token that no system of this nesting has
-/// there, after the tokens before it; the fault is `TooDeep` if one of greater nesting has.
+/// `NotInGrammar` if the tokens spell no system, `TooDeep` if they spell only systems with deeper nesting than
+/// [`MAX_NESTING`], and `OutOfMemory`. The fault is at the first token that no system of this nesting has there,
+/// after the tokens before it; it is `TooDeep` if a system of deeper nesting has that token.
 pub fn parse(alloc: Global, tokens: &[Token]) -> Result<System, ParseFault>
     ensures answer { Parses (kinds_of tokens.now) result }
     ensures found { (t : plain.System) (h : ℕ) → h ≤ 64 → IsSystem t (kinds_of tokens.now) h → IsParsedTo t result }

@@ -13,7 +13,7 @@ use sc_tree::{DeclaredType, HandlerTag, Name};
 use std::alloc::AllocError;
 use std::rc::Rc;
 
-/// The same tag once more, which shares its name.
+/// A copy of the tag, which shares its name.
 fn copied_tag(tag: &HandlerTag) -> Result<HandlerTag, AllocError>
     ensures { IfOk result (λ copy. handler_tag_in copy ≡ handler_tag_in tag.now) }
 {
@@ -27,7 +27,7 @@ fn copied_tag(tag: &HandlerTag) -> Result<HandlerTag, AllocError>
     }
 }
 
-/// The same type once more, its place included. It shares its names, so that it takes no more memory for a long one.
+/// A copy of the type, its place included. It shares its names, so that a long type takes no more memory.
 pub fn copied_type(declared: &DeclaredType) -> Result<DeclaredType, AllocError>
     ensures { IfOk result (λ copy. type_in copy ≡ type_in declared.now) }
 {

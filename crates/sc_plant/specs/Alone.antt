@@ -30,7 +30,7 @@ AreOwn p es rs = (h : ℕ) (x : PlainRegion) → slice_get rs h ≡ Some x → I
 abbrev pub AreNew : Image → List PlainRegion → Type 0
 AreNew p rs = (h : ℕ) (x : PlainRegion) → slice_get rs h ≡ Some x → x ≡ new_region p h
 
--- What a run of the program on one thread has come to, where memory was refused to no turn.
+-- The state of a run of the program on one thread, if memory was refused to no turn.
 pub record IsOnWay (p : Image) (left : Left) : Type 0 where
   pub version : left.version ≡ Two
   pub rights : left.core.state.rights.version ≡ Two
@@ -41,7 +41,8 @@ pub record IsOnWay (p : Image) (left : Left) : Type 0 where
   pub home : (h : ℕ) → (center_of left.core).out h ≡ None
   pub regions : AreOwn p (log_of left.core) left.regions.items
 
--- The handler, which is out with the job, plays so many turns of it, the last of which asks this, and they are settled.
+-- The handler, which is out with the job, plays this number of turns of it, the last of which wants this, and they
+-- are settled.
 pub record IsPlayed (limit h : ℕ) (j : Job) (turns : ℕ) (w : Want) (c d : core.Core) (x y : PlainRegion) : Type 0 where
   pub settled : IsSettled h j turns w c d
   pub plays : Plays limit j x y (outcome x.handler turns w)
@@ -53,14 +54,14 @@ pub record IsBack (h : ℕ) (c d : core.Core) (x y : PlainRegion) : Type 0 where
   pub job : Job
   pub refused : IsRefused job x y
 
--- The handler, which is out, plays so many turns of its job, the last of which asks this. They are settled, and are one
--- more line of the record.
+-- The handler, which is out, plays this number of turns of its job, the last of which wants this. They are settled,
+-- and are one more line of the record.
 pub record IsRecorded (limit h turns : ℕ) (w : Want) (c d : core.Core) (x y : PlainRegion)
     (ls ms : List RecordLine) : Type 0 where
   pub played : (j : Job) → (center_of c).out h ≡ Some j → IsPlayed limit h j turns w c d x y
   pub line : ms ≡ ls ++ record { handler = h; turns = turns } ∷ []
 
--- Memory was refused to the handler, which was out: to its first turn, or behind turns that are settled and recorded.
+-- Memory was refused to the handler, which was out: to its first turn, or after turns that are settled and recorded.
 abbrev pub IsCutOff : ℕ → ℕ → Want → core.Core → core.Core → PlainRegion → PlainRegion → List RecordLine →
     List RecordLine → Type 0
 IsCutOff limit h w c d x y ls ms =

@@ -15,13 +15,13 @@ abbrev pub ArePast : Option ℕ → List PlainRegion → Type 0
 ArePast None rs = ⊥
 ArePast (Some most) rs = most < printed_by rs
 
--- A run ends behind so many turns at most: behind all that it may make, or behind fewer, where the handlers have
--- printed more than they may.
+-- A run ends after at most this number of turns: all that it may make, or fewer, if the handlers have printed more
+-- than they may.
 abbrev pub EndsBehind : Bounds → ℕ → List PlainRegion → Type 0
 EndsBehind bounds turns rs = (turns ≡ bounds.turns) ⊎ ((turns ≤ bounds.turns) × ArePast bounds.output rs)
 
--- What a run leaves that ends as one of so many turns does, since it may make no more, or since the handlers have
--- printed more than they may.
+-- What a run leaves that ends as one of this number of turns does, since it may make no more, or since the handlers
+-- have printed more than they may.
 pub record IsBoundedRun (p : Image) (bounds : Bounds) (turns : ℕ) (left : Left) : Type 0 where
   pub run : IsRun p turns left
   pub ends : EndsBehind bounds turns left.regions.items

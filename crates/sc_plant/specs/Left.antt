@@ -44,7 +44,7 @@ pub record IsLeftWith (p : Image) (v : Version) (rs : List PlainRegion) (core : 
 abbrev pub IsLeft : Image → Left → Type 0
 IsLeft p left = IsLeftWith p left.version left.regions.items left.core left.lines.items
 
--- The same, of regions with their logs.
+-- What a run leaves, of regions with their logs.
 abbrev pub IsLeftLogged : Image → LoggedLeft → Type 0
 IsLeftLogged p left = IsLeftWith p left.version (map region_of left.regions.items) left.core left.lines.items
 
@@ -86,7 +86,7 @@ IsOutOfMemory (OutOfMemory left) = Unit {0}
 IsOutOfMemory ThreadRefused = ⊥
 IsOutOfMemory (LogsDiffer h left) = ⊥
 
--- Where memory was refused, it tells what is left.
+-- If memory was refused, it has what is left.
 abbrev pub TellsLeft : RunFault → Type 0
 TellsLeft (OutOfMemory None) = ⊥
 TellsLeft (OutOfMemory (Some left)) = Unit {0}

@@ -1,4 +1,4 @@
-//! Runs on one thread, where nothing lies under a lock.
+//! Runs on one thread, without locks.
 //!
 //! That a handler's settlements lead to its region is kept on the way, so the regions need no logs.
 ghost use Rattle.std.specs.Prelude.{◌≡◌, ◌≤◌, ◌↔◌, ◌<◌, IfErr, IfOk, IfSome, IsTrue, OnErr, OnOk, Some, false, is_some, length, true, vec_capacity, vec_len};
@@ -36,11 +36,10 @@ use sc_request::Core;
 use std::alloc::{AllocError, Global};
 use std::sync::Wait;
 
-/// Plays the handlers of a program on the calling thread, until the run is over: what it leaves, and behind how many turns at
-/// most it has ended.
+/// Plays the handlers of a program on the calling thread, until the run is over. Returns what it leaves, and the
+/// number of turns that ended it at most.
 ///
-/// # Errors
-/// U1 where memory is refused, with what is left then, unless the run hadn't begun.
+/// # Errors U1 if memory is refused, with what is left then, unless the run hadn't begun.
 pub fn run_alone<'p, R: Wait, G: Gate, W: Watch>(
     rt: &R,
     alloc: Global,
@@ -115,8 +114,8 @@ pub enum Stretch {
     CoarseGrained,
 }
 
-/// Plays the handlers so far, and lets somebody look behind each task: whether the run is over, and behind how many turns at most
-/// it is then. Err where memory is refused.
+/// Plays the handlers, and lets the watch look after each task. Returns whether the run is over, and the number of
+/// turns that end it at most. Err if memory is refused.
 pub fn play_all<R: Wait, G: Gate, W: Watch>(
     rt: &R,
     left: &mut Left<'_>,
@@ -150,7 +149,7 @@ pub fn play_all<R: Wait, G: Gate, W: Watch>(
     unreachable!()
 }
 
-/// Whether one thread is to end behind its last task, since several workers would play such tasks faster.
+/// Whether one thread is to end after its last task, since several workers would play such tasks faster.
 fn gives_way(stretch: Stretch, granularity: &mut Granularity, lines: &[RecordLine]) -> bool
     ensures { stretch ≡ Over → result ≡ false }
 {
@@ -177,7 +176,7 @@ fn is_over(left: &mut Left<'_>, limit: u32) -> bool
     is_idle_or_full(core, lines.as_slice(), limit)
 }
 
-/// Behind how many turns the run ends here, if it does: all that it may make, or those that were made, where the handlers have
+/// The number of turns that ends the run here, if it ends: its limit, or those that were made, if the handlers have
 /// printed more than they may.
 pub fn ended(left: &mut Left<'_>, bounds: Bounds) -> Option<u32>
     ensures over { IfSome result (λ turns. IsOver turns (center_of left.new.core) left.new.lines.items) }
@@ -192,7 +191,7 @@ pub fn ended(left: &mut Left<'_>, bounds: Bounds) -> Option<u32>
     cut_short(left, bounds)
 }
 
-/// So many turns, where the run is over that ends behind them.
+/// This number of turns, if the run is over after them.
 fn over_at(left: &mut Left<'_>, turns: u32) -> Option<u32>
     ensures over { IfSome result (λ made. IsOver made (center_of left.new.core) left.new.lines.items) }
     ensures same { IfSome result (λ made. made ≡ turns) }
@@ -207,7 +206,8 @@ fn over_at(left: &mut Left<'_>, turns: u32) -> Option<u32>
     None
 }
 
-/// Behind how many turns the run ends behind a task of so many turns, if it does, and lets somebody look where there were any.
+/// The number of turns that ends the run after a task of this number of turns, if it ends. Lets the watch look if
+/// there were any.
 fn end_behind<W: Watch>(
     left: &mut Left<'_>,
     made: u32,
@@ -228,7 +228,7 @@ fn end_behind<W: Watch>(
     cut_behind(left, bounds, tally)
 }
 
-/// Behind how many turns the run ends behind a task, if the handlers have printed more than they may.
+/// The number of turns that ends the run after a task, if the handlers have printed more than they may.
 fn cut_behind(left: &mut Left<'_>, bounds: Bounds, tally: &mut Tally) -> Option<u32>
     ensures over { IfSome result (λ turns. IsOver turns (center_of left.new.core) left.new.lines.items) }
     ensures ends { IfSome result (λ turns. EndsBehind bounds turns left.new.regions.items) }
@@ -263,11 +263,10 @@ fn cut_short(left: &mut Left<'_>, bounds: Bounds) -> Option<u32>
     None
 }
 
-/// The next handler that has something to do plays so many turns of its job at most, and they are settled and recorded: how
-/// many it made. None are made where no handler has anything to do, where none may be made, or where the record is full.
+/// Lets the next handler with a job play at most this number of its turns, which are settled and recorded. Returns
+/// how many it made: none if no handler has a job, if none may be made, or if the record is full.
 ///
-/// # Errors
-/// Where memory is refused, perhaps behind turns that are made and settled.
+/// # Errors Memory is refused, perhaps after turns that are made and settled.
 fn play_next<G: Gate>(
     left: &mut Left<'_>,
     limit: u32,
@@ -297,11 +296,9 @@ fn play_next<G: Gate>(
     play_picked(core, region, lines, handler, limit, asked, gate)
 }
 
-/// The next handler that has something to do is out with it, and there is room to settle and to record that. None where no
-/// handler has anything to do.
+/// Picks the next handler with a job, with room to settle and to record it. None if no handler has a job.
 ///
-/// # Errors
-/// Where there is no memory. Then no handler goes out.
+/// # Errors Memory ran out. Then no handler goes out.
 fn pick_with_room(
     core: &mut Core,
     lines: &mut Vec<RecordLine>,
@@ -321,11 +318,11 @@ fn pick_with_room(
     Ok(core.pick())
 }
 
-/// A handler that is out plays so many turns of its job at most, and the gate is told of it. They are settled and recorded:
-/// how many it made.
+/// Plays at most this number of turns of the job of a handler that is out, with calls of the gate before and after.
+/// They are settled and recorded. Returns how many it made.
 ///
-/// # Errors
-/// Where memory is refused: to the first, and the handler is put back; or behind turns that are settled and recorded.
+/// # Errors Memory is refused: to the first turn, and the handler is put back; or after turns that are settled and
+/// recorded.
 fn play_picked<G: Gate>(
     core: &mut Core,
     region: &mut Region<'_>,
@@ -359,8 +356,8 @@ fn play_picked<G: Gate>(
     Ok(turns)
 }
 
-/// A handler that is out plays so many turns of its job at most, and they are settled: how many it made. Err where memory is
-/// refused to the first: the handler is put back.
+/// Plays at most this number of turns of the job of a handler that is out, and settles them. Returns how many. Err if
+/// memory is refused to the first: the handler is put back.
 fn play_out(
     core: &mut Core,
     region: &mut Region<'_>,

@@ -1,10 +1,10 @@
-//! Who is told of a run on its way.
+//! Which value hears of a run on its way.
 
 use sc_lockpass::HandlerNumber;
 
-/// Is told as a worker begins to play a handler's turns, and as it has played them. The worker holds the region of the handler
-/// then, and nothing else. Of a turn that a reserve step was granted nobody is told: a worker plays that while it holds the core,
-/// too.
+/// Is called as a worker begins to play a handler's turns, and after it has played them. The worker holds the region
+/// of the handler then, and nothing else. It isn't called for a turn that a reserve step was granted: a worker plays
+/// that while it holds the core, too.
 pub trait Gate: Sync {
     /// The region of the handler was locked.
     fn began(&self, handler: HandlerNumber);

@@ -5,10 +5,10 @@ use sc_lockpass::HandlerNumber;
 /// A task of fewer turns is a short one: it takes less time than to exchange it.
 const FEW_TURNS: u32 = 16;
 
-/// After so many short tasks in a row the tasks are fine-grained.
+/// After this number of short tasks in a row the tasks are fine-grained.
 const SHORT_TASKS: u32 = 64;
 
-/// After so many long tasks, each of another handler than the task before, the tasks are coarse-grained.
+/// After this number of long tasks, each of another handler than the task before, the tasks are coarse-grained.
 const LONG_TASKS: u32 = 64;
 
 /// How many short tasks came last, and how many long ones since tasks were fine-grained.
@@ -49,8 +49,8 @@ impl Granularity {
         self.short >= SHORT_TASKS
     }
 
-    /// Whether so many short tasks came that one worker gains more by them than it takes to let the others end, and to start
-    /// them again: that takes as long as a walk through the record.
+    /// Whether so many short tasks came that one worker gains more by them than it takes to let the others end, and
+    /// to start them again: that takes as long as a walk through the record.
     pub fn pays_alone(&self, lines: usize) -> bool {
         self.is_fine() && self.short as usize >= lines / 4
     }

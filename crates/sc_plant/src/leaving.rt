@@ -40,7 +40,7 @@ pub fn left_of<'p, P: OfProgram>(
     (left, is_refused)
 }
 
-/// The regions behind those that are there, in order, and whether memory was refused to a turn of one.
+/// The regions after those that are there, in order, and whether memory was refused to a turn of one.
 fn regions_of<'p, P: OfProgram>(
     mut slots: Vec<Mutex<Slot<'p, P>>>,
     mut regions: Vec<LoggedRegion<'p>>,
@@ -74,7 +74,7 @@ pub fn difference(left: &LoggedLeft<'_>) -> Option<HandlerNumber>
     first_difference(left.regions.as_slice(), left.core.log())
 }
 
-/// The same, without logs.
+/// What a run leaves, without its logs.
 #[inline(never)]
 pub fn without_logs<'p>(left: LoggedLeft<'p>, room: Vec<Region<'p>>) -> Left<'p>
     requires room { vec_len left.regions ≤ vec_capacity room }

@@ -21,7 +21,7 @@ pub struct Left<'p> {
     pub version: Version,
 }
 
-/// The same, where each region has the log of the jobs that it played.
+/// What a run leaves, with the log of the jobs that each region played.
 #[derive(Drop)]
 pub struct LoggedLeft<'p> {
     pub regions: Vec<LoggedRegion<'p>>,
@@ -33,8 +33,8 @@ pub struct LoggedLeft<'p> {
 /// Why a run isn't done.
 #[derive(Drop)]
 pub enum RunFault<'p> {
-    /// U1: memory was refused. What the run left then, once the refused turn was put back and all others were settled; or none,
-    /// where it was refused before the first turn.
+    /// U1: memory was refused. It has what the run left, after the refused turn was put back and all others were
+    /// settled; or nothing, if it was refused before the first turn.
     OutOfMemory(Option<Left<'p>>),
     /// U2: a thread was refused.
     ThreadRefused,
@@ -45,8 +45,7 @@ pub enum RunFault<'p> {
 impl<'p> Left<'p> {
     /// Each handler's line and output, and how the run has ended.
     ///
-    /// # Errors
-    /// Where there is no memory.
+    /// # Errors Memory ran out.
     pub fn report(&self, alloc: Global) -> Result<Vec<u8>, AllocError>
         ensures { IfOk result (λ report. report.items ≡ told.report (world_of self.now)) }
     {

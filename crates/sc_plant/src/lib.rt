@@ -1,13 +1,13 @@
 //! Runs of a program on several threads.
 //!
-//! [`run`] plays the handlers of a program by several workers, and [`run_watched`] lets somebody look at that on its way. A
-//! worker picks a handler with its job from the core, plays the handler's region, and settles what that came to. The core
-//! lies under one lock, each region under one of its own. A worker holds both only for the one turn with which a handler
-//! goes on once its reserve step is granted.
+//! [`run`] plays the handlers of a program by several workers, and [`run_watched`] lets a watch look at it on its
+//! way. A worker picks a handler with its job from the core, plays the handler's region, and settles the result. The
+//! core is under one lock, each region under one of its own. A worker holds both only for the one turn with which a
+//! handler goes on after its reserve step is granted.
 //!
-//! What lies under a lock keeps what is known of it: the settlements of the core lead from the opening to its state, and the
-//! turns of a region's log lead to the region. When the workers have ended, the logs are compared. So what is [`Left`] is
-//! what one thread makes of the turns of the record, as [`laws`] say.
+//! The types under the locks keep what is known of their values: the settlements of the core lead from the opening
+//! to its state, and the turns of a region's log lead to the region. When the workers have ended, the logs are
+//! compared. So what is [`Left`] is what one thread makes of the turns of the record, as [`laws`] say.
 #![tactic(auto)]
 
 mod alone;

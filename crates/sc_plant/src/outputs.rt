@@ -16,7 +16,7 @@ pub fn are_past(left: &Left<'_>, most: Option<u64>) -> bool
     }
 }
 
-/// Whether they have printed more bytes than this, where that can be told.
+/// Whether they have printed more bytes than this, if that can be counted.
 fn have_printed_more(regions: &[Region<'_>], most: u64) -> bool
     ensures { OnTrue result (most < printed_by regions.now) }
 {
@@ -40,7 +40,7 @@ fn printed_by(regions: &[Region<'_>]) -> Option<u64>
     Some(printed)
 }
 
-/// How much each handler had printed as its last task was noted, so that not all have to be looked at behind each task.
+/// How much each handler had printed after its last task, so that not all have to be looked at after each task.
 #[derive(Drop)]
 pub struct Tally {
     lengths: [usize; 512],
@@ -77,7 +77,7 @@ impl Tally {
         }
     }
 
-    /// A handler has printed so many bytes.
+    /// Notes the number of bytes that a handler has printed.
     fn note_at(&mut self, handler: usize, printed: usize) {
         if let Some(length) = self.lengths.get_mut(handler) {
             let more = printed.saturating_sub(*length);

@@ -25,22 +25,22 @@ use std::marker::Brand;
 use std::sync::{Mutex, Wait};
 use std::thread::Threads;
 
-/// How many turns several workers make before it is seen what they have come to.
+/// How many turns several workers make between two looks at the run.
 const TURNS_BETWEEN: u32 = 262_144;
 
-/// How many they make where there is a bound on what is printed: a turn may print 10,000 bytes and more.
+/// How many turns several workers make between two looks if what is printed has a bound: a turn may print 10,000
+/// bytes and more.
 const TURNS_BETWEEN_OUTPUTS: u32 = 4_096;
 
-/// Plays the handlers of a program on so many threads, the calling one among them, until none has anything to do, so many
-/// turns are made, or the record has 1,000,000 lines. There may be 512 handlers.
+/// Plays the handlers of a program on this number of threads, the calling one among them, until none has a job, the
+/// limit of turns is reached, or the record has 1,000,000 lines. There may be 512 handlers.
 ///
-/// Each handler is played by one thread at a time, under the lock of its region. The gate is told of it there. What is left
-/// is what one thread makes of the turns of the record's lines, one after the other.
+/// Each handler is played by one thread at a time, under the lock of its region, with calls of the gate there. What
+/// is left is what one thread leaves that makes the turns of the record's lines, one after the other.
 ///
-/// # Errors
-/// U1 where memory is refused, with what is left then, unless the run hadn't begun; U2 where a thread is, and U3 where a region
-/// played other jobs than were settled, which the workers never cause. With one worker it is always U1. All threads have ended
-/// then, too.
+/// # Errors U1 if memory is refused, with what is left then, unless the run hadn't begun; U2 if a thread is refused;
+/// and U3 if a region played other jobs than were settled, which the workers never cause. With one worker it is
+/// always U1. All threads have ended then, too.
 pub fn run<'p, R: Threads + Wait + Sync, G: Gate>(
     rt: &R,
     alloc: Global,
@@ -63,12 +63,12 @@ pub fn run<'p, R: Threads + Wait + Sync, G: Gate>(
     }
 }
 
-/// The same within bounds, and somebody looks at the run between its tasks: behind each that one thread plays, and where several
-/// workers have ended. By one worker the tasks are those of a run that nobody looks at. It is told behind how many turns
-/// at most the run has ended, which are fewer than the bound where the handlers have printed more than they may.
+/// Runs a program as `run` does, within bounds, and lets a watch look between its tasks: after each that one thread
+/// plays, and when several workers have ended. By one worker the tasks are those of a run without a watch. Returns
+/// the number of turns that ended the run at most, which is below the bound if the handlers have printed more than
+/// they may.
 ///
-/// # Errors
-/// As of a run that nobody looks at.
+/// # Errors Those of a run without a watch.
 pub fn run_watched<'p, R: Threads + Wait + Sync, G: Gate, W: Watch>(
     rt: &R,
     alloc: Global,
@@ -148,8 +148,8 @@ fn play_in_turns<'p, P: OfProgram + Send + Sync, R: Threads + Wait + Sync, G: Ga
     unreachable!()
 }
 
-/// Behind how many turns of a run several workers are to end, so that it can be seen what was printed, or what they have come to
-/// where they are to be interrupted.
+/// After which number of turns several workers are to end, so that the watch can see what was printed, or the state
+/// if they are to be interrupted.
 fn turns_to_see(lines: &[RecordLine], bounds: Bounds, interrupts: bool) -> u32 {
     let between = if bounds.output.is_some() {
         TURNS_BETWEEN_OUTPUTS

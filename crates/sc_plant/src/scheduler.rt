@@ -86,9 +86,9 @@ impl<P: OfProgram> Scheduler<P> {
         }
     }
 
-    /// Settles so many turns of the job of a task. Where its handler has nothing to do, or there is no memory, which there is
-    /// since it was picked, they aren't settled: then its region's log has more than its settlements, which the comparison of
-    /// the logs tells.
+    /// Settles this number of turns of the job of a task. If its handler has no job, or there is no memory, which
+    /// there is since it was picked, they aren't settled: then its region's log is longer than its settlements, which
+    /// the comparison of the logs finds.
     fn settle(&mut self, task: &Task, turns: u32) {
         match self.recorded.settle(task.handler, turns, &task.asked) {
             Ok(()) => self.give_back(task.turns.saturating_sub(turns)),

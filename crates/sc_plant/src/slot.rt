@@ -56,7 +56,7 @@ impl<'p, P: OfProgram> Slot<'p, P> {
         self.play_job(job, *turns, asked)
     }
 
-    /// Plays a job, for so many turns at most.
+    /// Plays at most this number of turns of a job.
     fn play_job(&mut self, job: &Job, limit: u32, asked: &mut Want) -> Played
         requires { 1 ≤ limit }
     {

@@ -31,9 +31,9 @@ impl Task {
 pub enum Played {
     /// No task was played.
     Nothing,
-    /// So many turns of its job were made.
+    /// This number of turns of its job were made.
     Made(u32),
-    /// So many turns of its job were made, and memory was refused to the next.
+    /// This number of turns of its job were made, and memory was refused to the next.
     CutShort(u32),
     /// Memory was refused to the first turn of the job.
     Refused,

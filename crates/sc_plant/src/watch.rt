@@ -1,17 +1,17 @@
-//! Who looks at a run between its tasks.
+//! Which value looks at a run between its tasks.
 
 use crate::left::Left;
 
-/// Looks at what a run has come to so far, on the thread that called for it.
+/// Looks at the run so far, on the thread that called for it.
 pub trait Watch {
     /// A task was played and settled by one thread, or several workers have ended. No handler is out.
     fn sees(&mut self, left: &Left<'_>);
 
-    /// Whether several workers are to end now and then, so that it sees what they have come to.
+    /// Whether several workers are to end now and then, so that it sees the run so far.
     fn interrupts(&self) -> bool;
 }
 
-/// Nobody looks.
+/// A watch that does nothing.
 #[derive(Drop)]
 pub struct Unwatched;
 

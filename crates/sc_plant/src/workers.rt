@@ -53,7 +53,7 @@ fn exchange<'p, P: OfProgram, R: Wait>(
     unreachable!()
 }
 
-/// Plays a turn that was granted, under the lock of its region. Nobody else holds that: the handler isn't out.
+/// Plays a turn that was granted, under the lock of its region. No other worker holds that: the handler isn't out.
 fn play_granted<'p, P: OfProgram, R: Wait>(
     rt: &R,
     slots: &Vec<Mutex<Slot<'p, P>>>,

@@ -1,10 +1,10 @@
-//! Numbers by which stores are told apart at a glance.
+//! Hashes of stores.
 
 use sc_region::{Activation, ObjectNumber, Stage, Store, Value};
 use std::hash::{FoldHasher, Hasher};
 
-/// A number that differs for most stores that differ: of the objects, of where the topmost routine stands, with its values,
-/// and of the length of the output.
+/// A hash of the store: of the objects, the topmost routine's place and values, and the length of the output. No
+/// contract says which number it is.
 pub fn hash_store(store: &Store<'_>) -> u64 {
     let mut hasher = FoldHasher::default();
     write_objects(&mut hasher, store);

@@ -1,7 +1,8 @@
-//! What a job comes to that memory was refused to, each the contract of a function that does nothing.
+//! The result of a job that memory was refused to, each law the contract of a function that does nothing.
 ghost use Rattle.sc_play.specs.Regions.{RefusedJobsGoOn, RefusedTwiceIsRefused};
 
-/// Played again it goes on where it stopped: what it comes to then, it comes to from where it was played first.
+/// A job that memory was refused to goes on when it is played again, and ends as it would have from the region as it
+/// was first.
 pub fn refused_jobs_go_on()
     ensures { RefusedJobsGoOn }
 {}

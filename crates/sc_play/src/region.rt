@@ -20,7 +20,7 @@ use std::marker::Model;
 pub struct Region<'p> {
     store: Store<'p>,
     handler: HandlerNumber,
-    /// A job whose turn was refused memory has told the creator of a handler its number.
+    /// Whether a job whose turn was refused memory has given the creator of a handler its number.
     is_told: bool,
 }
 
@@ -63,11 +63,11 @@ fn fail(store: &mut Store<'_>, why: Cause, asked: &mut Want)
     *asked = Want::Fail(why);
 }
 
-/// Further turns, as long as nothing is asked and fewer than `limit` are made: how many turns are made then, with those
-/// that were `made` already, the last of which asked what was `asked`, which is now what the last of all asks. Where memory
-/// is refused, they end before that turn; Err where none is made.
+/// Makes further turns, as long as they want nothing and fewer than `limit` are made: returns how many turns are made
+/// then, with those that were `made` already. The last of these wanted what was in `asked`, which now holds what the
+/// last of all wants. If memory is refused, they end before that turn; Err if none is made.
 ///
-/// It stays a call, in which all turns are made that are any turn of the handler.
+/// It isn't inlined; all turns that aren't the first of a job are made in it.
 #[inline(never)]
 fn play_on(
     store: &mut Store<'_>,
@@ -108,8 +108,9 @@ fn play_on(
     Ok(turns)
 }
 
-/// The first turn under the job, and further ones, as long as nothing is asked and fewer than `limit` are made: how many
-/// turns are made. Where memory is refused to a further one, they end before it. Err where it is refused to the first.
+/// Makes the first turn under the job, and further ones, as long as they want nothing and fewer than `limit` are
+/// made: returns how many turns are made. If memory is refused to a further one, they end before it. Err if it is
+/// refused to the first.
 #[tactic(auto, using(crate::proofs::FurtherTurns::stops_first))]
 fn play_under(
     store: &mut Store<'_>,
@@ -152,10 +153,10 @@ impl<'p> Region<'p> {
         }
     }
 
-    /// The first turn is that of the job; further ones follow as long as nothing is asked and fewer than `limit` are made.
-    /// Where memory is refused to one of these, they end before it. Err where memory is refused to the first: no more is done
-    /// then than silent operations of a routine that goes on. The job can be played again, and comes to what it comes to from
-    /// the region as it was ([`refused_jobs_go_on`](crate::laws::refused_jobs_go_on)).
+    /// Makes the first turn of the job, and further ones as long as they want nothing and fewer than `limit` are
+    /// made. If memory is refused to one of these, they end before it. Err if memory is refused to the first: at most
+    /// silent operations of a routine that goes on are executed then. The job can be played again, and has the result
+    /// that it would have had from the region as it was ([`refused_jobs_go_on`](crate::laws::refused_jobs_go_on)).
     pub fn play(&mut self, job: &Job, limit: u32) -> Result<Outcome, AllocError>
         requires { 1 ≤ limit }
         ensures ok { IfOk result (λ outcome. Plays limit job.now self.old self.new outcome) }
@@ -170,7 +171,7 @@ impl<'p> Region<'p> {
         })
     }
 
-    /// The same, where what is asked is written into a place: how many turns are made.
+    /// Plays a job as `play` does, and writes what its last turn wants into a place: returns how many turns are made.
     pub fn play_asking(
         &mut self,
         job: &Job,
@@ -232,21 +233,21 @@ impl<'p> Region<'p> {
         self.store.output()
     }
 
-    /// Where the handler was as it failed, or else is now, to be told to people. Nothing is promised of it: no turn depends on
-    /// it.
+    /// Where the handler was as it failed, or else is now, to be shown to people. It has no contract: no turn depends
+    /// on it.
     pub fn breakdown(&self) -> Breakdown {
         self.store.breakdown()
     }
 
-    /// Whether the stores of the two hold the same: objects, frames, output and failure.
+    /// Whether the stores of the two hold equal objects, frames, output and failure.
     pub fn is_same(&self, other: &Region<'_>) -> bool
         ensures { IsTrue result ↔ AreSame self.now.store other.now.store }
     {
         self.store.is_same(&other.store)
     }
 
-    /// Whether the two are regions of one handler that hold the same: objects, frames, output and failure, whatever their
-    /// programs are, and whether a refused job has told the creator of a handler its number.
+    /// Whether the two are regions of one handler with equal objects, frames, output and failure, whatever their
+    /// programs are, and whether a refused job has given the creator of a handler its number.
     pub fn is_alike(&self, other: &Region<'_>) -> bool
         ensures { IsTrue result ↔ contents_of self.now ≡ contents_of other.now }
     {

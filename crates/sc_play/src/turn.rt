@@ -20,9 +20,10 @@ use sc_model::Cause;
 use sc_region::{Job, Stage, Store, Want};
 use std::alloc::AllocError;
 
-/// An operation that isn't silent is done. Err where there is no memory for a visible one; nothing has changed then.
+/// Executes an operation that isn't silent. Its error says that memory ran out for a visible one, and nothing has
+/// changed then.
 ///
-/// It is part of a turn, and no call.
+/// It is inlined into a turn.
 #[inline(always)]
 fn do_operation(
     store: &mut Store<'_>,
@@ -48,10 +49,11 @@ fn do_operation(
     }
 }
 
-/// The topmost routine goes on, up to an operation that isn't silent, which is done: at once where the routine ends or calls an
-/// object of another handler next. Err where there is no memory: silent operations may be done then.
+/// Runs the topmost routine up to an operation that isn't silent, and executes that: at once if the routine ends or
+/// calls an object of another handler next. Its error says that memory ran out: silent operations may be executed
+/// then.
 ///
-/// It is part of a turn, and no call.
+/// It is inlined into a turn.
 #[inline(always)]
 fn run_on(store: &mut Store<'_>, handler: HandlerNumber, asked: &mut Want) -> Result<(), AllocError>
     requires { asked.old ≡ want.Continue }
@@ -77,7 +79,7 @@ fn run_on(store: &mut Store<'_>, handler: HandlerNumber, asked: &mut Want) -> Re
     }
 }
 
-/// The store stays, and nothing is asked where it hasn't ended in a failure.
+/// Leaves the store as it is, and wants nothing if it hasn't ended in a failure.
 fn wait(store: &Store<'_>, asked: &mut Want)
     requires { asked.old ≡ want.Continue }
     ensures { Becomes store.now want.Continue store.now asked.new }
@@ -132,8 +134,8 @@ pub fn turn(
     }
 }
 
-/// A handler was made for the topmost routine, which has been told its number. Where it waits for the answer this is its
-/// turn, and it goes on in its next, else in any turn: whether the turn was made.
+/// Gives the topmost routine the number of the handler that was made for it. If it waits for the answer this is its
+/// turn, and it goes on in its next, else in any turn. Returns whether the turn was made.
 fn turn_made(store: &mut Store<'_>, asked: &mut Want) -> bool
     requires { asked.old ≡ want.Continue }
     ensures { (handler : ℕ) → Begins result handler (λ z v. TurnMade (top_stage store.old) handler store.old z v) store.old store.new asked.new }
@@ -165,8 +167,8 @@ fn turn_made(store: &mut Store<'_>, asked: &mut Want) -> bool
     }
 }
 
-/// The first turn under a job that has begun, where it isn't any turn of the handler: whether it was made. Err where there
-/// is no memory; nothing has changed then.
+/// Makes the first turn under a job that has begun, if it isn't any turn of the handler. Returns whether it was made.
+/// Its error says that memory ran out, and nothing has changed then.
 fn turn_under(
     store: &mut Store<'_>,
     handler: HandlerNumber,
@@ -205,7 +207,7 @@ fn turn_under(
     }
 }
 
-/// The creator of a handler is told its number, unless it was.
+/// Gives the creator of a handler its number, unless it has it.
 fn begin(store: &mut Store<'_>, job: &Job, is_told: bool)
     ensures { store.new ≡ begun is_told job.now store.old }
 {
@@ -219,8 +221,9 @@ fn begin(store: &mut Store<'_>, job: &Job, is_told: bool)
     }
 }
 
-/// The first turn under the job, where it isn't any turn of the handler: whether it was made. `is_told` says that the
-/// creator of a handler was told its number already. Err where there is no memory: the job has begun then.
+/// Makes the first turn under the job, if it isn't any turn of the handler. Returns whether it was made. `is_told`
+/// says that the creator of a handler has its number already. Its error says that memory ran out: the job has begun
+/// then.
 pub fn first_turn(
     store: &mut Store<'_>,
     handler: HandlerNumber,

@@ -6,16 +6,16 @@ use Rattle.sc_worklog.specs.LoggedRegions.{entries_of, region_of}
 use Rattle.sc_recording.specs.Recorded.{settlements_for}
 use Rattle.sc_recording.specs.Regions.{AgreesIn}
 
--- The settlement stands at this place in the log of the handler's region.
+-- The settlement is at this place in the log of the handler's region.
 abbrev pub StandsAt : List LoggedRegion → ℕ → ℕ → Settlement → Type 0
 StandsAt rs h n e = (r : LoggedRegion) × (slice_get rs h ≡ Some r) × (slice_get (entries_of r) n ≡ Some e)
 
--- The handler's region is of that number, and has so many entries.
+-- The handler's region has that number, and this number of entries.
 abbrev pub EndsAt : List LoggedRegion → ℕ → ℕ → Type 0
 EndsAt rs h n =
     (r : LoggedRegion) × (slice_get rs h ≡ Some r) × ((region_of r).handler ≡ h) × (length (entries_of r) ≡ n)
 
--- These settlements were compared: of each handler so many, and the least that is known to differ, or 512.
+-- These settlements were compared: this number of each handler, and the lowest that is known to differ, or 512.
 pub record Walked (rs : List LoggedRegion) (es : List Settlement) (next : List ℕ) (least : ℕ) : Type 0 where
   pub few : least ≤ 512
   pub size : length next ≡ 512

@@ -5,7 +5,7 @@ ghost use Rattle.sc_worklog.specs.LoggedRegions.{region_of};
 use sc_play::Region;
 use sc_worklog::LoggedRegion;
 
-/// The regions behind those that are there, in order, without their logs.
+/// The regions after those that are there, in order, without their logs.
 pub fn bare_regions<'p>(
     mut logged: Vec<LoggedRegion<'p>>,
     mut regions: Vec<Region<'p>>,

@@ -9,7 +9,7 @@ use sc_handler::Log;
 use sc_lockpass::HandlerNumber;
 use sc_worklog::LoggedRegion;
 
-/// Whether the settlement at a place of the core's log stands at this place in the log of the handler's region.
+/// Whether the settlement at a place of the core's log is at this place in the log of the handler's region.
 fn stands_at(
     regions: &[LoggedRegion<'_>],
     handler: HandlerNumber,
@@ -28,7 +28,7 @@ fn stands_at(
     region.log().agrees_at(place, settlements, at)
 }
 
-/// Whether the handler's region is of that number, and has so many entries in its log.
+/// Whether the handler's region has that number, and this number of entries in its log.
 fn ends_at(regions: &[LoggedRegion<'_>], handler: HandlerNumber, count: usize) -> bool
     ensures yes { IsTrue result → EndsAt regions.now handler count }
     ensures no { result ≡ false → EndsAt regions.now handler count → ⊥ }

@@ -1,4 +1,5 @@
-//! The core's calls as the workers make them: nobody goes out with what is granted, and what is settled is what is due.
+//! The core's calls as the workers make them: no handler goes out with a granted step, and what is settled is what
+//! is due.
 ghost use Rattle.std.specs.Prelude.{◌≡◌, OnErr, OnOk, Some, is_some, true};
 ghost use Rattle.sc_lockpass.specs.declared.version.Version.TheVariants.{Two};
 ghost use Rattle.sc_request.specs.Candidates.{is_granting};
@@ -21,8 +22,8 @@ pub enum Undue {
     OutOfMemory,
 }
 
-/// The handler isn't out any more. So many turns of it, the last of which asks this, are settled under the job that it has
-/// to do now: the one that it was out with, where they were played of that.
+/// Settles this number of turns of a handler, the last of which wants this, under the job that it has now: the one
+/// that it was out with, if they were played for that. The handler isn't out any more.
 pub fn settle_due(
     core: &mut Core,
     handler: HandlerNumber,
@@ -61,14 +62,12 @@ pub fn settle_out(core: &mut Core, handler: HandlerNumber, turns: u32, want: &Wa
     }
 }
 
-/// The next handler that has something to do, whose job is written into a place, is out with it. Where that is what its reserve
-/// step was granted, it isn't out, and is to play and to settle it before anybody else is picked. None where no handler has
-/// anything to do.
+/// Picks the next handler with a job, and writes the job into a place. If a reserve step was granted, the handler
+/// isn't out, and must be played and settled before another one is picked. None if no handler has a job.
 ///
 /// There is room then to settle it, beside all that are out.
 ///
-/// # Errors
-/// Where there is no memory. Then no handler goes out.
+/// # Errors Memory ran out. Then no handler goes out.
 pub fn pick_due(core: &mut Core, place: &mut Job) -> Result<Option<HandlerNumber>, AllocError>
     requires none { GrantsNone (center_of core.old) }
     requires version { core.old.state.rights.version ≡ Two }

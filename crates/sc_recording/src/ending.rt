@@ -56,7 +56,7 @@ fn is_over<P: OfProgram>(recorded: &mut RecordedCore<P>, limit: u32) -> bool
     is_idle_or_full(core, lines.as_slice(), limit)
 }
 
-/// The same, of a core and its record.
+/// Whether a run of a core and its record is over: no handler has a job, or the record is full.
 pub fn is_idle_or_full(core: &mut Core, lines: &[RecordLine], limit: u32) -> bool
     ensures over { OnTrue result (IsOver limit (center_of core.new) lines.now) }
     ensures center { center_of core.new ≡ center_of core.old }
@@ -88,7 +88,7 @@ pub fn is_idle_or_full(core: &mut Core, lines: &[RecordLine], limit: u32) -> boo
     false
 }
 
-/// How many turns may still be made behind the lines of a record.
+/// How many turns may still be made after the lines of a record.
 pub fn turns_left(lines: &[RecordLine], limit: u32) -> u32 {
     limit.saturating_sub(turns_in(lines).unwrap_or(limit))
 }

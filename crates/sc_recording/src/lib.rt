@@ -1,9 +1,9 @@
-//! The core of a run with the record of its settlements, as it lies under a lock.
+//! The core of a run with the record of its settlements, as it is kept under a lock.
 //!
-//! A [`RecordedCore`] settles what is due and nothing else, and notes each settlement as a line of the record: its type keeps that
-//! the settlements lead from the opening of the program to the core's state, and that the lines are these settlements. Here it is
-//! said, too, whether a run is over, whether the logs of the regions are those of the settlements, and of which handler one thread's
-//! world and what is left don't have the same.
+//! A [`RecordedCore`] settles what is due and nothing else, and notes each settlement as a line of the record: its
+//! type keeps that the settlements lead from the opening of the program to the core's state, and that the lines are
+//! these settlements. This crate also decides whether a run is over, whether the logs of the regions are those of
+//! the settlements, and at which handler one thread's world differs from what is left.
 #![tactic(auto)]
 
 mod bare;

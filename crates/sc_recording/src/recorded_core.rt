@@ -32,7 +32,8 @@ pub struct RecordedCore<P: OfProgram> {
 }
 
 impl<P: OfProgram> RecordedCore<P> {
-    /// The handler isn't out any more. So many turns of it are settled under the job that it has to do now, and recorded.
+    /// Settles and records this number of turns of a handler under the job that it has now. The handler isn't out any
+    /// more.
     pub fn settle(&mut self, handler: HandlerNumber, turns: u32, want: &Want) -> Result<(), Undue> {
         if self.lines.reserve(1).is_err() {
             return Err(Undue::OutOfMemory);
@@ -42,14 +43,12 @@ impl<P: OfProgram> RecordedCore<P> {
         Ok(())
     }
 
-    /// The next handler that has something to do, whose job is written into a place, is out with it. Where that is what its
-    /// reserve step was granted, it isn't out, and is to play and to settle it before anybody else is picked. None where no
-    /// handler has anything to do.
+    /// Picks the next handler with a job, and writes the job into a place. If a reserve step was granted, the handler
+    /// isn't out, and must be played and settled before another one is picked. None if no handler has a job.
     ///
     /// There is room then to settle and to record it, and all that are out.
     ///
-    /// # Errors
-    /// Where there is no memory. Then no handler goes out.
+    /// # Errors Memory ran out. Then no handler goes out.
     pub fn pick(&mut self, place: &mut Job) -> Result<Option<HandlerNumber>, AllocError> {
         let wanted = self.core.out_count().saturating_add(1);
         self.lines.reserve(wanted)?;

@@ -11,7 +11,7 @@ use sc_world::World;
 /// How many handlers there may be in any version.
 const MAX_HANDLERS: u16 = 512;
 
-/// The least handler of which a world doesn't have the same as a core and the regions beside it, however many there may be.
+/// The lowest handler at which a world differs from a core and the regions beside it, however many there may be.
 pub fn first_that_differs(
     world: &World<'_>,
     core: &Core,
@@ -28,7 +28,7 @@ pub fn first_that_differs(
     None
 }
 
-/// Whether the two have the same of a handler.
+/// Whether the two are alike at a handler.
 fn is_same_at(
     world: &World<'_>,
     core: &Core,

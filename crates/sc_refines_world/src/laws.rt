@@ -18,8 +18,8 @@ use sc_world::laws::{
     kept_alike_are_alike, openings_are_of_their_program, runs_stay_of_their_program,
 };
 
-/// The turns of any handlers lead the world of an accepted system's program to one that stands for the state to which they lead
-/// the machine.
+/// The turns of any handlers lead the world of an accepted system's program to one that represents the state to which
+/// they lead the machine.
 pub fn world_runs_as_machine()
     ensures { WorldRunsAsMachine }
 {
@@ -58,7 +58,7 @@ pub fn anew_runs_as_machine()
     runs_stay_of_their_program();
 }
 
-/// Where memory was refused to a turn behind so many, the world is near the state to which those lead the machine.
+/// If memory was refused to a turn after these, the world is near the state to which these lead the machine.
 pub fn stopped_world_stays_near()
     ensures { StoppedWorldStaysNear }
 {
@@ -72,7 +72,8 @@ pub fn machine_has_headline()
     settled_objects_meet();
 }
 
-/// So each world that turns lead to stands for a state that the machine reaches, of which the headline holds.
+/// So each world that turns lead to represents a state that the machine reaches, and the headline holds of that
+/// state.
 pub fn world_has_headline()
     ensures { WorldHasHeadline }
 {
@@ -80,40 +81,40 @@ pub fn world_has_headline()
     machine_has_headline();
 }
 
-/// A world that stands for a state is near it.
+/// A world that represents a state is near it.
 pub fn standing_world_is_near()
     ensures { StandingWorldIsNear }
 {}
 
-/// So is one where memory was refused to the turn of a handler of a world that stands for it: the core is what it was, and no
-/// more than silent operations of that handler's region are done.
+/// So is one in which memory was refused to the turn of a handler of a world that represents it: the core is what it
+/// was, and at most silent operations of that handler's region are executed.
 pub fn refused_turn_stays_near()
     ensures { RefusedTurnStaysNear }
 {}
 
-/// A world near a state reports what the machine reports of it, and each handler stands as it does there.
+/// A world near a state reports what the machine reports of it, and each handler has the status that it has there.
 pub fn world_reports_as_machine()
     ensures { WorldReportsAsMachine }
 {
     core_picks_where_the_machine_turns();
 }
 
-/// Where no handler of a world has anything to do, none has a turn in the state of the machine that it stands for.
+/// If no handler of a world has a job, none has a turn in the state of the machine that it represents.
 pub fn idle_world_is_idle()
     ensures { IdleWorldIsIdle }
 {
     core_picks_where_the_machine_turns();
 }
 
-/// Any turns, of which some were made and others were refused memory, lead a program's world near the state to which those that
-/// were made lead the machine.
+/// Any turns, some made and others refused memory, lead a program's world near the state to which those that were
+/// made lead the machine.
 pub fn attempts_run_as_machine()
     ensures { AttemptsRunAsMachine }
 {
     world_runs_as_machine();
 }
 
-/// So each world that they lead to is near a state that the machine reaches, of which the headline holds.
+/// So each world that they lead to is near a state that the machine reaches, and the headline holds of that state.
 pub fn attempts_have_headline()
     ensures { AttemptsHaveHeadline }
 {
@@ -121,22 +122,22 @@ pub fn attempts_have_headline()
     machine_has_headline();
 }
 
-/// A handler that makes a turn behind them stands exactly again.
+/// After a handler makes a turn, its part of the world represents the state exactly again.
 pub fn turns_stand_exactly()
     ensures { TurnsStandExactly }
 {
     world_runs_as_machine();
 }
 
-/// Where memory was refused behind so many turns of a list, the rest of the list leads near the state to which the whole list
-/// leads the machine.
+/// If memory was refused after some turns of a list, the rest of the list leads near the state to which the whole
+/// list leads the machine.
 pub fn rest_runs_as_machine()
     ensures { RestRunsAsMachine }
 {
     world_runs_as_machine();
 }
 
-/// Turns round and round, of which several may be made at once, are turns of handlers, one after the other.
+/// Turns round and round, several of which may be made at once, are turns of handlers, one after the other.
 pub fn rounds_are_turns()
     ensures { RoundsAreTurns }
 {}
@@ -147,8 +148,9 @@ pub fn handlers_come_again()
     ensures { HandlersComeAgain }
 {}
 
-/// So rounds that end lead a program's world to one that stands for a state to which as many turns lead the machine, or
-/// fewer where no handler has a turn any more. Each of them is that of the next handler that has one, round the numbers.
+/// So rounds that end lead a program's world to one that represents a state to which as many turns lead the machine,
+/// or fewer if no handler has a turn any more. Each of them is that of the next handler that has one, round the
+/// numbers.
 pub fn rounds_run_as_machine()
     ensures { RoundsRunAsMachine }
 {

@@ -1,5 +1,5 @@
-//! The world that runs refines the machine on trees: each world that turns lead to stands for the state of the machine that
-//! the same turns lead to.
+//! The world that runs refines the machine on trees: each world that turns lead to represents the state of the
+//! machine that these turns lead to.
 #![tactic(auto)]
 
 pub mod laws;

@@ -1,4 +1,4 @@
-//! Laws of turns of which there is one outcome, each the contract of a function that does nothing.
+//! Laws of turns that have one outcome, each the contract of a function that does nothing.
 ghost use Rattle.sc_refines_world.specs.Functional.{FirstTurnsAreFunctional, FirstTurnsKeepExact, RunsAreFunctional};
 
 use crate::regions::asks::creators_are_told;
@@ -15,8 +15,8 @@ use sc_machine_laws::settlements::laws::{
 };
 use sc_request::laws::core_picks_where_the_machine_turns;
 
-/// The first turn under a job leaves one store and asks one thing, on a sound store whose objects have as many attributes as their
-/// classes, and which stands for a half that fits the job.
+/// The first turn under a job leaves one store and has one want, on a sound store whose objects have as many
+/// attributes as their classes, and which represents a half that fits the job.
 pub fn first_turns_are_functional()
     ensures { FirstTurnsAreFunctional }
 {

@@ -1,8 +1,10 @@
-//! The regions beside the machine: what a turn makes of the store of a handler is what the definition of a turn makes of the
-//! half that the store stands for; and with the core they are the machine: that half stays the half of the machine's turn.
+//! The regions beside the machine: a turn does to the store of a handler what the definition of a turn does to the
+//! half that the store represents; and with the core they are the machine: that half stays the half of the machine's
+//! turn.
 //!
-//! The machine has one state of all handlers. A region has the objects, frames and output of one handler, and asks the core
-//! for what concerns others. Here the machine is cut along that line, so that each half can be compared with its code.
+//! The machine has one state of all handlers. A region has the objects, frames and output of one handler, and asks
+//! the core for what concerns others. Here the machine is cut along that line, so that each half can be compared
+//! with its code.
 
 pub mod asks;
 pub mod half_laws;

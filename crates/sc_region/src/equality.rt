@@ -1,4 +1,4 @@
-//! Whether the objects of two stores, and the routines of their frames, are the same.
+//! Whether the objects of two stores, and the routines of their frames, are equal.
 ghost use Rattle.std.specs.Prelude.{◌≡◌, ◌↔◌, IsTrue, map};
 ghost use Rattle.sc_region.specs.Frames.{activation_of};
 ghost use Rattle.sc_region.specs.Objects.{object_of};
@@ -9,14 +9,14 @@ use crate::value::{Reference, Value};
 use arrayvec::ArrayVec;
 use sc_lockpass::HandlerNumber;
 
-/// Whether two lists of values are the same.
+/// Whether two lists have equal values.
 pub(crate) fn same_values(values: &[Value], others: &[Value]) -> bool
     ensures { IsTrue result ↔ values.now ≡ others.now }
 {
     values == others
 }
 
-/// Whether two lists of references are the same.
+/// Whether two lists have equal references.
 pub(crate) fn same_references(references: &[Reference], others: &[Reference]) -> bool
     ensures { IsTrue result ↔ references.now ≡ others.now }
 {
@@ -40,7 +40,7 @@ fn same_object(object: &Object, other: &Object) -> bool
     object.class == other.class && same_values(&object.attributes, &other.attributes)
 }
 
-/// Whether there are as many objects, and each is the same as the one at its place.
+/// Whether the lists are equally long and each object equals the one at its place.
 pub(crate) fn same_objects(objects: &[Object], others: &[Object]) -> bool
     ensures { IsTrue result ↔ map object_of objects.now ≡ map object_of others.now }
 {
@@ -57,7 +57,7 @@ pub(crate) fn same_objects(objects: &[Object], others: &[Object]) -> bool
 
 // ---- routines
 
-/// Whether there are as many blocks, and each has reserved the same handlers as the one at its place.
+/// Whether there are equally many blocks, each with the same newly reserved handlers.
 fn same_blocks(
     blocks: &[ArrayVec<HandlerNumber, 16>],
     others: &[ArrayVec<HandlerNumber, 16>],
@@ -75,7 +75,7 @@ fn same_blocks(
     true
 }
 
-/// Whether the two are the same routine, begun in the same way, and stand at the same place.
+/// Whether two frames are of the same routine, begun in the same way, at the same operation.
 fn same_place(activation: &Activation, other: &Activation) -> bool
     ensures { IsTrue result ↔ ((activation.now.routine ≡ other.now.routine) × (activation.now.origin ≡ other.now.origin)
         × (activation.now.stage ≡ other.now.stage) × (activation.now.place ≡ other.now.place)) }
@@ -86,7 +86,7 @@ fn same_place(activation: &Activation, other: &Activation) -> bool
         && activation.place == other.place
 }
 
-/// Whether the two newly reserved the same handlers, for their entry and for each block.
+/// Whether two frames newly reserved the same handlers, for their entry and for each block.
 fn same_reserved(activation: &Activation, other: &Activation) -> bool
     ensures { IsTrue result ↔ ((activation.now.reserved.items ≡ other.now.reserved.items)
         × (map (λ block. block.items) activation.now.blocks.items ≡ map (λ block. block.items) other.now.blocks.items)) }
@@ -95,7 +95,7 @@ fn same_reserved(activation: &Activation, other: &Activation) -> bool
         && same_blocks(&activation.blocks, &other.blocks)
 }
 
-/// Whether the two have the same values, and newly reserved the same handlers.
+/// Whether two frames have equal values and newly reserved the same handlers.
 fn same_contents(activation: &Activation, other: &Activation) -> bool
     ensures { IsTrue result ↔ ((activation.now.slots.items ≡ other.now.slots.items) × (activation.now.result ≡ other.now.result)
         × (activation.now.olds ≡ other.now.olds) × (activation.now.operands ≡ other.now.operands)
@@ -115,7 +115,8 @@ fn same_activation(activation: &Activation, other: &Activation) -> bool
     same_place(activation, other) && same_contents(activation, other)
 }
 
-/// Whether there are as many routines, and each stands where the one at its place does, with the same values.
+/// Whether the lists are equally long and each frame is at the same operation as the one at its place, with equal
+/// values.
 pub(crate) fn same_activations(activations: &[Activation], others: &[Activation]) -> bool
     ensures { IsTrue result ↔ map activation_of activations.now ≡ map activation_of others.now }
 {

@@ -1,4 +1,4 @@
-//! Where the routine of a frame stands.
+//! The activation of a frame's routine.
 ghost use Rattle.std.specs.Prelude.{◌≡◌, ◌≤◌, ◌+◌, ◌++◌, ◌-◌, [], IsTrue, OnOk, length, replicate, vec_capacity, vec_len};
 ghost use Rattle.sc_region.specs.Calls.{BeginsPlainly, in_call};
 ghost use Rattle.sc_region.specs.Stores.{beginning};
@@ -60,7 +60,7 @@ pub struct OwnCall {
     pub gives: bool,
 }
 
-/// What the turns of a routine change in its frame: where it stands, and the values of its entities and operands.
+/// The part of a frame that its routine's turns change: the next operation, and the values of entities and operands.
 #[derive(Drop)]
 pub struct Activation {
     /// The routine's number.
@@ -98,8 +98,8 @@ impl Activation {
         }
     }
 
-    /// A routine begins here, with all the memory that its operands will need, in the memory of what stood here. Err
-    /// where there is no memory.
+    /// Begins a routine in the memory of an earlier one, with all the memory that its operands will need. Its error
+    /// says that memory ran out.
     #[inline(always)]
     pub(crate) fn begin(
         &mut self,
@@ -121,8 +121,8 @@ impl Activation {
         }
     }
 
-    /// Whether the routine takes so many actuals and reserves nothing, and what stood here has reserved nothing and leaves memory for
-    /// its slots.
+    /// Whether the routine takes this number of actuals and reserves nothing, and the earlier routine has reserved
+    /// nothing and leaves memory for its slots.
     #[inline(always)]
     fn has_place(&self, code: &RoutineCode, actuals: usize) -> bool
         ensures begins { IsTrue result → BeginsPlainly code.now actuals (activation_of self.now) }
@@ -188,7 +188,7 @@ impl Activation {
         fill_slots(&mut self.slots, code, actuals)
     }
 
-    /// The routine is in a call that takes so many operands.
+    /// Suspends the routine during a call that takes this number of operands.
     #[inline(always)]
     pub(crate) fn suspend(&mut self, operands: usize, gives: bool)
         ensures { activation_of self.new ≡ in_call operands gives (activation_of self.old) }
@@ -199,7 +199,7 @@ impl Activation {
     }
 }
 
-/// There are so many slots, for which there is room, whatever they hold.
+/// Sets the number of slots, for which there is room; their values are any.
 #[inline(always)]
 fn fit(slots: &mut Vec<Value>, count: usize)
     requires { count ≤ vec_capacity slots.old }
@@ -213,7 +213,7 @@ fn fit(slots: &mut Vec<Value>, count: usize)
     }
 }
 
-/// The slots get the actuals, and Void behind them.
+/// Writes the actuals to the slots, and Void to the others.
 #[inline(always)]
 #[tactic(auto, using(crate::proofs::FilledSlots::copied, crate::proofs::FilledSlots::voided))]
 fn set_slots(slots: &mut [Value], actuals: &[Value])
@@ -255,7 +255,7 @@ fn add_actuals(slots: &mut Vec<Value>, actuals: &[Value])
     }
 }
 
-/// No open blocks any more, and room for so many. Err where there is no memory for them.
+/// Closes all blocks, and makes room for this number. Its error says that memory ran out.
 fn empty_blocks(
     blocks: &mut Vec<ArrayVec<HandlerNumber, 16>>,
     count: usize,
@@ -269,7 +269,8 @@ fn empty_blocks(
     Ok(())
 }
 
-/// Room for so many blocks. Err where there is no memory for them. (A call of its own: it is seldom made.)
+/// Makes room for this number of blocks. Its error says that memory ran out. (A function of its own, since it is
+/// seldom called.)
 #[inline(never)]
 fn grow_blocks(
     blocks: &mut Vec<ArrayVec<HandlerNumber, 16>>,

@@ -1,4 +1,4 @@
-//! What handlers ask of each other, and what a handler's turns come to.
+//! What handlers ask of each other, and the results of a handler's turns.
 
 use crate::value::{Reference, Value};
 use arrayvec::ArrayVec;
@@ -47,12 +47,12 @@ pub enum Job {
     Go,
 }
 
-/// What a turn asks of the other handlers, and tells of the next step.
+/// What a turn wants of the other handlers, and what its next step is.
 #[derive(Drop)]
 pub enum Want {
     /// Nothing. The next step is always enabled.
     Continue,
-    /// Nothing. The next step is the reserve step for these handlers, none where all are held already.
+    /// Nothing. The next step reserves these handlers, none if all are held already.
     Reserve(ArrayVec<HandlerNumber, 16>),
     /// The request goes to its target's handler, and isn't waited for.
     Post(Request),
@@ -82,7 +82,7 @@ pub enum Want {
     Fail(Cause),
 }
 
-/// What a handler's turns come to.
+/// The result of a handler's turns.
 #[derive(Drop)]
 pub struct Outcome {
     pub handler: HandlerNumber,

@@ -32,7 +32,7 @@ impl Object {
         Ok(Object { class, attributes })
     }
 
-    /// The attribute at the number gets the value, where there is one.
+    /// Writes the value to the attribute at the number, if there is one.
     fn write(&mut self, slot: usize, value: Value)
         ensures { object_of self.new ≡ with_slot slot value (object_of self.old) }
     {
@@ -132,7 +132,7 @@ impl Objects {
         self.get(number)?.attributes.get(slot).copied()
     }
 
-    /// The attribute of the object at these numbers gets the value, where there is one.
+    /// Writes the value to the attribute of the object at these numbers, if there is one.
     pub fn write(&mut self, number: usize, slot: usize, value: Value)
         ensures { self.new ≡ with_attribute number slot value self.old }
     {
@@ -141,7 +141,7 @@ impl Objects {
         }
     }
 
-    /// Whether they are the same.
+    /// Whether they are equal.
     pub fn is_same(&self, other: &Objects) -> bool
         ensures { IsTrue result ↔ self.now ≡ other.now }
     {

@@ -16,7 +16,7 @@ pub struct Operands {
     depth: usize,
     /// How many there are.
     count: usize,
-    /// They come first, the last one last. What stands behind them is left of others.
+    /// The operands come first, the last one last. The rest is unused memory with old values.
     items: Vec<Value>,
 }
 
@@ -44,7 +44,7 @@ impl Operands {
         }
     }
 
-    /// No operands any more, and room for so many. Err where there is no memory for them.
+    /// Removes all operands, and makes room for this number. Its error says that memory ran out.
     pub(crate) fn reset(&mut self, depth: usize) -> Result<(), AllocError>
         ensures { OnOk result (self.new ≡ record { depth = depth; values = [] }) }
     {
@@ -56,7 +56,7 @@ impl Operands {
         Ok(())
     }
 
-    /// The same, where the memory of so many is there: whether it is.
+    /// Removes all operands and returns True if there is memory for this number already; else changes nothing.
     #[inline(always)]
     pub(crate) fn reset_in_place(&mut self, depth: usize) -> bool
         ensures { IsTrue result → self.new ≡ record { depth = depth; values = [] } }
@@ -116,8 +116,8 @@ impl Operands {
     }
 }
 
-/// Room for so many values, each of which is there. Err where there is no memory for them. (A call of its own: it is seldom
-/// made, since the memory stays from one routine to the next.)
+/// Fills the list up to this number of values. Its error says that memory ran out. (A function of its own, since it
+/// is seldom called: the memory stays from one routine to the next.)
 #[inline(never)]
 fn fill(items: &mut Vec<Value>, count: usize) -> Result<(), AllocError>
     requires { vec_len items.old ≤ count }
@@ -130,7 +130,7 @@ fn fill(items: &mut Vec<Value>, count: usize) -> Result<(), AllocError>
     Ok(())
 }
 
-/// So many more values, for which there is room. They are Void.
+/// Adds this number of Voids, for which there is room.
 #[tactic(auto, using(crate::proofs::FilledSlots::slot_more))]
 pub(crate) fn add_voids(items: &mut Vec<Value>, count: usize)
     requires { vec_len items.old + count ≤ vec_capacity items.old }
@@ -171,7 +171,7 @@ impl Olds {
         }
     }
 
-    /// No values any more, and room for so many. Err where there is no memory for them.
+    /// Removes all values, and makes room for this number. Its error says that memory ran out.
     pub(crate) fn reset(&mut self, room: usize) -> Result<(), AllocError>
         ensures { OnOk result (self.new ≡ record { room = room; values = [] }) }
     {
@@ -180,7 +180,7 @@ impl Olds {
         Ok(())
     }
 
-    /// The same, where the memory of so many is there: whether it is.
+    /// Removes all values and returns True if there is memory for this number already; else changes nothing.
     #[inline(always)]
     pub(crate) fn reset_in_place(&mut self, room: usize) -> bool
         ensures { IsTrue result → self.new ≡ record { room = room; values = [] } }
@@ -218,7 +218,7 @@ impl Olds {
     }
 }
 
-/// None of the values any more, and room for so many. Err where there is no memory for them.
+/// Removes all values, and makes room for this number. Its error says that memory ran out.
 pub(crate) fn empty_for(items: &mut Vec<Value>, count: usize) -> Result<(), AllocError>
     ensures empty { items.new.items ≡ [] }
     ensures room { OnOk result (count ≤ vec_capacity items.new) }
@@ -231,8 +231,8 @@ pub(crate) fn empty_for(items: &mut Vec<Value>, count: usize) -> Result<(), Allo
     Ok(())
 }
 
-/// Room for so many values that are still to come. Err where there is no memory for them. (A call of its own: it is seldom
-/// made, since the memory stays from one routine to the next.)
+/// Makes room for this number of further values. Its error says that memory ran out. (A function of its own, since it
+/// is seldom called: the memory stays from one routine to the next.)
 #[inline(never)]
 fn grow(items: &mut Vec<Value>, count: usize) -> Result<(), AllocError>
     ensures items { items.new.items ≡ items.old.items }

@@ -15,7 +15,7 @@ pub fn class_at(program: &Program, class: ClassNumber) -> Option<&ClassCode>
     class_numbered(program, usize::from(class))
 }
 
-/// The same, whatever the number is.
+/// The class with this number, if there is one, for any number.
 #[inline(always)]
 pub fn class_numbered(program: &Program, number: usize) -> Option<&ClassCode>
     ensures class { option_map (λ code. code.now) result ≡ at.class_at program.now.image number }

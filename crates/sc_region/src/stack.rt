@@ -13,13 +13,13 @@ use sc_code::RoutineCode;
 use std::alloc::{AllocError, Global};
 use std::marker::Model;
 
-/// The frames of a handler: routines in the middle of their run. Each stays where it began until it exits.
+/// The frames of a handler: routines in the middle of their run. Each stays at its place until it exits.
 #[derive(Drop)]
 pub struct Stack {
     /// The object that each frame runs on, that of the topmost one last.
     currents: Vec<Reference>,
-    /// Where the routine of each frame stands, in the same order. Above them stands what is left of routines that have
-    /// exited: its memory serves the next ones.
+    /// The activation of each frame, in the same order. After them come those of routines that have exited: their
+    /// memory serves the next ones.
     activations: Vec<Activation>,
 }
 
@@ -57,7 +57,7 @@ impl Stack {
         self.currents.len()
     }
 
-    /// A routine is entered on an object. Err where there is no memory; nothing has changed then.
+    /// Enters a routine on an object. Its error says that memory ran out, and nothing has changed then.
     pub fn enter(
         &mut self,
         alloc: Global,
@@ -76,7 +76,8 @@ impl Stack {
         Ok(())
     }
 
-    /// The topmost routine calls one on an object. Err where there is no memory; nothing has changed then.
+    /// Calls a routine on an object from the topmost one. Its error says that memory ran out, and nothing has changed
+    /// then.
     #[inline(always)]
     pub fn call(
         &mut self,
@@ -145,7 +146,7 @@ impl Stack {
         }
     }
 
-    /// Where the routine of the topmost frame stands, if there is one.
+    /// The activation of the topmost frame, if there is one.
     #[inline(always)]
     pub fn top(&self) -> Option<&Activation>
         ensures { option_map (λ activation. activation_of activation.now) result ≡ top_activation self.now }
@@ -153,14 +154,14 @@ impl Stack {
         self.activations.get(self.currents.len().wrapping_sub(1))
     }
 
-    /// Where the routine stands of the frame that so many stand above, if there is one, to be told to people. Nothing is promised
-    /// of it: no turn depends on it.
+    /// The activation of the frame below `count` others, if there is one, to be shown to people. It has no contract:
+    /// no turn depends on it.
     pub fn under(&self, count: usize) -> Option<&Activation> {
         let place = self.currents.len().checked_sub(count)?;
         self.activations.get(place.checked_sub(1)?)
     }
 
-    /// The same of the topmost frame, to be changed.
+    /// The activation of the topmost frame, to be changed.
     #[inline(always)]
     pub fn top_mut(&mut self) -> Option<&mut Activation>
         ensures* writes_back { sem 𝓛 (LendsTopOfStack self.entry result) }
@@ -170,12 +171,12 @@ impl Stack {
         self.activations.get_mut(place)
     }
 
-    /// Where the routine of the frame over so many others stands, or stood as it exited, to be told.
+    /// The activation of the frame above `height` others, also if it has exited, to be shown to people.
     pub fn over(&self, height: usize) -> Option<&Activation> {
         self.activations.get(height)
     }
 
-    /// Whether the frames are the same. What stands above them makes no difference.
+    /// Whether the frames are equal. Memory of routines that have exited makes no difference.
     pub fn is_same(&self, other: &Stack) -> bool
         ensures { IsTrue result ↔ self.now ≡ other.now }
     {
@@ -189,7 +190,8 @@ impl Stack {
     }
 }
 
-/// The place above the topmost frame, where there is room for one more, and an object too. Err where there is no memory.
+/// The place above the topmost frame, if there is room for one more, and for an object. Its error says that memory
+/// ran out.
 #[inline(always)]
 fn place_above(
     currents: &mut Vec<Reference>,
@@ -211,8 +213,8 @@ fn place_above(
     Ok(place)
 }
 
-/// Room for one more object, and a place for its routine where there is none above the frames. Err where there is no
-/// memory. (A call of its own: it is made only where the stack is as high as never before.)
+/// Makes room for one more object, and a place for its routine if there is none above the frames. Its error says that
+/// memory ran out. (A function of its own, since it is called only if the stack is higher than ever before.)
 #[inline(never)]
 fn add_place(
     currents: &mut Vec<Reference>,

@@ -36,13 +36,13 @@ pub struct State<'p> {
     pub stack: Stack,
     pub output: Vec<u8>,
     pub failure: Option<Cause>,
-    /// Where it failed, to be told. Nothing else depends on it.
+    /// Where it failed, to be shown to people. Nothing else depends on it.
     pub breakdown: Breakdown,
 }
 
 // ---- failure, and settled objects
 
-/// Where the routine stands.
+/// The operation that the routine is at.
 fn point_of(activation: &Activation) -> Point {
     Point {
         routine: activation.routine,
@@ -50,7 +50,7 @@ fn point_of(activation: &Activation) -> Point {
     }
 }
 
-/// Where it is, or was as it failed.
+/// Where the handler is, or was as it failed.
 pub fn breakdown(state: &State<'_>) -> Breakdown {
     match state.stack.top() {
         Some(activation) => Breakdown {
@@ -61,7 +61,7 @@ pub fn breakdown(state: &State<'_>) -> Breakdown {
     }
 }
 
-/// Keeps where it is, for a failure to be told.
+/// Keeps where the handler is, so that a failure can be explained.
 fn keep_breakdown(state: &mut State<'_>, why: Cause)
     ensures { state_of state.new ≡ state_of state.old }
 {
@@ -121,7 +121,7 @@ fn meets_invariant(program: &Program, object: &Object) -> bool
     }
 }
 
-/// Whether each clause of the joined invariant of a class is true of the attributes, of which there are at most 256.
+/// Whether each clause of the joined invariant of a class is true of the attributes: at most 256.
 #[inline(always)]
 fn meets_joined(program: &Program, class: &ClassCode, attributes: &[Value]) -> bool
     requires { length attributes.now ≤ 256 }
@@ -130,8 +130,8 @@ fn meets_joined(program: &Program, class: &ClassCode, attributes: &[Value]) -> b
     class.invariant_classes.is_empty() || meets_some(program, class, attributes)
 }
 
-/// The same where there are clauses. (A call of its own: there is room for what an invariant may see, which is cleared each time.
-/// So there is no more of it than a few attributes need, where there are few.)
+/// Whether each clause is true of the attributes, if there are clauses. (A function of its own, since it clears room
+/// for what an invariant may see; this one has room for few attributes.)
 #[inline(never)]
 fn meets_some(program: &Program, class: &ClassCode, attributes: &[Value]) -> bool
     requires { length attributes.now ≤ 256 }
@@ -145,7 +145,7 @@ fn meets_some(program: &Program, class: &ClassCode, attributes: &[Value]) -> boo
     }
 }
 
-/// The same, with room for as many attributes as there may be.
+/// Whether each clause is true of the attributes, with room for as many attributes as there may be.
 #[inline(never)]
 fn meets_many(program: &Program, class: &ClassCode, attributes: &[Value]) -> bool
     requires { length attributes.now ≤ 256 }
@@ -160,7 +160,7 @@ fn meets_many(program: &Program, class: &ClassCode, attributes: &[Value]) -> boo
     }
 }
 
-/// The same, where there is so much room for what the clauses see of the attributes.
+/// Whether each clause is true of the attributes, with this room for what the clauses see.
 #[inline(always)]
 fn meets_in(atoms: &mut [Atom], program: &Program, class: &ClassCode, attributes: &[Value]) -> bool
     requires { length attributes.now ≤ length atoms.old }
@@ -181,7 +181,7 @@ fn meets_each(program: &Program, class: &ClassCode, atoms: &[Atom]) -> bool
         .all(|declarer| meets_own(program, *declarer, count, atoms))
 }
 
-/// Whether an object with so many attributes keeps the clauses that the class of the number declares itself.
+/// Whether an object with this number of attributes meets the clauses that the class of the number declares itself.
 #[inline(always)]
 fn meets_own(program: &Program, declarer: usize, count: usize, atoms: &[Atom]) -> bool
     ensures { result ≡ all_hold (kept_from count (slice_get (classes_of program.now.image) declarer)) atoms.now }
@@ -192,7 +192,8 @@ fn meets_own(program: &Program, declarer: usize, count: usize, atoms: &[Atom]) -
     }
 }
 
-/// What the clauses of a class see of an object with so many attributes: the last ones, as many as the class has.
+/// What the clauses of a class see of an object with this number of attributes: the last ones, as many as the class
+/// has.
 #[inline(always)]
 fn seen_by<'a>(class: &ClassCode, count: usize, atoms: &'a [Atom]) -> &'a [Atom]
     ensures { result.now ≡ drop (count - length class.now.attributes.items) atoms.now }
@@ -330,7 +331,7 @@ pub fn call(
     call_code(state, current, routine, code, call)
 }
 
-/// The same of a routine whose code is at hand and takes so many actuals, where the stack isn't full.
+/// Calls a routine whose code is at hand and that takes this number of actuals, if the stack isn't full.
 #[inline(always)]
 pub fn call_code(
     state: &mut State<'_>,
@@ -375,7 +376,7 @@ pub fn leave(state: &mut State<'_>)
     }
 }
 
-/// The same as [`settle`] for the object of a routine that has exited: a failure tells of that routine.
+/// Settles the object of a routine that has exited, as [`settle`] does: a failure names that routine.
 #[inline(never)]
 fn settle_exited(state: &mut State<'_>, number: usize)
     ensures { state_of state.new ≡ settled number (state_of state.old) }

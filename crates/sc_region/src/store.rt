@@ -18,13 +18,14 @@ use sc_model::Cause;
 use std::alloc::{AllocError, Global};
 use std::marker::Model;
 
-/// The store of a handler: its objects, its frames, the topmost first, its output, and the failure that it has ended in.
+/// The store of a handler: its objects, its frames, the topmost first, its output, and the failure that it has ended
+/// in.
 ///
-/// Each settled object meets its class invariant: one that no frame has as Current, as long as the store hasn't ended in
-/// a failure. There may be 65,536 objects and 1,024 frames. An object takes 32 bytes and 16 for each attribute; a frame
-/// takes 220 bytes, 16 for each slot, for each `old` and for each operand that its routine may have at once, and 40 for
-/// each separate block. A frame stands where it began until its routine exits, so that a call moves nothing but its
-/// actuals; what it took serves later ones, so that calls take no memory once the stack has been as high.
+/// Each settled object meets its class invariant: one that no frame has as Current, as long as the store hasn't ended
+/// in a failure. There may be 65,536 objects and 1,024 frames. An object takes 32 bytes and 16 for each attribute; a
+/// frame takes 220 bytes, 16 for each slot, for each `old` and for each operand that its routine may have at once,
+/// and 40 for each separate block. A frame stays at its place until its routine exits, so that a call moves nothing
+/// but its actuals; its memory serves later ones, so that calls take no memory once the stack has been as high.
 #[derive(Drop)]
 pub struct Store<'p> {
     state: State<'p>,
@@ -84,7 +85,7 @@ impl<'p> Store<'p> {
         self.state.alloc
     }
 
-    /// The number of the class of an object, or None where there is no object. It takes constant time.
+    /// The number of the class of an object, or None if there is no object. It takes constant time.
     #[inline(always)]
     pub fn class_of(&self, number: ObjectNumber) -> Option<ClassNumber>
         ensures { result ≡ option_map (λ (o : PlainObject). o.class) (object_numbered number self.now.objects) }
@@ -99,7 +100,7 @@ impl<'p> Store<'p> {
         self.state.objects.len()
     }
 
-    /// The attribute of the number `slot` of an object, or None where there is none. It takes constant time.
+    /// The attribute with the number `slot` of an object, or None if there is none. It takes constant time.
     #[inline(always)]
     pub fn read(&self, number: ObjectNumber, slot: usize) -> Option<Value>
         ensures { result ≡ attribute_of number slot self.now.objects }
@@ -107,16 +108,16 @@ impl<'p> Store<'p> {
         self.state.objects.read(number as usize, slot)
     }
 
-    /// The attribute of the number `slot` of Current gets the value. Where there is no frame, or Current has no such
-    /// attribute, nothing changes. It takes constant time.
+    /// Writes the value to the attribute with the number `slot` of Current. If there is no frame, or Current has no
+    /// such attribute, nothing changes. It takes constant time.
     pub fn write_current(&mut self, slot: usize, value: Value)
         ensures { self.new ≡ written slot value self.old }
     {
         state::write_current(&mut self.state, slot, value);
     }
 
-    /// An object is made by a request that names no procedure: F1 where it breaks its invariant. Err where there is no
-    /// memory; nothing has changed then.
+    /// Makes an object for a request that names no procedure: F1 if it breaks its invariant. Its error says that
+    /// memory ran out, and nothing has changed then.
     pub fn birth(&mut self, class: ClassNumber) -> Result<(), AllocError>
         ensures ok { OnOk result (self.new ≡ born class self.old) }
         ensures err { OnErr result (self.new ≡ self.old) }
@@ -124,10 +125,10 @@ impl<'p> Store<'p> {
         state::bear(&mut self.state, class)
     }
 
-    /// An object of the class of `target` is made by a request, and its procedure entered on `target`, with these
-    /// actuals: F16 where there is no such routine, or it has another number of formals; F11 where the stack is full;
-    /// F1 where an object that is settled now breaks its invariant. Err where there is no memory; nothing has changed
-    /// then.
+    /// Makes an object of the class of `target` for a request, and enters its procedure on `target`, with these
+    /// actuals: F16 if there is no such routine, or it has another number of formals; F11 if the stack is full; F1 if
+    /// an object that is settled now breaks its invariant. Its error says that memory ran out, and nothing has
+    /// changed then.
     pub fn birth_with(
         &mut self,
         target: Reference,
@@ -146,8 +147,8 @@ impl<'p> Store<'p> {
         )
     }
 
-    /// An object is made by a routine of this handler, without a procedure: F10 where there are as many objects as
-    /// there may be; F1 where it breaks its invariant. Err where there is no memory; nothing has changed then.
+    /// Makes an object for a routine of this handler, without a procedure: F10 if the handler has as many objects as
+    /// it may; F1 if it breaks its invariant. Its error says that memory ran out, and nothing has changed then.
     pub fn make_object(&mut self, class: ClassNumber) -> Result<(), AllocError>
         ensures ok { OnOk result (self.new ≡ made class self.old) }
         ensures err { OnErr result (self.new ≡ self.old) }
@@ -155,9 +156,9 @@ impl<'p> Store<'p> {
         state::make(&mut self.state, class)
     }
 
-    /// An object is made by a routine of this handler, whose number is `handler`, and its procedure entered on it: F10
-    /// where there are as many objects as there may be; F16 and F11 as in `push`. Err where there is no memory; nothing
-    /// has changed then.
+    /// Makes an object for a routine of this handler, whose number is `handler`, and enters its procedure on it: F10
+    /// if the handler has as many objects as it may; F16 and F11 as in `push`. Its error says that memory ran out,
+    /// and nothing has changed then.
     pub fn make_object_with(
         &mut self,
         handler: HandlerNumber,
@@ -171,9 +172,9 @@ impl<'p> Store<'p> {
         state::make_for(&mut self.state, handler, class, routine, actuals)
     }
 
-    /// A routine is entered on an object, with these actuals, and all memory that its operands will need: F16 where
-    /// there is no such routine, or it has another number of formals; F11 where the stack is full. Err where there is no
-    /// memory; nothing has changed then.
+    /// Enters a routine on an object, with these actuals, and all memory that its operands will need: F16 if there is
+    /// no such routine, or it has another number of formals; F11 if the stack is full. Its error says that memory ran
+    /// out, and nothing has changed then.
     pub fn push(
         &mut self,
         current: Reference,
@@ -187,9 +188,9 @@ impl<'p> Store<'p> {
         state::enter(&mut self.state, current, routine, origin, actuals)
     }
 
-    /// The topmost routine calls that of the number on an object: its last operands are the actuals, in place. F16 where
-    /// there is no such routine, or it has another number of formals; F11 where the stack is full. Err where there is no
-    /// memory; nothing has changed then.
+    /// Calls the routine with the number on an object from the topmost one: its last operands are the actuals, in
+    /// place. F16 if there is no such routine, or it has another number of formals; F11 if the stack is full. Its
+    /// error says that memory ran out, and nothing has changed then.
     #[inline(always)]
     pub fn call(
         &mut self,
@@ -205,7 +206,7 @@ impl<'p> Store<'p> {
         state::call(&mut self.state, current, routine, call)
     }
 
-    /// The same of a routine whose code is at hand and takes so many actuals, where the stack isn't full.
+    /// Calls a routine whose code is at hand and that takes this number of actuals, if the stack isn't full.
     #[inline(always)]
     pub fn call_code(
         &mut self,
@@ -233,7 +234,7 @@ impl<'p> Store<'p> {
         self.state.stack.height() >= MAX_FRAMES
     }
 
-    /// The topmost frame goes, where there is one: F1 where its object is settled now and breaks its invariant.
+    /// Removes the topmost frame, if there is one: F1 if its object is settled now and breaks its invariant.
     #[inline(always)]
     pub fn pop(&mut self)
         ensures { self.new ≡ left self.old }
@@ -241,7 +242,7 @@ impl<'p> Store<'p> {
         state::leave(&mut self.state);
     }
 
-    /// The same of a frame whose object meets its class invariant, which isn't tested again.
+    /// Removes the topmost frame, whose object meets its class invariant and isn't tested again.
     #[inline(always)]
     pub fn pop_in_order(&mut self)
         requires { MeetsAt self.old.program (current_object self.old) }
@@ -250,7 +251,7 @@ impl<'p> Store<'p> {
         self.state.stack.pop();
     }
 
-    /// Bytes are added to the output. Err where there is no memory; nothing has changed then.
+    /// Adds bytes to the output. Its error says that memory ran out, and nothing has changed then.
     pub fn print(&mut self, text: &[u8]) -> Result<(), AllocError>
         ensures ok { OnOk result (self.new ≡ printed text.now self.old) }
         ensures err { OnErr result (self.new ≡ self.old) }
@@ -298,7 +299,7 @@ impl<'p> Store<'p> {
         self.state.stack.current()
     }
 
-    /// Where the topmost routine stands, if there is a frame.
+    /// The activation of the topmost routine, if there is a frame.
     #[inline(always)]
     pub fn top(&self) -> Option<&Activation>
         ensures { option_map (λ activation. activation_of activation.now) result ≡ top_activation self.now.frames }
@@ -306,13 +307,13 @@ impl<'p> Store<'p> {
         self.state.stack.top()
     }
 
-    /// Where the routine stands that has so many routines above it, if there is one, to be told to people. Nothing is promised of it:
-    /// no turn depends on it.
+    /// The activation of the routine below `count` others, if there is one, to be shown to people. It has no
+    /// contract: no turn depends on it.
     pub fn under(&self, count: usize) -> Option<&Activation> {
         self.state.stack.under(count)
     }
 
-    /// The same of the topmost routine, to be changed.
+    /// The activation of the topmost routine, to be changed.
     #[inline(always)]
     pub fn top_mut(&mut self) -> Option<&mut Activation>
         ensures* writes_back { sem 𝓛 (LendsTop self.entry result) }
@@ -321,8 +322,8 @@ impl<'p> Store<'p> {
         self.state.stack.top_mut()
     }
 
-    /// The stack and the attributes of Current are lent at once, where there is a frame and Current is there: what the
-    /// function gives, which changes no object that a frame has as Current for another.
+    /// Lends the stack and the attributes of Current at once, if there is a frame and Current exists: returns the
+    /// function's result. The function changes no object that a frame has as Current for another.
     #[inline(always)]
     pub fn with_current<R, F: FnOnce(&mut Stack, &mut [Value]) -> R>(&mut self, run: F) -> Option<R>
         requires callable { F.IsAlwaysCallable run }
@@ -352,8 +353,8 @@ impl<'p> Store<'p> {
         self.state.failure
     }
 
-    /// Whether the two hold the same: objects, frames, output and failure, whatever their programs are. It looks at each
-    /// at most once.
+    /// Whether two stores hold equal objects, frames, output and failure, whatever their programs are. It looks at
+    /// each at most once.
     pub fn is_same(&self, other: &Store<'_>) -> bool
         ensures { IsTrue result ↔ AreSame self.now other.now }
     {
@@ -363,8 +364,8 @@ impl<'p> Store<'p> {
             && self.state.failure == other.state.failure
     }
 
-    /// Where the store was as it ended in a failure, or else is now, to be told to people. Nothing is promised of it: no turn
-    /// depends on it.
+    /// Where the store was as it ended in a failure, or else is now, to be shown to people. It has no contract: no
+    /// turn depends on it.
     pub fn breakdown(&self) -> Breakdown {
         state::breakdown(&self.state)
     }

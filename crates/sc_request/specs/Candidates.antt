@@ -1,4 +1,4 @@
--- Who may have something to do: sets that have at least those who do.
+-- Which handlers may have a job: sets that have at least those that do.
 use Rattle.std.specs.Prelude.{◌≡◌, ◌≤◌, ◌<◌, ◌==◌, ◌||◌, ℕ, Bool, true, false, List, [], ◌∷◌, Option, Some, None, is_some, map, nat_lt, not, ◌&&◌, if◌then◌else◌}
 use Rattle.std.specs.List.{list_all}
 use Rattle.sc_lockpass.specs.Rights.{is_among, is_handler}

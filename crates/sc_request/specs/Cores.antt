@@ -1,4 +1,4 @@
--- What a core in memory stands for.
+-- What a core in memory represents.
 use Rattle.std.specs.Prelude.{◌≡◌, ◌++◌, ◌∷◌, ℕ, List, [], Some}
 use Rattle.sc_lockpass.specs.Versions.{most_handlers}
 use Rattle.sc_region.specs.declared.job.Job.{Job}
@@ -20,7 +20,7 @@ center_of c = center c.state.count c.state.handlers.items c.state.sessions.items
 abbrev pub log_of : coded.Core → List Settlement
 log_of c = settlements_of c.log
 
--- So many turns of the handler, which is out with a job, are settled, the last of which asks this,
+-- This number of turns of the handler, which is out with a job, are settled, the last of which wants this,
 abbrev pub Settles : ℕ → ℕ → Want → coded.Core → coded.Core → Type 0
 Settles h turns w c d = (j : Job) → (center_of c).out h ≡ Some j →
     center_of d ≡ settles (most_handlers c.state.rights.version) h j turns w (center_of c)

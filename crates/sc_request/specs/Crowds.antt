@@ -1,11 +1,11 @@
--- Who is known to wait for which handler.
+-- Which handlers are known to wait for which.
 use Rattle.std.specs.Prelude.{◌≡◌, ◌==◌, ◌&&◌, ℕ, Bool, true, false, List, [], Option, Some, None, nat_lt, slice_get, if◌then◌else◌}
 use Rattle.sc_lockpass.specs.Rights.{is_among}
 use Rattle.sc_lockpass.specs.Tables.{is_member}
 use Rattle.sc_handler.specs.Handlers.{HandlerStage, Idle, Runs, HasMade, Reserves, Awaits, Handler}
 use Rattle.sc_request.specs.declared.handler_set.HandlerSet.{HandlerSet}
 
--- what the next step reserves where it isn't held, if that is a reserve step
+-- what the next step reserves if it isn't held, if that is a reserve step
 abbrev pub reserved_by : HandlerStage → List ℕ
 reserved_by Idle = []
 reserved_by Runs = []

@@ -1,4 +1,4 @@
--- The core's half of a state of the machine: who stands where, and who is asked for what, without objects, frames and
+-- The core's half of a state of the machine: the stage and the queue of each handler, without objects, frames and
 -- outputs.
 use Rattle.std.specs.Prelude.{◌≡◌, ◌⊎◌, ℕ, List, [], ◌∷◌, map}
 use Rattle.std.specs.Option.{option_map}

@@ -1,4 +1,4 @@
--- How a core opens, what its settlements come to, and who is out with a job.
+-- How a core opens, what its settlements do, and which handler is out with a job.
 use Rattle.std.specs.Prelude.{◌≡◌, ℕ, zero, suc, ◌-◌, ◌||◌, false, List, [], ◌∷◌, ◌++◌, Option, Some, None, is_some, nat_lt, ◌==◌, if◌then◌else◌}
 use Rattle.sc_lockpass.specs.Rights.{Rights, unreserved, reserve, release}
 use Rattle.sc_model.specs.declared.status.Status.{Status}
@@ -49,11 +49,11 @@ pub record Center : Type 0 where
   pub out : ℕ → Option Job
   pub last : ℕ
 
--- the center of a core that opens, where there may be so many handlers
+-- the center of a core that opens, with this limit on handlers
 abbrev pub opened : ℕ → Request → Center
 opened most root = record { state = opening root; out = λ k. None; last = most - 1 }
 
--- what the handler has to do, where it isn't out
+-- the job of the handler, if it isn't out
 abbrev pub pick_for : ℕ → Center → Option Job
 pick_for h c = if is_some (c.out h) then None else job_of h c.state
 
@@ -97,11 +97,11 @@ put_back_with h None c = c
 put_back_with h (Some j) c =
     with_out h None (record c { state = record c.state { rights = ungranted j c.state.rights } })
 
--- The pick of the handler is undone, where it is out.
+-- The pick of the handler is undone, if it is out.
 abbrev pub put_back : ℕ → Center → Center
 put_back h c = put_back_with h (c.out h) c
 
--- so many numbers from the first one on
+-- `n` numbers from the first one on
 abbrev pub numbers_from : ℕ → ℕ → List ℕ
 numbers_from first zero = []
 numbers_from first (suc n) = first ∷ numbers_from (suc first) n
@@ -124,6 +124,6 @@ first_with_job (h ∷ hs) c = first_from h (pick_for h c) (first_with_job hs c)
 abbrev pub next : Center → Option (ℕ × Job)
 next c = first_with_job (round c.state.count c.last) c
 
--- The handler, which is out with the job, is settled. There may be so many handlers.
+-- The handler, which is out with the job, is settled, with this limit on handlers.
 abbrev pub settles : ℕ → ℕ → Job → ℕ → Want → Center → Center
 settles most h j turns w c = with_out h None (record c { state = settled most h j turns w c.state })

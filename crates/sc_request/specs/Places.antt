@@ -1,4 +1,4 @@
--- What the tables that settlements change stand for.
+-- What the tables that settlements change represent.
 use Rattle.std.specs.Prelude.{◌≡◌, ℕ, List, Option, Some, None, slice_get, slice_set}
 use Rattle.std.specs.List.{list_any}
 use Rattle.sc_lockpass.specs.Rights.{is_handler, release_all}

@@ -1,4 +1,5 @@
--- What a settlement does to other handlers: sessions end, answers come, requests are sent, and a failure is told.
+-- What a settlement does to other handlers: sessions end, answers come, requests are sent, and they learn of a
+-- failure.
 use Rattle.std.specs.Prelude.{◌≡◌, ◌<◌, ℕ, ◌+◌, Bool, true, false, ◌&&◌, List, Option, Some, None, ◌==◌, length, if◌then◌else◌}
 use Rattle.std.specs.List.{list_any}
 use Rattle.sc_lockpass.specs.Rights as rights
@@ -73,7 +74,7 @@ finish p a s = answer_to p.request.is_waited p.request.poster a (return_rights p
 
 -- ---- failures
 
--- The handler fails. It releases every right that it holds, and each handler that waits for it is told.
+-- The handler fails. It releases every right that it holds, and each handler that waits for it learns of it.
 abbrev pub fail : ℕ → Cause → State → State
 fail h why s = record s {
   handlers = λ k. session_ended (ends_session release_at.Failure && is_handler h (s.rights.queue k))

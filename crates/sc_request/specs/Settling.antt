@@ -1,4 +1,4 @@
--- What a settlement comes to: the core's half of what a turn does.
+-- What a settlement does: the core's half of what a turn does.
 use Rattle.std.specs.Prelude.{ℕ, Bool, true, false, not, ◌&&◌, ◌||◌, List, [], ◌∷◌, Option, Some, None, is_some, length, nat_lt, if◌then◌else◌}
 use Rattle.std.specs.List.{list_all}
 use Rattle.arrayvec.specs.ArrayVec.{ArrayVec}
@@ -151,7 +151,7 @@ done_if false false most h w s = fail h cause.BadCode s
 abbrev pub asked_in : Bool → ℕ → ℕ → Want → State → State
 asked_in fits most h w s = done_if (posts_unheld h w s) (fits && may_ask h w s) most h w s
 
--- The state after so many turns of the handler under the job, the last of which asks this. There may be this many
--- handlers.
+-- The state after this number of turns of the handler under the job, the last of which wants this, with this limit
+-- on handlers.
 abbrev pub settled : ℕ → ℕ → Job → ℕ → Want → State → State
 settled most h j turns w s = asked_in (fits_turns turns (s.handlers h).stage j w) most h w (begun h j s)

@@ -1,5 +1,5 @@
--- What holds of every state that a core comes to: what it names is a place of the tables, and what it counts is bounded
--- by the settlements.
+-- What holds of every state of a core: what it names is a place of the tables, and what it counts is bounded by the
+-- settlements.
 use Rattle.std.specs.Prelude.{ℕ, ◌≡◌, ◌≤◌, Bool, true, false, List, Option, Some, None, length, nat_lt}
 use Rattle.std.specs.List.{All, list_all}
 use Rattle.sc_lockpass.specs.Rights.{Rights}

@@ -35,7 +35,7 @@ impl State {
         }
     }
 
-    /// A handler goes on with one that was made for it. It releases that where it waited for its creation.
+    /// A handler goes on with one that was made for it. If it waited for the creation, it releases the new one.
     fn go_on_with_made(&mut self, handler: HandlerNumber)
         requires there { handler < 512 }
         requires sound { IsSound (2 ^ 64 - 2) (2 ^ 63 - 2) (plain self.old) }

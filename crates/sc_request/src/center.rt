@@ -60,9 +60,9 @@ impl Core {
     ghost use Rattle.sc_request.specs.Logs as logs;
     ghost use Rattle.sc_request.specs.Cores.{state_of, center_of, log_of};
 
-    /// One handler, with the request for the creation of the root object: of this class, by the creation procedure of
-    /// this number. There may be as many handlers as the version says.
-    /// What grows later takes its memory from this allocator. Err where there is no memory.
+    /// One handler, with the request for the creation of the root object: of this class, by the creation procedure
+    /// with this number. There may be as many handlers as the version says. Further memory comes from this allocator.
+    /// Its error says that memory ran out.
     pub fn opening(
         alloc: Global,
         class: ClassNumber,
@@ -108,14 +108,14 @@ impl Core {
         self.state.has_job(handler)
     }
 
-    /// What a handler has to do, where it has something and isn't out.
+    /// The job of a handler, if it has one and isn't out.
     pub fn pick_for(&self, handler: HandlerNumber) -> Option<Job>
         ensures { result ≡ logs.pick_for handler (center_of self.now) }
     {
         self.state.pick_for(handler)
     }
 
-    /// How a handler stands, or None where there is no such handler. One that is out is busy.
+    /// The status of a handler, or None if there is no such handler. One that is out is busy.
     pub fn status(&self, handler: HandlerNumber) -> Option<Status>
         ensures { result ≡ logs.status_for handler (center_of self.now) }
     {
@@ -130,7 +130,7 @@ impl Core {
         self.state.count
     }
 
-    /// How many requests a handler refused for which nobody waited, or None where there is no such handler.
+    /// How many requests a handler refused for which no handler waited, or None if there is no such handler.
     pub fn refused(&self, handler: HandlerNumber) -> Option<u64>
         ensures { result ≡ (if nat_lt handler (state_of self.now).count then Some ((state_of self.now).handlers handler).refused else None) }
     {
@@ -157,7 +157,7 @@ impl Core {
     }
 }
 
-/// The creation of the root object, which nobody waits for.
+/// The creation of the root object, for which no handler waits.
 fn root_request(class: ClassNumber, procedure: NameNumber) -> Request
     ensures { result ≡ root_of class procedure }
 {
@@ -174,7 +174,7 @@ fn root_request(class: ClassNumber, procedure: NameNumber) -> Request
     }
 }
 
-/// A handler that is asked for this, and places for so many others.
+/// A handler with this request, and places for `others` further ones.
 fn places(alloc: Global, root: Request, others: usize) -> Result<Vec<Handler>, AllocError>
     ensures { IfOk result (λ hs. hs.items ≡ asked root ∷ replicate others fresh) }
 {

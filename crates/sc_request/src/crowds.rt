@@ -1,4 +1,4 @@
-//! Who is known to wait for which handler: while that is held, those aren't tried one after another.
+//! Which handlers are known to wait for which: while that is held, those aren't tried one after another.
 ghost use Rattle.std.specs.Prelude.{◌≡◌, ◌<◌, ◌&&◌, ℕ, IfSome, false, is_some, not};
 ghost use Rattle.std.specs.List.{list_any};
 ghost use Rattle.sc_lockpass.specs.Rights.{held, is_among};
@@ -62,7 +62,8 @@ impl State {
         rest
     }
 
-    /// One that a handler reserves next, and that another one may post to. None where one that it reserves has failed.
+    /// A handler that this one reserves next and to which another one may post. None if one that it reserves has
+    /// failed.
     fn held_off_by(&self, handler: HandlerNumber) -> Option<HandlerNumber>
         requires { handler < 512 }
         ensures { IfSome result (λ b. WaitsFor b handler (plain self.now).handlers) }
@@ -80,7 +81,7 @@ impl State {
         None
     }
 
-    /// What a handler's next step reserves where it isn't held, if that is a reserve step.
+    /// The handlers that a handler's next step reserves if it doesn't hold them, if that is a reserve step.
     fn reserved_by(&self, handler: HandlerNumber) -> &[HandlerNumber]
         requires { handler < 512 }
         ensures { result.now ≡ reserved_by ((plain self.now).handlers handler).stage }
@@ -117,7 +118,7 @@ impl State {
         leave_each(crowds, self.reserved_by(handler), handler);
     }
 
-    /// Where a handler has failed, nobody is known to wait: who waits for it may have to be told.
+    /// After a handler has failed, forgets who waits: each one that waited for it may be able to go on.
     pub(crate) fn disband(&self, handler: HandlerNumber, crowds: &mut Vec<HandlerSet>)
         ensures { Disbands (is_some ((plain self.now).handlers handler).failure) crowds.old.items crowds.new.items }
     {
@@ -153,7 +154,7 @@ fn leave_each(crowds: &mut Vec<HandlerSet>, reserved: &[HandlerNumber], handler:
     }
 }
 
-/// Notes that nobody waits.
+/// Forgets who waits.
 fn clear(crowds: &mut Vec<HandlerSet>)
     ensures { (b k : ℕ) → is_member (crowd_at crowds.new.items b) k ≡ false }
 {

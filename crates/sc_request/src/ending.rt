@@ -18,8 +18,8 @@ use sc_region::Value;
 use std::collections::LinkedList;
 
 impl State {
-    /// The request that a handler serves ends, with a value or none, or refused. What its entry newly reserved is
-    /// released. The node of the request comes to `spare`.
+    /// Ends the request that a handler serves, with a value or none, or refused. What its entry newly reserved is
+    /// released. The node of the request goes to `spare`.
     pub(crate) fn end(
         &mut self,
         handler: HandlerNumber,
@@ -47,8 +47,8 @@ impl State {
         spare.recycle(service);
     }
 
-    /// Takes the request that a handler serves, which stands then as it did when it took that. A refusal is counted
-    /// where nobody waits.
+    /// Removes the request that a handler serves; the handler returns to the stage at which it took it. A refusal is
+    /// counted if no handler waits.
     fn pop_service(&mut self, handler: HandlerNumber, refused: bool) -> LinkedList<Posting>
         requires there { handler < 512 }
         requires sound { IsSound (2 ^ 64 - 2) (2 ^ 63) (plain self.old) }
@@ -83,7 +83,7 @@ impl State {
         }
     }
 
-    /// What was passed returns, where it was.
+    /// Gives back what was passed, if anything was.
     #[inline(never)]
     fn give_back(&mut self, passed: &mut Passing)
         ensures plain { plain self.new ≡ return_rights (option_map passed_of passed.old) (plain self.old) }

@@ -1,4 +1,4 @@
-//! Failures, and the handlers that are told of them.
+//! Failures, and the handlers that learn of them.
 ghost use Rattle.std.specs.Prelude.{◌≡◌, ◌<◌, ◌+◌, ◌-◌, ◌^◌, ℕ, true, map, slice_index, vec_len, if◌then◌else◌};
 ghost use Rattle.sc_lockpass.specs.Rights.{is_handler};
 ghost use Rattle.sc_lockpass.specs.Tables.{rights_of};
@@ -15,7 +15,7 @@ use sc_model::Cause;
 use std::collections::LinkedList;
 
 impl State {
-    /// A handler fails. It releases every right that it holds, and each handler that waits for it is told.
+    /// Fails a handler. It releases every right that it holds, and each handler that waits for it learns of it.
     pub(crate) fn fail(&mut self, handler: HandlerNumber, why: Cause)
         requires there { handler < 512 }
         requires sound { IsSound (2 ^ 64 - 2) (2 ^ 63) (plain self.old) }
@@ -46,7 +46,7 @@ impl State {
         self.rights.release_all(handler);
     }
 
-    /// Tells those that wait for the answer to one of these that their supplier has failed.
+    /// Lets those that wait for the answer to one of these know that their supplier has failed.
     fn tell_posters(&mut self, mut postings: LinkedList<Posting>)
         requires { ArePlaced (map posting_of postings) }
         ensures plain { plain self.new ≡ tells (map posting_of postings) (plain self.old) }

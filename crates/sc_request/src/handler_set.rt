@@ -33,7 +33,7 @@ impl HandlerSet {
         self.words[handler / 64] &= !(1 << (handler % 64));
     }
 
-    /// Adds a handler, where there is a place for it.
+    /// Adds a handler, if there is a place for it.
     pub(crate) fn admit(&mut self, handler: usize)
         ensures { (k : ℕ) → k < 512 → is_member self.new.words k ≡ (k == handler || is_member self.old.words k) }
     {

@@ -1,4 +1,4 @@
-//! Numbers by which states of cores are told apart at a glance.
+//! Hashes of the states of cores.
 
 use crate::center::Core;
 use sc_handler::{word_of, write_handler};
@@ -6,8 +6,8 @@ use sc_lockpass::HandlerNumber;
 use std::hash::{FoldHasher, Hasher};
 
 impl Core {
-    /// A number that differs for most states that differ: of handlers, what stands in their queues, and who holds which.
-    /// Nothing is promised of it. It takes time for each handler that there is, and for each request that stands at it.
+    /// A hash of the state: of handlers, their queues, and who holds which. No contract says which number it is. It
+    /// takes time for each handler, and for each request in its queue.
     pub fn hash(&self) -> u64 {
         let mut hasher = FoldHasher::default();
         for handler in 0..self.handler_count() {

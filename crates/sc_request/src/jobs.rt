@@ -43,7 +43,7 @@ impl State {
         }
     }
 
-    /// What a handler has to do, where it has something and isn't out.
+    /// The job of a handler, if it has one and isn't out.
     pub(crate) fn pick_for(&self, handler: HandlerNumber) -> Option<Job>
         ensures { result ≡ pick_for handler (center_at 0 self.now) }
     {
@@ -66,7 +66,7 @@ impl State {
         }
     }
 
-    /// How a handler stands, or None where there is no such handler. One that is out is busy.
+    /// The status of a handler, or None if there is no such handler. One that is out is busy.
     pub(crate) fn status(&self, handler: HandlerNumber) -> Option<Status>
         ensures { result ≡ status_for handler (center_at 0 self.now) }
     {
@@ -86,8 +86,7 @@ impl State {
         }
     }
 
-    /// The next handler that has something to do, behind the one that was picked last. What has nothing to do leaves the
-    /// candidates.
+    /// The next handler with a job, after the one that was picked last. Handlers without one leave the candidates.
     pub(crate) fn first_round(
         &self,
         last: HandlerNumber,
@@ -134,7 +133,7 @@ impl State {
         None
     }
 
-    /// A handler is out with what it has to do, as it stands.
+    /// Marks a handler as out with its job.
     pub(crate) fn set_out(&mut self, handler: HandlerNumber)
         requires there { handler < 512 }
         ensures handlers { IsSetOut handler self.old self.new }
@@ -149,7 +148,7 @@ impl State {
         }
     }
 
-    /// A handler is out with what its reserve step comes to.
+    /// Marks a handler as out with the job of its reserve step.
     #[inline(never)]
     fn set_reserving(&mut self, handler: HandlerNumber)
         requires there { handler < 512 }
@@ -163,7 +162,7 @@ impl State {
         self.handlers[handler as usize].out.put(job);
     }
 
-    /// What the reserve step of a handler comes to, where it may be taken.
+    /// The job of the reserve step of a handler, if it can be taken.
     pub(crate) fn job_for_entry(&self, handler: HandlerNumber, place: &Handler) -> Option<Job>
         ensures { result ≡ job_for_entry (needs handler place.now.entry.items (rights_of self.now.rights)) place.now.mark (plain self.now) }
     {
@@ -212,7 +211,7 @@ impl State {
         handlers.iter().all(|k| self.is_free(*k))
     }
 
-    /// Whether a handler has failed, and is nobody's.
+    /// Whether a handler has failed, and no handler holds it.
     fn is_lost(&self, handler: HandlerNumber) -> bool
         ensures { result ≡ is_lost (standing_in (plain self.now) handler) ((rights_of self.now.rights).queue handler) }
     {
@@ -222,7 +221,7 @@ impl State {
         }
     }
 
-    /// Whether a handler is idle with an empty queue, and nobody's.
+    /// Whether a handler is idle with an empty queue, and no handler holds it.
     fn is_free(&self, handler: HandlerNumber) -> bool
         ensures { result ≡ may_be_reserved (standing_in (plain self.now) handler) ((rights_of self.now.rights).queue handler) }
     {

@@ -11,15 +11,15 @@ use sc_handler::{Handler, same_handler};
 use sc_lockpass::{HandlerNumber, Rights};
 use std::alloc::{AllocError, Global};
 
-/// Who holds a handler: who may post to it, and who may push on its waiting stack.
+/// Who holds a handler: which handler may post to it, and which may push on its waiting stack.
 #[derive(Clone, Copy, PartialEq, Eq)]
 pub(crate) struct Holders {
     queue: Option<HandlerNumber>,
     top: Option<HandlerNumber>,
 }
 
-/// The state of a core: its handlers, and who holds which. It takes memory for the handlers that there are, and for what
-/// stands in their queues. The jobs that handlers are out with, the handler picked last and the log are no part of it.
+/// The state of a core: its handlers, and who holds which. It takes memory for the handlers that there are, and for
+/// their queues. The jobs that handlers are out with, the handler picked last and the log are no part of it.
 #[derive(Drop)]
 pub struct KeptCore {
     /// How many handlers there are.
@@ -28,7 +28,7 @@ pub struct KeptCore {
     pub(crate) handlers: Vec<Handler>,
     /// How many sessions of each have ended.
     pub(crate) sessions: Vec<u64>,
-    /// Who holds each. Nobody holds any past these.
+    /// Who holds each. No handler holds any after these.
     pub(crate) holders: Vec<Holders>,
     pub(crate) ghost few: { vec_len holders ≤ 512 },
 }
@@ -36,10 +36,9 @@ pub struct KeptCore {
 impl Core {
     ghost use Rattle.sc_request.specs.Kept.{kept_of};
 
-    /// The state of the core, to be kept. The core goes.
+    /// The state of the core, to be kept. The core is consumed.
     ///
-    /// # Errors
-    /// Where there is no memory. The core is gone then, too.
+    /// # Errors Memory ran out. The core is gone then, too.
     #[tactic(auto, using(crate::proofs::KeptCores::same_states))]
     pub fn keep(self, alloc: Global) -> Result<KeptCore, AllocError>
         ensures { IfOk result (λ core. kept_of core ≡ state_of self) }
@@ -73,7 +72,7 @@ impl KeptCore {
             && self.has_same_rights(&core.state.rights)
     }
 
-    /// Whether the same handlers hold each.
+    /// Whether each has the same holders.
     fn has_same_rights(&self, rights: &Rights) -> bool
         ensures { IsTrue result ↔ rights_in self.now.holders.items ≡ rights_of rights.now }
     {
@@ -86,7 +85,7 @@ impl KeptCore {
         true
     }
 
-    /// Whether the same handlers hold a handler.
+    /// Whether a handler has the same holders.
     fn has_same_holders(&self, rights: &Rights, handler: HandlerNumber) -> bool
         ensures { IsTrue result ↔ holders_in (slice_get self.now.holders.items handler)
             ≡ record { queue = (rights_of rights.now).queue handler; top = (rights_of rights.now).top handler } }
@@ -120,7 +119,7 @@ fn used(handlers: &[Handler], sessions: &[u64]) -> usize
     count
 }
 
-/// Whether the handler at a place is new, and no session of it has ended. Where there is none, it is.
+/// Whether the handler at a place is new, and no session of it has ended, or there is none.
 fn is_new_at(handlers: &[Handler], sessions: &[u64], place: usize) -> bool
     ensures { IsTrue result ↔ handler_at handlers.now sessions.now place ≡ new_handler }
 {
@@ -134,7 +133,7 @@ fn sessions_at(sessions: &[u64], place: usize) -> u64
     sessions.get(place).copied().unwrap_or(0)
 }
 
-/// Whether the handlers, and the counts of their sessions, are the same, where all past them are new.
+/// Whether the handlers and the counts of their sessions are equal, if all after them are new.
 fn same_handlers(
     handlers: &[Handler],
     sessions: &[u64],
@@ -153,7 +152,7 @@ fn same_handlers(
     true
 }
 
-/// Whether the handlers at a place, and the counts of their sessions, are the same. One that there isn't is new.
+/// Whether the handlers at a place, and the counts of their sessions, are equal. A missing one counts as new.
 #[tactic(auto, using(crate::proofs::KeptCores::same_there, crate::proofs::KeptCores::same_handler_there, crate::proofs::KeptCores::same_count_there))]
 fn same_at(
     handlers: &[Handler],
@@ -168,7 +167,7 @@ fn same_at(
         && sessions_at(sessions, place) == sessions_at(their_sessions, place)
 }
 
-/// Whether the handlers at a place are the same, whatever the counts of their sessions are. One that there isn't is new.
+/// Whether the handlers at a place are equal, whatever the counts of their sessions are. A missing one counts as new.
 fn same_or_new(handlers: &[Handler], others: &[Handler], place: usize) -> bool
     ensures { IsTrue result ↔ handler_in (slice_get handlers.now place) ≡ handler_in (slice_get others.now place) }
 {
@@ -205,7 +204,7 @@ fn holders_of(rights: &Rights, handler: HandlerNumber) -> Holders
     }
 }
 
-/// Who holds a handler, where nobody holds any past these.
+/// The holders of a handler, if no handler holds any after these.
 fn holders_at(holders: &[Holders], handler: HandlerNumber) -> Holders
     ensures { result ≡ holders_in (slice_get holders.now handler) }
 {

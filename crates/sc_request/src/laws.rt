@@ -29,7 +29,7 @@ pub fn core_leaves_untouched()
     ensures { LeavesUntouched }
 {}
 
-/// Cores that stand alike at each handler that there may be have the same state, in all that it says.
+/// Cores that are alike at each handler that there may be have equal states.
 pub fn same_at_each_is_same_state(core: &Core, other: &Core)
     ensures { ((h : ℕ) → h < 512 → AreSameAt h (center_of core.now) (center_of other.now)) → state_of core.now ≡ state_of other.now }
 {

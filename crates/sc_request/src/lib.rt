@@ -1,7 +1,7 @@
 //! The core: what moves requests and rights between handlers.
 //!
-//! A handler's next job is picked, its turns are played elsewhere, and what they came to is settled. What is kept of one
-//! handler, and what it has to do by that, is said in `sc_handler`. `specs/Settling` says what a settlement comes to, and
+//! A handler's next job is picked, its turns are played elsewhere, and their result is settled. What is kept of one
+//! handler, and which job it has by that, is in `sc_handler`. `specs/Settling` says what a settlement does, and
 //! `specs/Halves` which state of the machine a state of the core is the half of.
 #![tactic(auto)]
 

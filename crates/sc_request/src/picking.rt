@@ -1,4 +1,4 @@
-//! Who goes on: handlers are picked with their jobs, and put back.
+//! Which handler goes on: handlers are picked with their jobs, and put back.
 ghost use Rattle.std.specs.Prelude.{◌≡◌, ◌+◌, ◌<◌, ℕ, IfSome, IsTrue, false, is_some, not, true};
 ghost use Rattle.std.specs.Option.{option_map};
 ghost use Rattle.sc_handler.specs.Freeing.{frees_under};
@@ -34,9 +34,9 @@ impl Core {
         Some(handler)
     }
 
-    /// Whether a handler that is out is the next one again, as long as its turns ask nothing: no other one has anything
-    /// to do, and its job frees nothing that one waits to reserve. Of one that isn't out, whether nobody has anything
-    /// to do.
+    /// Whether a handler that is out is the next one again, as long as its turns want nothing: no other one has a
+    /// job, and its job frees nothing that another waits to reserve. For a handler that isn't out: whether no handler
+    /// has a job.
     pub fn comes_again(&mut self, handler: HandlerNumber) -> bool
         ensures again { (job : Job) → (center_of self.old).out handler ≡ Some job → result ≡ comes_again job (center_of self.old) }
         ensures home { (center_of self.old).out handler ≡ None → result ≡ not (is_some (next (center_of self.old))) }
@@ -100,7 +100,7 @@ impl Core {
         true
     }
 
-    /// Undoes the pick of a handler that is out. It is still the one that was picked last, where it was.
+    /// Undoes the pick of a handler that is out. It stays the one that was picked last, if it was.
     pub fn put_back(&mut self, handler: HandlerNumber)
         ensures center { center_of self.new ≡ logs.put_back handler (center_of self.old) }
         ensures log { log_of self.new ≡ log_of self.old }

@@ -16,7 +16,7 @@ use sc_model::Cause;
 use sc_region::Request;
 
 impl State {
-    /// The handler takes the next of its queue or its callback, as it stands.
+    /// The handler takes its callback, or the first of its queue, as its stage says.
     pub(crate) fn take_at(&mut self, handler: HandlerNumber)
         requires there { handler < 512 }
         requires room { length ((plain self.old).handlers handler).services + 1 < 2 ^ 63 }
@@ -39,7 +39,7 @@ impl State {
         self.handlers[handler as usize].take_answer();
     }
 
-    /// The handler stands so from now on.
+    /// Sets the stage of the handler.
     pub(crate) fn stand(&mut self, handler: HandlerNumber, stage: HandlerStage)
         requires there { handler < 512 }
         requires kind { reserves_at stage ≡ false }
@@ -93,7 +93,7 @@ impl State {
         self.handlers[handler as usize].hear(answer);
     }
 
-    /// A request stands as the handler's callback, or at its queue's end, in one of these places.
+    /// Puts a request, in one of these places, as the handler's callback or at its queue's end.
     pub(crate) fn place_at(
         &mut self,
         handler: HandlerNumber,

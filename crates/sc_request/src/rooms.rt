@@ -10,7 +10,7 @@ impl Core {
     ghost use Rattle.sc_request.specs.Cores.{center_of, log_of};
 
     /// Makes room to settle each handler that is out, and one more: after this and a pick, the settlement of the
-    /// handler that was picked finds room, whatever is settled before it. Err where there is no memory.
+    /// handler that was picked finds room, whatever is settled before it. Its error says that memory ran out.
     pub fn make_room(&mut self) -> Result<(), AllocError>
         ensures room { OnOk result (HasRoomFor 1 self.new) }
         ensures center { center_of self.new ≡ center_of self.old }
@@ -24,7 +24,7 @@ impl Core {
         self.spare.add_places(wanted)
     }
 
-    /// Makes room for one settlement, where there is none.
+    /// Makes room for one settlement, if there is none.
     pub(crate) fn make_room_for_one(&mut self) -> Result<(), AllocError>
         ensures places { OnOk result (1 ≤ self.new.spare) }
         ensures entries { OnOk result (HasPlaces 1 self.new.log) }

@@ -1,4 +1,4 @@
-//! Whether two cores stand alike.
+//! Whether two cores are alike.
 ghost use Rattle.std.specs.Prelude.{◌≡◌, ◌↔◌, IsTrue};
 ghost use Rattle.sc_request.specs.Places.{plain};
 ghost use Rattle.sc_request.specs.Same.{AreSameAt};
@@ -10,8 +10,8 @@ use sc_handler::same_handler;
 use sc_lockpass::HandlerNumber;
 
 impl Core {
-    /// Whether another core stands alike at a handler: the handler stands the same in both, it serves and is asked the
-    /// same, as many of its sessions have ended, and the same handlers hold it. The job that it is out with may differ.
+    /// Whether another core is alike at a handler: it has the same stage, services, queue and count of ended sessions
+    /// in both, and the same holders. The job that it is out with may differ.
     pub fn is_same_at(&self, other: &Core, handler: HandlerNumber) -> bool
         ensures { IsTrue result ↔ AreSameAt handler (center_of self.now) (center_of other.now) }
     {
@@ -23,7 +23,7 @@ impl Core {
 }
 
 impl State {
-    /// Whether the same is kept of a handler, with the count of its sessions. Where there is no place for it, it is.
+    /// Whether a handler is kept alike in both, with the count of its sessions, or has no place.
     fn has_same_handler(&self, other: &State, handler: HandlerNumber) -> bool
         ensures { IsTrue result ↔ (plain self.now).handlers handler ≡ (plain other.now).handlers handler }
     {

@@ -53,7 +53,7 @@ impl State {
         self.send_on(handler, request, passes, is_waited, spare);
     }
 
-    /// A request goes to its target, with all rights where it passes them, and is waited for or not.
+    /// Sends a request to its target, with all rights if it passes them, and waits for it or not.
     fn send_on(
         &mut self,
         handler: HandlerNumber,
@@ -140,7 +140,7 @@ impl State {
         }
     }
 
-    /// A request, which is waited for or not, stands as the callback of its target, or at the end of the queue.
+    /// Puts a request, which is waited for or not, as the callback of its target, or at the end of its queue.
     pub(crate) fn send(
         &mut self,
         is_callback: bool,

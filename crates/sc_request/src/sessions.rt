@@ -15,7 +15,7 @@ use crate::state::State;
 use sc_lockpass::wait_conditions::Mark;
 use sc_lockpass::{HandlerNumber, Rights};
 
-/// Releases these, whoever holds them.
+/// Releases these handlers, whoever holds them.
 pub(crate) fn release_each(rights: &mut Rights, handlers: &[HandlerNumber])
     ensures queue { (k : ℕ) → (rights_of rights.new).queue k ≡ (if is_among k handlers.now then None else (rights_of rights.old).queue k) }
     ensures top { (k : ℕ) → (rights_of rights.new).top k ≡ (rights_of rights.old).top k }
@@ -47,7 +47,7 @@ pub(crate) fn reserve_each(rights: &mut Rights, holder: HandlerNumber, handlers:
     rights.reserve(holder, handlers);
 }
 
-/// Lets a handler post to a new one, and nobody push on the waiting stack of that.
+/// Lets a handler post to a new one, and no handler push on the new one's waiting stack.
 pub(crate) fn give_new(rights: &mut Rights, made: HandlerNumber, holder: HandlerNumber)
     requires { made < most_handlers rights.old.version }
     ensures queue { (k : ℕ) → (rights_of rights.new).queue k ≡ given_to made (Some holder) (rights_of rights.old).queue k }
@@ -63,7 +63,7 @@ pub(crate) fn give_new(rights: &mut Rights, made: HandlerNumber, holder: Handler
 }
 
 impl State {
-    /// Releases these, each of which the handler may post to. A session of each ends.
+    /// Releases these handlers, which the handler holds. A session of each ends.
     pub(crate) fn end_sessions(&mut self, handlers: &[HandlerNumber])
         requires there { All (λ k. k < 512) handlers.now }
         requires room { (k : ℕ) → slice_index self.old.sessions.items k + 1 < 2 ^ 64 }
@@ -91,7 +91,7 @@ impl State {
     }
 }
 
-/// Counts one more for each of these, once where it is listed twice.
+/// Adds one to the count of each of these, once if it is listed twice.
 fn count_each(counts: &mut Vec<u64>, handlers: &[HandlerNumber])
     requires there { All (λ k. k < vec_len counts.old) handlers.now }
     requires room { (k : ℕ) → slice_index counts.old.items k + 1 < 2 ^ 64 }

@@ -22,12 +22,12 @@ use sc_region::{Job, Want};
 impl Core {
     ghost use Rattle.sc_request.specs.Cores.{LogsSettlement, Settles, center_of, log_of};
 
-    /// Settles so many turns of a handler that is out, the last of which asks this. It isn't out from then on. What fits
-    /// no case for the job that was picked fails its handler: by F13 where it posts to a handler that isn't held, else by
-    /// F16.
+    /// Settles this number of turns of a handler that is out, the last of which wants this. The handler isn't out
+    /// from then on. A want that fits no case for the job fails the handler: by F13 if it posts to a handler that
+    /// isn't held, else by F16.
     ///
-    /// S1 with the handler's number where it isn't out, and S9 where there is no memory. Nothing has changed then. S9
-    /// doesn't come where there is room for a settlement.
+    /// S1 with the handler's number if it isn't out, and S9 if memory ran out. Nothing has changed then. S9 doesn't
+    /// occur if there is room for a settlement.
     pub fn settle(
         &mut self,
         handler: HandlerNumber,
@@ -61,7 +61,7 @@ impl Core {
         self.state.job_out(handler).is_some()
     }
 
-    /// Settles so many turns of a handler that is out, where there is room.
+    /// Settles this number of turns of a handler that is out, if there is room.
     fn settle_out(&mut self, handler: HandlerNumber, turns: u32, want: &Want)
         requires out { is_some ((center_of self.old).out handler) ≡ true }
         requires places { 1 ≤ self.old.spare }
@@ -102,8 +102,8 @@ impl State {
         self.handlers.get(handler as usize)?.out.get()
     }
 
-    /// So many turns of a handler under a job of this kind, the last of which asks this. A request that is sent takes
-    /// one of these places.
+    /// Settles this number of turns of a handler under a job of this kind, the last of which wants this. A request
+    /// that is sent takes one of these places.
     fn settle(
         &mut self,
         handler: HandlerNumber,
@@ -127,7 +127,7 @@ impl State {
         self.ask_in(handler, fits, want, spare);
     }
 
-    /// Does what the last turn of a handler asks, where it fits. Else the handler fails.
+    /// Does what the last turn of a handler wants, if it fits. Else the handler fails.
     fn ask_in(&mut self, handler: HandlerNumber, fits: bool, want: &Want, spare: &mut SparePlaces)
         requires there { handler < most_handlers self.old.rights.version }
         requires place { 1 ≤ spare.old }

@@ -1,4 +1,4 @@
-//! What keeps handlers from their next step, and who holds whom, to be told to people.
+//! What keeps handlers from their next step, and which handler holds which, to be shown to people.
 ghost use Rattle.std.specs.Prelude.{◌≡◌, length, map, slice_get};
 ghost use Rattle.std.specs.Option.{option_map};
 ghost use Rattle.sc_handler.specs.InMemory.{posting_of};
@@ -63,7 +63,7 @@ impl Core {
         }
     }
 
-    /// How many requests stand in the queue of a handler.
+    /// The number of requests in the queue of a handler.
     pub fn queue_len(&self, handler: HandlerNumber) -> usize
         ensures { result ≡ length ((state_of self.now).handlers handler).queue }
     {
@@ -73,7 +73,7 @@ impl Core {
         }
     }
 
-    /// The request at a place of the queue of a handler, from 0, which is taken next; None where fewer stand there.
+    /// The request at a place of the queue of a handler, from 0, which is taken next; None if the queue is shorter.
     pub fn asked_at(&self, handler: HandlerNumber, number: usize) -> Option<Request>
         ensures { result ≡ waiting.request_at ((state_of self.now).handlers handler).queue number }
     {
@@ -84,14 +84,14 @@ impl Core {
     }
 }
 
-/// The posting at a place of the queue, if one stands there.
+/// The posting at a place of the queue, if there is one.
 fn posting_at(place: &Handler, number: usize) -> Option<&Posting>
     ensures { option_map (λ posting. posting.now) result ≡ slice_get place.now.queue number }
 {
     place.queue.iter().nth(number)
 }
 
-/// The request at a place of the queue, if one stands there.
+/// The request at a place of the queue, if there is one.
 fn request_at(place: &Handler, number: usize) -> Option<Request>
     ensures { result ≡ waiting.request_at (map posting_of place.now.queue) number }
 {

@@ -40,7 +40,7 @@ impl<'t, 's> Setting<'t, 's> {
         }
     }
 
-    /// Adds that what the name is of is read, which is no routine, and says of which type that is.
+    /// Adds the reading of a name that is no routine, and returns its type.
     fn push_read(
         &self,
         names: &[Entity],
@@ -81,7 +81,7 @@ impl<'t, 's> Setting<'t, 's> {
         Ok(leaf(value, sum(olds, passed)?))
     }
 
-    /// Adds a call of a routine of Current behind its actuals.
+    /// Adds a call of a routine of Current after its actuals.
     pub fn close_routine_call(
         &self,
         code: &mut Code<'s>,
@@ -103,7 +103,7 @@ impl<'t, 's> Setting<'t, 's> {
         })
     }
 
-    /// Adds a call of a feature behind its target and its actuals.
+    /// Adds a call of a feature after its target and its actuals.
     pub fn close_feature_call(
         &self,
         code: &mut Code<'s>,

@@ -24,7 +24,7 @@ use sc_tree::Declaration;
 use sc_typing::{Formals, Meaning, Signature, declared_type};
 use std::alloc::AllocError;
 
-/// The type, where there is one.
+/// The type, if there is one.
 pub fn known_type(given: Option<Option<EntityType>>) -> Option<EntityType>
     ensures { result ≡ places.known_type given }
 {
@@ -94,7 +94,7 @@ pub fn types_pass(tables: &Tables, formals: Formals, actuals: &[EntityType]) -> 
     }
 }
 
-/// A call of the feature that the signature is of, behind a target of this type.
+/// A call of the feature with this signature after a target of this type.
 fn site_of<'s>(
     tables: &Tables,
     name: &'s str,
@@ -115,7 +115,7 @@ fn site_of<'s>(
 }
 
 impl<'t, 's> Setting<'t, 's> {
-    /// A call of the feature of this name behind a target of this type, if there is such a feature.
+    /// A call of the feature of this name after a target of this type, if there is such a feature.
     fn call_site(
         &self,
         name: &'s str,

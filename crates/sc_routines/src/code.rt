@@ -45,7 +45,7 @@ impl<'s> Code<'s> {
         self.operations.len()
     }
 
-    /// Adds an operation behind the others, which was made of what is at the site.
+    /// Adds an operation at the end, made of the text at the site.
     pub(crate) fn push(
         &mut self,
         site: TextSite,
@@ -57,7 +57,7 @@ impl<'s> Code<'s> {
         Ok(())
     }
 
-    /// Writes an operation in place of the one at the number, which was made of the same.
+    /// Replaces the operation at the number by one made of the same text.
     pub(crate) fn set(&mut self, place: usize, operation: UnlinkedOperation<'s>)
         requires { place < length self.old }
         ensures { self.new ≡ slice_set self.old place (unlinked operation.entry) }

@@ -20,8 +20,8 @@ use sc_typing::Entity;
 use std::alloc::AllocError;
 
 impl<'t, 's> Setting<'t, 's> {
-    /// Adds the code of the condition of an `if`, or of an operand of the `and then`s at its top. The names become those
-    /// that are known where it holds.
+    /// Adds the code of the condition of an `if`, or of an operand of the `and then`s at its top. The names become
+    /// those in scope where it holds.
     #[cycle(expressions)]
     #[tactic(auto, unfolding(sc_tree::specs::View::expr_of))]
     pub fn lower_condition(
@@ -133,7 +133,7 @@ impl<'t, 's> Setting<'t, 's> {
         })
     }
 
-    /// Adds the code of an expression. The names of its object tests are forgotten behind it.
+    /// Adds the code of an expression. The names of its object tests leave scope after it.
     pub fn lower_expr(
         &self,
         names: &mut Vec<Entity<'s>>,

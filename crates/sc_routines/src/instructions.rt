@@ -38,7 +38,7 @@ pub mod jumps;
 pub mod loops;
 pub mod needs;
 
-/// Lowers an instruction. Whatever it makes known is forgotten behind it.
+/// Lowers an instruction. Names that it brings into scope leave it again.
 #[cycle(instructions)]
 #[tactic(auto, unfolding(sc_tree::specs::View::instr_of))]
 fn lower_instruction<'s>(
@@ -112,7 +112,7 @@ pub fn lower_instructions<'s>(
     Ok(needs)
 }
 
-/// Lowers a condition and what stands under it, and notes the place of the jump behind it, which isn't set yet.
+/// Lowers a condition and the instructions under it, and notes the place of the jump after it, which isn't set yet.
 #[cycle(instructions)]
 fn lower_branch<'s>(
     setting: &Setting<'_, 's>,
@@ -156,7 +156,7 @@ fn lower_branch<'s>(
     })
 }
 
-/// Lowers each `elseif` with what stands under it.
+/// Lowers each `elseif` with its instructions.
 #[cycle(instructions)]
 fn lower_branches<'s>(
     setting: &Setting<'_, 's>,

@@ -1,4 +1,4 @@
-//! In which slots names stand, and where an object has to lie that is tested.
+//! The slot of each name, and the handler that a tested object must have.
 
 ghost use Rattle.std.specs.Prelude.{◌≡◌, map, slice_get};
 ghost use Rattle.std.specs.Option.{option_map};

@@ -1,4 +1,4 @@
-//! The code of what has no parts, and what stands behind the operand of an object test.
+//! The code of what has no parts, and what follows the operand of an object test.
 
 ghost use Rattle.std.specs.Prelude.{◌≡◌, ◌+◌, ◌++◌, ◌∷◌, [], IfOk, OnOk, Some, length, map, slice_get};
 ghost use Rattle.std.specs.Option.{option_map};
@@ -33,7 +33,7 @@ use sc_tree::{DeclaredType, Name};
 use sc_typing::{Entity, Meaning};
 use std::alloc::AllocError;
 
-/// What is told of a leaf whose value is of this type, if that is known.
+/// The result of lowering a leaf whose value has this type, if that is known.
 pub fn leaf(value: Option<EntityType>, olds: usize) -> Lowered
     ensures { result ≡ record { value = value; depth = 1; olds = olds; slots = 0 } }
 {
@@ -215,7 +215,7 @@ impl<'t, 's> Setting<'t, 's> {
         }
     }
 
-    /// The type that the feature of this name gives behind a target of this type, where both are known.
+    /// The type of the feature of this name after a target of this type, if both are known.
     pub fn feature_type(&self, name: &str, target: Option<EntityType>) -> Option<EntityType>
         ensures { result ≡ type_behind (system_in self.now.context.tables.now) name.now target }
     {
@@ -225,7 +225,7 @@ impl<'t, 's> Setting<'t, 's> {
         }
     }
 
-    /// What an object test asks for; nothing but an object where no type is named.
+    /// The type that an object test tests for, or any object if no type is named.
     fn tested(&self, names: &[Entity], declared: &Option<DeclaredType>) -> Option<TestedType>
         ensures { option_map tested_of result ≡ emitted.tested (setting_in self.now) (map entity_of names.now) (type_if_any declared.now) }
     {
@@ -249,7 +249,7 @@ impl<'t, 's> Setting<'t, 's> {
         self.context.test_type(declared, tested)
     }
 
-    /// Adds an object test behind its operand, and makes its name known.
+    /// Adds an object test after its operand, and brings its name into scope.
     pub fn close_test(
         &self,
         names: &mut Vec<Entity<'s>>,

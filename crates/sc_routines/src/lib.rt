@@ -1,7 +1,8 @@
 //! The flat code of routines, before names have numbers.
 //!
-//! [`lower_routine`] makes a [`LoweredRoutine`] of a [`RoutineSource`]: its [`Code`], whose operations have names and texts
-//! as they stand in the trees, and what it needs. `sc_lower` links the code of all routines to the tables of a program.
+//! [`lower_routine`] makes a [`LoweredRoutine`] of a [`RoutineSource`]: its [`Code`], whose operations have names
+//! and texts from the trees, and what it needs. `sc_lower` links the code of all routines to the tables of a
+//! program.
 #![tactic(auto)]
 
 mod call_code;

@@ -13,7 +13,7 @@ use std::alloc::{AllocError, Global};
 /// An `old` of a postcondition.
 #[derive(Clone, Copy)]
 pub struct OldValue<'s> {
-    /// Where it stands, from the word `old` on.
+    /// Its place, from the word `old` on.
     pub span: Span,
     /// What it is applied to.
     pub operand: &'s Expr,

@@ -40,7 +40,7 @@ fn unary_type(operator: UnaryOperator) -> EntityType
     }
 }
 
-/// Adds a unary operator behind its operand.
+/// Adds a unary operator after its operand.
 pub fn close_unary(
     code: &mut Code,
     span: Span,
@@ -77,7 +77,7 @@ pub fn binary_type(operator: BinaryOperator) -> EntityType
     }
 }
 
-/// How many operands are needed behind the left one's value.
+/// How many operands are needed after the left one's value.
 pub fn operand_depth(operator: BinaryOperator, right: usize) -> Result<usize, AllocError>
     ensures { IfOk result (λ depth. depth ≡ emitted.operand_depth operator right) }
 {
@@ -88,7 +88,7 @@ pub fn operand_depth(operator: BinaryOperator, right: usize) -> Result<usize, Al
     }
 }
 
-/// Adds what stands between the operands. How much a decision passes isn't known yet.
+/// Adds the operation between the operands. How many operations a decision skips isn't known yet.
 pub fn open_right(code: &mut Code, span: Span, operator: BinaryOperator) -> Result<(), AllocError>
     ensures { OnOk result (code.new ≡ code.old ++ opened operator) }
 {
@@ -101,7 +101,7 @@ pub fn open_right(code: &mut Code, span: Span, operator: BinaryOperator) -> Resu
     code.push(TextSite { span, kind }, operation)
 }
 
-/// Adds what stands behind the operands, of which the right one begins at the place.
+/// Adds the operation after the operands; the right one begins at the place.
 pub fn close_right(
     code: &mut Code,
     span: Span,
@@ -121,7 +121,7 @@ pub fn close_right(
     code.push(site, UnlinkedOperation::ApplyBinary(operator))
 }
 
-/// Forgets the names of the operands, unless what stands behind them is met only where they hold.
+/// Takes the names of the operands out of scope, unless what follows is reached only if they hold.
 fn forget_names(names: &mut Vec<Entity>, count: usize, operator: BinaryOperator)
     ensures both { is_and_then operator ≡ true → names.new.items ≡ names.old.items }
     ensures none { is_and_then operator ≡ false → names.new.items ≡ take count names.old.items }
@@ -142,7 +142,7 @@ pub struct BinaryOperands {
     pub right: Lowered,
 }
 
-/// Adds a binary operator behind its operands. So many names were known before them.
+/// Adds a binary operator after its operands, with this number of names in scope before them.
 pub fn close_binary(
     names: &mut Vec<Entity>,
     count: usize,

@@ -96,7 +96,8 @@ fn setting_of<'t, 's>(
     }
 }
 
-/// Lowers the precondition and the `old`s of the contract of the routine whose name stands there. The types of the `old`s join those of the setting.
+/// Lowers the precondition and the `old`s of the contract of the routine with this name. The types of the `old`s join
+/// those of the setting.
 fn lower_opening<'s>(
     setting: &mut Setting<'_, 's>,
     names: &mut Vec<Entity<'s>>,
@@ -139,7 +140,7 @@ pub fn lower_routine<'s>(
     lower_source(alloc, tables, &purity, source)
 }
 
-/// The same, with a test of functions that nothing asks.
+/// Lowers a routine's text with a test of pure functions that is never used.
 fn lower_source<'t, 's>(
     alloc: Global,
     tables: &'t Tables<'s>,

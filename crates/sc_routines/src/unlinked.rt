@@ -1,4 +1,4 @@
-//! Operations as they are lowered from the trees: what they name stands in them, and no table yet.
+//! Operations as they are lowered from the trees: they contain what they name, and no table has it yet.
 
 use sc_code::{DefaultValue, TestedType};
 use sc_model::Cause;
@@ -11,7 +11,7 @@ pub struct UnlinkedCall<'s> {
     pub name: &'s str,
     /// How many actuals it has.
     pub count: usize,
-    /// Whether the value that it gives is of an attached type; None where it gives none.
+    /// Whether its value has an attached type; None if it has no value.
     pub gives: Option<bool>,
     /// Whether the target's type says that it is of the current handler.
     pub is_own: bool,

@@ -28,8 +28,8 @@ pub data ActualAt (e : Expr) : Exprs → ℕ → Type 0 where
   actual_here : {es : Exprs} → ActualAt e (expr_then e es) zero
   actual_later : {d : Expr} {es : Exprs} {i : ℕ} → ActualAt e es i → ActualAt e (expr_then d es) (suc i)
 
--- What is known of the actuals tells the handler that a formal of this type names, if it names one; where the actual of
--- the formal that it names is missing, it tells that nothing is known.
+-- The handler that a formal of this type names, as far as the actuals determine it; if the actual of the formal that
+-- it names is missing, it isn't known.
 pub data IsKnown (h : RoutineContext) (c : Context) (n : Entities) (es : Exprs) (f : EntityType)
     (ks : List Known) : Type 0 where
   names_none : named_formal f.tag ≡ None → IsKnown h c n es f ks
@@ -39,7 +39,7 @@ pub data IsKnown (h : RoutineContext) (c : Context) (n : Entities) (es : Exprs) 
   names_missing : {y : ℕ} → named_formal f.tag ≡ Some y → ((e : Expr) → ActualAt e es y → ⊥) → slice_get ks y ≡ None →
       IsKnown h c n es f ks
 
--- An actual of this type can't be passed to the formal, behind a target of that type.
+-- An actual of this type can't be passed to the formal, after a target of that type.
 pub data Untaken (h : RoutineContext) (c : Context) (n : Entities) (es : Exprs) (t : EntityType) : FormalType →
     EntityType → Type 0 where
   differs : {f a : EntityType} {ks : List Known} → IsKnown h c n es f ks →
@@ -47,8 +47,8 @@ pub data Untaken (h : RoutineContext) (c : Context) (n : Entities) (es : Exprs) 
       Untaken h c n es t (of_type f) a
   reference : {a : EntityType} → is_expanded a.class ≡ false → Untaken h c n es t of_expanded a
 
--- At this place stands an actual that can't be passed to its formal. `all` are the actuals of the call, of which these
--- are the last.
+-- The actual at this place can't be passed to its formal. `all` are the actuals of the call, and these are the last
+-- ones.
 pub data Mismatches (h : RoutineContext) (c : Context) (n : Entities) (all : Exprs)
     (t : EntityType) : List FormalType → Exprs → Span → Type 0 where
   first_pair : {f : FormalType} {fs : List FormalType} {e : Expr} {es : Exprs} {a : EntityType} {b : Bool} →
@@ -58,7 +58,7 @@ pub data Mismatches (h : RoutineContext) (c : Context) (n : Entities) (all : Exp
       Mismatches h c n all t fs es p →
       Mismatches h c n all t (f ∷ fs) (expr_then e es) p
 
--- At the name of a feature with this meaning, called with so many actuals.
+-- At the name of a feature with this meaning, called with this number of actuals.
 pub data AtName (h : RoutineContext) (c : Context) (a : Target) : Use → Meaning → ℕ → Rule → Type 0 where
   unknown_name : {u : Use} {k : ℕ} → AtName h c a u unknown k UnknownName
   wrong_count : {u : Use} {g : Signature} {k : ℕ} → (k ≡ length g.formals → ⊥) → AtName h c a u (named g) k WrongArity

@@ -7,7 +7,7 @@ use Rattle.sc_class.specs.Tables.Declared.{declared_feature_names_at}
 use Rattle.sc_class.specs.Tables.Features.{DeclaredFeature, declared_in}
 use Rattle.sc_rules.specs.Names.{RoutineName}
 
--- the features that these classes declare, of which the first is at the number
+-- the features that these classes declare; the first is at the number
 abbrev pub features_from : ℕ → List Class → List DeclaredFeature
 features_from k [] = []
 features_from k (c ∷ cs) = map (declared_in k) c.features ++ features_from (suc k) cs

@@ -45,7 +45,7 @@ CreationsStand = WhereWellFormed λ s pure. (h : RoutineContext) (n : Entities) 
     (t : EntityType) × IsOfType t (assignee h n creation.variable) × (is_tagged t.tag ≡ false) ×
     MayBeCreated h t creation.call
 
--- the site is judged by this condition, which stands so in it
+-- the site is judged by this condition, in this position
 pub data IsCondition : Site → Context → Position → Entities → Expr → Type 0 where
   of_if : {n : Entities} {s : Span} {choice : Conditional} →
       IsCondition (instruction n (if_instr s choice)) context.Body Condition n choice.condition

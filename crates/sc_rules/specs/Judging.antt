@@ -1,6 +1,6 @@
--- Judging an expression, as a function: what is found of it, or the first rule that fails in it, in the order of the
--- walk. The contract of the check says by these functions which fault is answered where several rules fail; what the
--- rules mean stands in `TextRules` and `SystemRules`, which a proof compares with these.
+-- Judging an expression, as a function: its type, or the first rule that fails in it, in the order of the walk. The
+-- contract of the check says by these functions which fault is answered if several rules fail; what the rules mean
+-- is in `TextRules` and `SystemRules`, which a proof compares with these.
 use Rattle.std.specs.Prelude.{ℕ, Bool, true, false, not, ◌&&◌, ◌||◌, ◌==◌, if◌then◌else◌, List, [], ◌∷◌, ◌++◌, length, map, Option, Some, None, is_some, Result, Ok, Err}
 use Rattle.std.specs.List.{list_any}
 use Rattle.sc_text.specs.declared.token.Span.{Span}
@@ -67,7 +67,7 @@ judge_target p (Some t) = do
   _ ← required t.attached TargetDetachable p
   required (is_controlled_tag t.tag) TargetUncontrolled p
 
--- an actual: where it stands, and what judging it finds
+-- an actual: its place, and the result of judging it
 abbrev pub JudgedActual : Type 0
 JudgedActual = Span × Judged Typing
 
@@ -119,7 +119,7 @@ judge_use Value (Some t) p = Ok t
 judge_use Instruction None p = Ok None
 judge_use Instruction (Some t) p = Err (fault ResultType p)
 
--- what is judged at the name, with so many actuals
+-- what is judged at the name, with this number of actuals
 abbrev pub judge_name : RoutineContext → Context → Use → Target → Meaning → ℕ → Span → Judged (Option EntityType)
 judge_name h c u a unknown k p = Err (fault UnknownName p)
 judge_name h c u a target_untyped k p = Ok None
@@ -130,7 +130,7 @@ judge_name h c u a (named g) k p = do
   _ ← required (is_exported_to a g) NotExported p
   Ok t
 
--- the actuals, then the name, where it stands for this
+-- the actuals, then the name, if it means this
 abbrev pub judge_actuals_and_name : RoutineContext → Context → Use → Target → Meaning → Span → List JudgedActual →
     Typing → Judged Typing
 judge_actuals_and_name h c u a m p rs r = do
@@ -138,7 +138,7 @@ judge_actuals_and_name h c u a m p rs r = do
   t ← judge_name h c u a m (length ts) p
   Ok (typing t (r.is_separate || list_any (λ (b : Typing). b.is_separate) ts))
 
--- what is judged of a call behind its target, of which this was found
+-- what is judged of a call after its target, with this result for the target
 abbrev pub judge_called : RoutineContext → Context → Entities → Use → Target → Name → List JudgedActual → Typing →
     Judged Typing
 judge_called h c n u a x rs r = judge_actuals_and_name h c u a (meaning_of h n a r.type x) x.span rs r

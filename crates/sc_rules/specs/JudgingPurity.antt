@@ -1,5 +1,5 @@
--- What a routine's body does that bears on purity, as a list, by one walk over it. What purity is stands in `Purity`,
--- which a proof compares with these lists.
+-- The effects in a routine's body that bear on purity, as a list, by one walk over it. The definition of purity is
+-- `Purity`, which a proof compares with these lists.
 use Rattle.std.specs.Prelude.{◌≡◌, ℕ, Bool, true, false, not, ◌||◌, if◌then◌else◌, List, [], ◌∷◌, ◌++◌, Option, Some, None, is_some}
 use Rattle.std.specs.List.{flat_map, list_any}
 use Rattle.sc_tree.specs.Plain as plain
@@ -63,7 +63,7 @@ given_anyway h c n (ObjectTest p d a x) =
 given_anyway h c n (Binary p op a b) = if is_and_then op then given_anyway h c (given_anyway h c n a) b else n
 given_anyway h c n _ = n
 
--- the entities that are known in the body of a block with these heads, of which those before are known in m
+-- the entities that are in scope in the body of a block with these heads, with those before in scope in m
 abbrev pub reserved_anyway : RoutineContext → Entities → Entities → List Head → Entities
 reserved_anyway h n m [] = m
 reserved_anyway h n m (d ∷ ds) =
@@ -184,7 +184,7 @@ pub record HasEffectWithin (h : RoutineContext) (a : Site) (d : Effect) : Type 0
   pub does : HasEffect h site d
 
 -- The first may run the second, as the list of the first one's effects or the declarations of their classes say: the
--- second is called, or is of the same name and declared in an heir.
+-- second is called, or has the name of one that is and is declared in an heir.
 pub data RunsInto (s : System) (f g : RoutineName) : Type 0 where
   called : Lists (routine_call g) (effects_of_routine s f) → RunsInto s f g
   redeclared : is_ancestor s g.class f.class ≡ true → f.name ≡ g.name → is_some (routine_named s f) ≡ true →

@@ -40,7 +40,7 @@ judge_feature s pure k (Routine routine) = do
   _ ← judge_instrs (context_of s pure k routine) (known_in_body s routine) routine.body
   judge_clauses s pure k routine context.Ensure routine.postcondition
 
--- the rules that stand behind the one on the form of an invariant's clause, where several fail at one place
+-- the rules that come after the one on the form of an invariant's clause, if several fail at one place
 abbrev pub is_late : Rule → Bool
 is_late rule.ImpureContract = true
 is_late rule.PreconditionArgument = true
@@ -80,7 +80,7 @@ judge_class s pure k c = do
   _ ← judge_each (λ (f : Feature). judge_feature s pure k f.kind) c.features
   judge_each (judge_invariant s pure k) c.invariant
 
--- these classes, of which the first is at the number
+-- these classes; the first is at the number
 abbrev pub judge_classes : System → (RoutineName → Bool) → ℕ → List Class → Judged (Unit {0})
 judge_classes s pure k [] = Ok tt
 judge_classes s pure k (c ∷ cs) = do

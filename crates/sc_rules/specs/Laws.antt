@@ -65,7 +65,7 @@ are_typed n = list_all (λ (e : Entity). is_some e.type) n
 abbrev pub HasResult : RoutineContext → Type 0
 HasResult h = (t : Option EntityType) → h.result ≡ Some t → is_some t ≡ true
 
--- Where nothing is wrong with the declarations, what is found of an expression is a type.
+-- If nothing is wrong with the declarations, the result of judging an expression is a type.
 abbrev pub EveryTyped : Type 0
 EveryTyped =
     (h : RoutineContext) (c : Context) (k : Position) (n : Entities) (e : Expr) (t : Typing) → AllDeclared h.system →

@@ -1,4 +1,4 @@
--- What names stand for (ECMA-367, 8.5, 8.8, 8.19 and 8.23).
+-- The meanings of names (ECMA-367, 8.5, 8.8, 8.19 and 8.23).
 use Rattle.std.specs.Prelude.{◌+◌, ℕ, Bool, true, false, ◌&&◌, if◌then◌else◌, List, [], ◌∷◌, ◌++◌, Option, Some, None, bytes_eq, find, map}
 use Rattle.std.specs.Option.{option_map}
 use Rattle.sc_text.specs.declared.token.Span.{Span}
@@ -21,8 +21,8 @@ pub record RoutineName : Type 0 where
   pub class : ℕ
   pub name : List ℕ
 
--- The routine, or the invariant, whose text is judged: the class that it stands in, its formals, what it gives as
--- Result if it is a function, and which functions are pure.
+-- The routine, or the invariant, whose text is judged: its class, its formals, the type of its Result if it is a
+-- function, and which functions are pure.
 pub record RoutineContext : Type 0 where
   pub system : System
   pub class : ℕ
@@ -62,7 +62,7 @@ reserved i t =
       class = t.class;
     }
 
--- these formals, of which the first has this number in the whole list
+-- these formals; the first has this number in the whole list
 abbrev pub formal_entities : System → List Declaration → ℕ → List Declaration → Entities
 formal_entities s all i [] = []
 formal_entities s all i (d ∷ ds) =
@@ -134,7 +134,7 @@ pub record Signature : Type 0 where
   pub routine : Option RoutineName
   pub is_secret : Bool
 
--- What a name stands for: nothing, nothing that is known since its target has no type, or something.
+-- The meaning of a name: nothing, nothing that is known since its target has no type, or something.
 pub data Meaning : Type 0 where
   unknown : Meaning
   target_untyped : Meaning
@@ -175,7 +175,7 @@ signature_of_kind s t f (Routine routine) =
       is_secret = is_hidden f.feature.exports;
     }
 
--- a feature behind a target of this type
+-- a feature after a target of this type
 abbrev pub signature_of : System → EntityType → DeclaredFeature → Signature
 signature_of s t f = signature_of_kind s t f f.feature.kind
 
@@ -201,15 +201,15 @@ abbrev pub entity_or : RoutineContext → List ℕ → Option Entity → Meaning
 entity_or h x (Some e) = named (entity_signature h e)
 entity_or h x None = feature_meaning h x
 
--- what a name stands for without a target
+-- the meaning of a name without a target
 abbrev pub unqualified_meaning : RoutineContext → Entities → List ℕ → Meaning
 unqualified_meaning h n x = entity_or h x (entity_named x n)
 
--- what it stands for behind a target of this type
+-- its meaning after a target of this type
 abbrev pub qualified_meaning : RoutineContext → EntityType → List ℕ → Meaning
 qualified_meaning h t x = meaning_of_feature h.system t (feature_named h.system t.class x)
 
--- what a name stands for in a call, whose target has this type, if it has one
+-- the meaning of a name in a call, after a target of this type, if it has one
 abbrev pub meaning_of : RoutineContext → Entities → Target → Option EntityType → Name → Meaning
 meaning_of h n no_target t x = unqualified_meaning h n x.text
 meaning_of h n (target a) (Some t) x = qualified_meaning h t x.text
@@ -221,7 +221,7 @@ is_qualified (target a) = true
 
 -- ---- what is assigned or created
 
--- What a name on the left side stands for: nothing, something that can't be assigned, a local or Result, or an
+-- The meaning of a name on the left side: nothing, something that can't be assigned, a local or Result, or an
 -- attribute, of this type.
 pub data Assignee : Type 0 where
   unknown_assignee : Assignee
@@ -260,7 +260,7 @@ assignee_type unassignable = None
 assignee_type (to_local t) = t
 assignee_type (to_attribute t) = t
 
--- where the left side stands
+-- the place of the left side
 abbrev pub variable_span : Variable → Span
 variable_span (Named x) = x.span
 variable_span (ResultVariable s) = s

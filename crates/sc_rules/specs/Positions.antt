@@ -1,4 +1,4 @@
--- Where an expression stands, and where its parts do.
+-- The position of an expression, and those of its parts.
 use Rattle.std.specs.Prelude.{Bool, true, false}
 use Rattle.sc_tree.specs.declared.expression.UnaryOperator.{UnaryOperator}
 use Rattle.sc_tree.specs.declared.expression.UnaryOperator.TheVariants as unary
@@ -38,19 +38,20 @@ abbrev pub is_ensure : Context → Bool
 is_ensure context.Ensure = true
 is_ensure _ = false
 
--- where the operand of `old` stands: in a precondition it stays in that, whose rule on separate calls has no exception
+-- the context of the operand of `old`: in a precondition it stays that, whose rule on separate calls has no
+-- exception
 abbrev pub below_old : Context → Context
 below_old context.Require = context.Require
 below_old _ = context.Old
 
--- where the operand of a unary operator stands
+-- the context of the operand of a unary operator
 abbrev pub operand_context : UnaryOperator → Context → Context
 operand_context unary.Old c = below_old c
 operand_context unary.Not c = c
 operand_context unary.Plus c = c
 operand_context unary.Minus c = c
 
--- where the operands of a binary operator stand
+-- the position of the operands of a binary operator
 abbrev pub operand_position : BinaryOperator → Position
 operand_position binary.Equal = position.Source
 operand_position binary.NotEqual = position.Source

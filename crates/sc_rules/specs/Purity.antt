@@ -37,7 +37,7 @@ is_pure_candidate_if_any None = false
 is_pure_candidate_if_any (Some g) = is_pure_candidate g.feature.kind
 
 -- The routine's body, and what it is judged by; its calls are looked at whatever they call, pure or not, and also
--- behind a mistake, as far as they have a type.
+-- after a mistake, as far as they have a type.
 pub data IsBody (s : System) (f : RoutineName) : RoutineContext → Site → Type 0 where
   body : {g : DeclaredFeature} {routine : RoutineDeclaration} → routine_named s f ≡ Some g →
       g.feature.kind ≡ Routine routine →
@@ -81,14 +81,14 @@ pub data PartAnyway (h : RoutineContext) : Site → Site → Type 0 where
   block_part : {n m : Entities} {s : Span} {block : SeparateBlock} → ReservesAnyway h n n block.heads m →
       PartAnyway h (instruction n (block_instr s block)) (instructions m block.body)
 
--- The second stands in the first, whatever rule fails before it.
+-- The second is in the first, whatever rule fails before it.
 pub data WithinAnyway (h : RoutineContext) : Site → Site → Type 0 where
   itself : {a : Site} → WithinAnyway h a a
   inside : {a b c : Site} → PartAnyway h a b → WithinAnyway h b c → WithinAnyway h a c
 
 -- ---- what a routine does
 
--- A call stands there, of this name on this target.
+-- It is a call of this name on this target.
 pub data IsCall : Site → Context → Entities → Target → Name → Type 0 where
   as_value : {c : Context} {k : Position} {n : Entities} {s : Span} {t : Target} {x : Name} {es : Exprs} →
       IsCall (expression c k n (Call s t x es)) c n t x
@@ -100,7 +100,7 @@ pub data Calls (h : RoutineContext) (a : Site) (g : Signature) : Type 0 where
   calls : {c : Context} {n : Entities} {t : Target} {x : Name} {r : Typing} → IsCall a c n t x → HasReceiver h c n t r →
       meaning_of h n t r.type x ≡ named g → Calls h a g
 
--- There stands what no pure function does: it assigns an attribute, makes an object, prints, opens a separate block,
+-- It does what no pure function does: it assigns an attribute, makes an object, prints, opens a separate block,
 -- calls a procedure, or makes a separate call.
 pub data HasSideEffect (h : RoutineContext) : Site → Type 0 where
   assigns : {n : Entities} {s : Span} {v : Variable} {e : Expr} {t : Option EntityType} →
@@ -134,15 +134,15 @@ abbrev pub IsClosed : System → (RoutineName → Bool) → Type 0
 IsClosed s set = (f : RoutineName) → set f ≡ true → (ImpureItself s f → ⊥) ×
     ((g : RoutineName) → MayRun s f g → set g ≡ true)
 
--- A function is pure where it is in some closed set, so in the largest.
+-- A function is pure if it is in some closed set, so in the largest.
 abbrev pub Pure : System → RoutineName → Type 0
 Pure s f = (set : RoutineName → Bool) × IsClosed s set × (set f ≡ true)
 
--- It isn't where it is impure itself, or may run one that isn't pure.
+-- It isn't pure if it has a side effect itself, or may run one that isn't pure.
 pub data Impure (s : System) : RoutineName → Type 0 where
   by_itself : {f : RoutineName} → ImpureItself s f → Impure s f
   through : {f g : RoutineName} → MayRun s f g → Impure s g → Impure s f
 
--- the test tells the pure functions from all others
+-- the test separates the pure functions from all others
 abbrev pub IsPurity : System → (RoutineName → Bool) → Type 0
 IsPurity s pure = (f : RoutineName) → (pure f ≡ true → Pure s f) × (pure f ≡ false → Impure s f)

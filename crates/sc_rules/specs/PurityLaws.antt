@@ -12,7 +12,7 @@ use Rattle.sc_rules.specs.Purity.{routine_named, Calls, HasSideEffect, IsClosed,
 abbrev pub NeverBoth : Type 0
 NeverBoth = (s : System) (f : RoutineName) → Pure s f → Impure s f → ⊥
 
--- One test alone tells the pure functions from all others.
+-- There is only one test that separates the pure functions from all others.
 abbrev pub OnePurity : Type 0
 OnePurity = (s : System) (p q : RoutineName → Bool) → IsPurity s p → IsPurity s q → p ≡ q
 
@@ -34,7 +34,7 @@ VersionsStayPure = (s : System) (pure : RoutineName → Bool) → IsClosed s pur
 
 -- ---- bodies
 
--- The site stands in the body of the routine, and is judged by this.
+-- The site is in the body of the routine, and is judged by this.
 pub data StandsInBody (s : System) (pure : RoutineName → Bool) (f : RoutineName) : RoutineContext → Site → Type 0 where
   in_body : {d : DeclaredFeature} {routine : RoutineDeclaration} {b : Site} → routine_named s f ≡ Some d →
       d.feature.kind ≡ Routine routine →

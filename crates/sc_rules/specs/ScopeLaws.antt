@@ -1,4 +1,4 @@
--- Laws of formals and names of separate blocks: where they are known, by which number, and which tags name them.
+-- Laws of formals and names of separate blocks: where they are in scope, by which number, and which tags name them.
 use Rattle.std.specs.Prelude.{◌≡◌, ℕ, Bool, true, false, List, Option, Some, None, nat_lt, slice_get}
 use Rattle.std.specs.Option.{option_map}
 use Rattle.sc_tree.specs.Plain.{System, Declaration, Expr}
@@ -44,8 +44,8 @@ abbrev pub is_nameable_if_any : Option Declaration → Bool
 is_nameable_if_any None = false
 is_nameable_if_any (Some d) = is_nameable d
 
--- What the tag names, if it names anything, is an attached separate formal among these, or one of so many names of
--- separate blocks.
+-- The tag names nothing, or an attached separate formal among these, or one of this number of names of separate
+-- blocks.
 abbrev pub names_known : List Declaration → ℕ → Tag → Bool
 names_known formals j (tag.With (Formal i)) = is_nameable_if_any (slice_get formals i)
 names_known formals j (tag.With (BlockName i)) = nat_lt i j
@@ -53,13 +53,12 @@ names_known formals j tag.Own = true
 names_known formals j tag.Any = true
 names_known formals j tag.None = true
 
--- the law of each site that stands in a system, well formed or not
+-- the law of each site of a system, well formed or not
 abbrev pub WhereverItStands : (RoutineContext → Site → Type 0) → Type 0
 WhereverItStands law =
     (s : System) (pure : RoutineName → Bool) (h : RoutineContext) (b : Site) → Stands s pure h b → law h b
 
--- The tag of an expression names a formal that is reserved, or a name of a separate block that is known where it
--- stands.
+-- The tag of an expression names a formal that is reserved, or a name of a separate block that is in scope at it.
 abbrev pub TagsNameKnown : Type 0
 TagsNameKnown = WhereverItStands λ h b. (c : Context) (k : Position) (n : Entities) (e : Expr) (t : EntityType)
     (is_separate : Bool) → b ≡ expression c k n e → HasType h c k n e (typing (Some t) is_separate) →

@@ -1,4 +1,4 @@
--- What stands where in a routine's text, and which names are known there (ECMA-367, 8.17 and 8.24).
+-- The parts of a routine's text, and which names are in scope in each (ECMA-367, 8.17 and 8.24).
 use Rattle.std.specs.Prelude.{◌≡◌, true, false, List, [], ◌∷◌, ◌++◌, Option, Some, Contains}
 use Rattle.sc_text.specs.declared.token.Span.{Span}
 use Rattle.sc_tree.specs.declared.expression.UnaryOperator.{UnaryOperator}
@@ -98,7 +98,7 @@ pub data Part (h : RoutineContext) : Site → Site → Type 0 where
   later_branches_part : {n : Entities} {e : Expr} {body : Instrs} {bs : Branches} →
       Part h (branches n (branch_then e body bs)) (branches n bs)
 
--- The second stands in the first: it is the first itself, or stands in a part of it.
+-- The second is the first itself, or is in a part of it.
 pub data Within (h : RoutineContext) : Site → Site → Type 0 where
   itself : {a : Site} → Within h a a
   inside : {a b c : Site} → Part h a b → Within h b c → Within h a c

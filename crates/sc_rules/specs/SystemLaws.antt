@@ -1,4 +1,4 @@
--- Laws of well-formed systems, on which proofs about their runs stand.
+-- Laws of well-formed systems, on which proofs about their runs rest.
 use Rattle.std.specs.Prelude.{◌≡◌, ℕ, Bool, true, false, List, [], length, Some, is_some, Contains, slice_get}
 use Rattle.sc_text.specs.declared.token.Span.{Span}
 use Rattle.sc_tree.specs.Plain.{System, Class, Feature, RoutineDeclaration, Routine, Clause, Name, Variable, CreationCall, Creation, Expr, Call, Target, target, Exprs, Assign, CallRoutine, Create}
@@ -38,11 +38,11 @@ pub data IsText (s : System) (pure : RoutineName → Bool) : RoutineContext → 
   invariant : {k : ℕ} {c : Class} {q : Clause} → slice_get s.classes k ≡ Some c → Contains c.invariant q →
       IsText s pure (invariant_context s pure k) (expression context.Invariant Plain [] q.condition)
 
--- The site stands in the text of the system.
+-- The site is in the text of the system.
 pub data Stands (s : System) (pure : RoutineName → Bool) (h : RoutineContext) (b : Site) : Type 0 where
   stands_in : {a : Site} → IsText s pure h a → Within h a b → Stands s pure h b
 
--- the law of each well-formed system, with the test that tells its pure functions
+-- the law of each well-formed system, with the test that separates its pure functions
 abbrev pub WhereWellFormed : (System → (RoutineName → Bool) → Type 0) → Type 0
 WhereWellFormed law = (s : System) (pure : RoutineName → Bool) → WellFormed s → IsPurity s pure → law s pure
 
@@ -58,7 +58,7 @@ TargetsAreControlled = WhereWellFormed λ s pure. (h : RoutineContext) (b : Site
     (a : Expr) (x : Name) → Stands s pure h b → IsCall b c n (target a) x →
     (t : EntityType) (is_separate : Bool) → HasType h c Plain n a (typing (Some t) is_separate) → is_controlled t ≡ true
 
--- A call stands there, used so, of this name on this target with these actuals.
+-- It is a call, used so, of this name on this target with these actuals.
 pub data CallsWith : Site → Use → Context → Entities → Target → Name → Exprs → Type 0 where
   as_value : {c : Context} {k : Position} {n : Entities} {s : Span} {a : Target} {x : Name} {es : Exprs} →
       CallsWith (expression c k n (Call s a x es)) Value c n a x es
@@ -69,8 +69,8 @@ abbrev pub is_value_use : Use → Bool
 is_value_use Value = true
 is_value_use Instruction = false
 
--- The feature may be called there: with so many actuals, as what it is, where its target may, and as a pure function
--- where one is asked for.
+-- The feature may be called there: with this number of actuals, as what it is, on such a target, and as a pure
+-- function if one is asked for.
 pub record MayBeCalled (h : RoutineContext) (c : Context) (u : Use) (a : Target) (es : Exprs)
     (g : Signature) : Type 0 where
   pub as_many_actuals : count es ≡ length g.formals
@@ -78,7 +78,7 @@ pub record MayBeCalled (h : RoutineContext) (c : Context) (u : Use) (a : Target)
   pub is_exported : is_exported_to a g ≡ true
   pub pure_where_asked : may_call h c g.routine ≡ true
 
--- Each call has a target, and its name stands for a feature that may be called there.
+-- Each call has a target, and its name is that of a feature that may be called there.
 abbrev pub CallsStand : Type 0
 CallsStand = WhereWellFormed λ s pure. (h : RoutineContext) (b : Site) (u : Use) (c : Context) (n : Entities)
     (a : Target) (x : Name) (es : Exprs) → Stands s pure h b →

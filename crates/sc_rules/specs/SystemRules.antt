@@ -79,8 +79,8 @@ is_reference_attribute untyped s k (Call p no_target x no_exprs) =
 is_reference_attribute untyped s k _ = false
 
 -- Integer and truth values, attributes of INTEGER and BOOLEAN of the class at the number, the operators other than
--- `old`, and the comparison of an attribute of references with Void. The truth value says whether an attribute without
--- a type may stand in it.
+-- `old`, and the comparison of an attribute of references with Void. The truth value says whether an attribute
+-- without a type is allowed.
 unfoldable pub is_formula_where : Bool → System → ℕ → Expr → Bool
 is_formula_where untyped s k (Integer p v) = true
 is_formula_where untyped s k (Boolean p v) = true
@@ -98,12 +98,12 @@ is_formula s k e = is_formula_where false s k e
 abbrev pub may_be_formula : System → ℕ → Expr → Bool
 may_be_formula s k e = is_formula_where true s k e
 
--- where a clause stands: from its tag, if it has one, to the end of its condition
+-- the place of a clause: from its tag, if it has one, to the end of its condition
 abbrev pub clause_span : Option Name → Expr → Span
 clause_span None e = span_of e
 clause_span (Some t) e = record { start = t.span.start; end = (span_of e).end }
 
--- In a clause of the invariant of the class at the number: as in any other, or where it is no formula, whatever the
+-- In a clause of the invariant of the class at the number: as in any other, or if it is no formula, whatever the
 -- types are that faulty declarations don't give.
 pub data InvariantFails (s : System) (pure : RoutineName → Bool) (k : ℕ) (c : Clause) : Rule → Span → Type 0 where
   in_invariant_clause : {r : Rule} {p : Span} → ClauseFails (invariant_context s pure k) context.Invariant [] c r p →
@@ -134,7 +134,7 @@ pub data ClassFails (s : System) (pure : RoutineName → Bool) (k : ℕ) (c : Cl
   in_invariant : {r : Rule} {p : Span} → Any (λ i. InvariantFails s pure k i r p) c.invariant →
       ClassFails s pure k c r p
 
--- The rule fails at the place, where the test tells which functions are pure.
+-- The rule fails at the place, with the test of which functions are pure.
 pub data SystemFails (s : System) (r : Rule) (p : Span) : Type 0 where
   in_class : {pure : RoutineName → Bool} {k : ℕ} {c : Class} → IsPurity s pure → slice_get s.classes k ≡ Some c →
       ClassFails s pure k c r p → SystemFails s r p

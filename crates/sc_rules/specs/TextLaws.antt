@@ -50,7 +50,7 @@ InvariantsAreFormulas = WhereWellFormed λ s pure. (k : ℕ) (c : Class) (q : Cl
     Contains c.invariant q →
     is_formula s k q.condition ≡ true
 
--- Each condition gives names, which are known where it holds.
+-- Each condition binds its names, and they are in scope wherever it holds.
 abbrev pub ConditionsGive : Type 0
 ConditionsGive = WhereWellFormed λ s pure. (h : RoutineContext) (c : Context) (n : Entities) (e : Expr) →
     Stands s pure h (expression c Condition n e) →

@@ -29,7 +29,7 @@ use Rattle.sc_rules.specs.CallRules.{count, Mismatches, AtName, CallFails}
 
 -- ---- expressions
 
--- At an expression. What judges types judges where there are any.
+-- At an expression. Types are judged if there are any.
 pub data ExpressionFails (h : RoutineContext) : Context → Position → Entities → Expr → Rule → Span → Type 0 where
   void_use : {c : Context} {k : Position} {n : Entities} {s : Span} → takes_void k ≡ false →
       ExpressionFails h c k n (Void s) VoidUse s
@@ -66,7 +66,7 @@ pub data ExpressionFails (h : RoutineContext) : Context → Position → Entitie
 
 -- ---- what is assigned or created
 
--- The left side, or the entity of a `create`, stands for nothing, or is no attribute, no local and no Result of a
+-- The left side, or the entity of a `create`, means nothing, or is no attribute, no local and no Result of a
 -- function.
 pub data VariableFails (h : RoutineContext) (n : Entities) : Variable → Rule → Span → Type 0 where
   no_entity : {x : Name} → assignee h n (Named x) ≡ unknown_assignee → VariableFails h n (Named x) UnknownName x.span
@@ -100,7 +100,7 @@ is_made_by s class.Integer x = false
 is_made_by s class.Boolean x = false
 
 -- In the creation of an object for an entity of this type. A creation that is separate makes an object of a new
--- handler, of which nothing is known: its target has the tag `any`, as the entity has.
+-- handler, which isn't known: its target has the tag `any`, as the entity has.
 pub data CreationFails (h : RoutineContext) (n : Entities) (v : Variable) (t : EntityType) : Option CreationCall →
     Rule → Span → Type 0 where
   tagged : {k : Option CreationCall} → is_tagged t.tag ≡ true → CreationFails h n v t k CreationTag (variable_span v)
@@ -169,7 +169,7 @@ pub data FailsAt (h : RoutineContext) : Site → Rule → Span → Type 0 where
       NoCondition h context.Body Condition n e r p →
       FailsAt h (branches n (branch_then e body bs)) r p
 
--- At this site or at one that stands in it.
+-- At this site or at one inside it.
 pub data Fails (h : RoutineContext) (a : Site) (r : Rule) (p : Span) : Type 0 where
   fails : {b : Site} → Within h a b → FailsAt h b r p → Fails h a r p
 

@@ -157,7 +157,7 @@ binary_type binary.OrElse = logic
 binary_type binary.Xor = logic
 binary_type binary.Implies = logic
 
--- The same over what may have no type: then the result has none, and nothing is wrong with the operator.
+-- The result for operands that may have no type: then it has none, and nothing is wrong with the operator.
 abbrev pub unary_result : UnaryOperator → Option EntityType → Option (Option EntityType)
 unary_result op None = Some None
 unary_result op (Some a) = option_map (λ t. Some t) (unary_type op a)

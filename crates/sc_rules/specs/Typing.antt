@@ -25,8 +25,8 @@ use Rattle.sc_rules.specs.Types.{declared_type, is_controlled, is_foreign, unary
 use Rattle.sc_rules.specs.Positions.{is_old, is_and_then, is_require, is_ensure, wants_pure, takes_void, operand_context, operand_position, shares_names, may_give}
 use Rattle.sc_rules.specs.Names.{RoutineName, RoutineContext, Entities, entity, test_type, FormalType, of_type, of_none, of_expanded, Signature, named, current, meaning_of, is_qualified}
 
--- What is found of an expression in which no rule fails: its type, or none where a declaration that it stands on is
--- faulty; and whether a separate call is made in it.
+-- The result of judging an expression in which no rule fails: its type, or none if a declaration that it depends on
+-- is faulty; and whether it makes a separate call.
 pub record Typing : Type 0 where
   pub type : Option EntityType
   pub is_separate : Bool
@@ -129,7 +129,7 @@ abbrev pub is_testable : RoutineContext → Option DeclaredType → Bool
 is_testable h None = true
 is_testable h (Some d) = is_some (declared_type h.system h.formals d)
 
--- `old` stands in a postcondition, and makes no separate call.
+-- `old` is in a postcondition, and makes no separate call.
 abbrev pub old_stands : Context → UnaryOperator → Typing → Bool
 old_stands c op t = not (is_old op) || (is_ensure c && not t.is_separate)
 

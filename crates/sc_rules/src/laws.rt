@@ -16,7 +16,7 @@ pub fn type_or_fault()
     ensures { TypeOrFault }
 {}
 
-/// Where nothing is wrong with the declarations, what is found of an expression in which no rule fails is a type.
+/// If the declarations are right, an expression in which no rule fails has a type.
 pub fn every_expression_is_typed()
     ensures { EveryTyped }
 {}
@@ -26,7 +26,7 @@ pub fn well_formed_declares()
     ensures { DeclaredIfWellFormed }
 {}
 
-/// Where nothing is wrong with a routine's declarations, its names have types.
+/// If a routine's declarations are right, its names have types.
 pub fn names_are_typed()
     ensures { NamesTyped }
 {}

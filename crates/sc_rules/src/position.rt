@@ -1,6 +1,6 @@
-//! Where an expression stands, and what a name stands for.
+//! The position of an expression, and the meaning of a name.
 
-/// The part of a class's text in which an expression stands.
+/// The part of a class's text that an expression belongs to.
 #[derive(Clone, Copy)]
 pub enum Context {
     /// A routine's body.
@@ -13,7 +13,7 @@ pub enum Context {
     Check,
     /// A clause of a class's invariant.
     Invariant,
-    /// The operand of an `old` that stands in no precondition.
+    /// The operand of an `old` outside preconditions.
     Old,
 }
 
@@ -22,10 +22,10 @@ pub enum Context {
 pub enum Position {
     /// Nothing special: neither of the others.
     Plain,
-    /// The condition of an `if` or `elseif`, or an operand of the `and then`s at its top: an object test may stand
-    /// there.
+    /// The condition of an `if` or `elseif`, or an operand of the `and then`s at its top: an object test is allowed
+    /// here.
     Condition,
-    /// A right side, an actual, or an operand of `=` or `/=`: `Void` may stand there.
+    /// A right side, an actual, or an operand of `=` or `/=`: `Void` is allowed here.
     Source,
 }
 

@@ -6,12 +6,12 @@ pub fn never_pure_and_impure()
     ensures { NeverBoth }
 {}
 
-/// One test alone tells the pure functions from all others.
+/// There is only one test that separates the pure functions from all others.
 pub fn purity_is_one()
     ensures { OnePurity }
 {}
 
-/// Every system has a test that tells the pure functions from all others.
+/// Every system has a test that separates the pure functions from all others.
 pub fn purity_is_known()
     ensures { SomePurity }
 {}

@@ -28,7 +28,7 @@ pub enum RefusalCode {
     UnknownParent,
     /// A class inherits from itself.
     Cycle,
-    /// A name stands for two things in one class or routine.
+    /// A class or routine uses one name for two things.
     DuplicateFeature,
     /// A feature doesn't redefine what its class inherits as it has to.
     BadRedefinition,

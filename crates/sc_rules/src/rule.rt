@@ -6,7 +6,7 @@ ghost use Rattle.sc_rules.specs.RuleText.{code_of, name_of};
 /// A rule that a class's text meets.
 #[derive(Clone, Copy, Debug)]
 pub enum Rule {
-    /// A name stands for a class, a feature or an entity in scope.
+    /// A name is that of a class, a feature or an entity in scope.
     UnknownName,
     /// A call has as many actuals as the feature has formals.
     WrongArity,
@@ -18,7 +18,7 @@ pub enum Rule {
     TargetDetachable,
     /// The target of a call is of the current handler, or of one that is reserved.
     TargetUncontrolled,
-    /// A query is a value and a procedure an instruction, and `Result` stands in a function.
+    /// A query is a value, a procedure is an instruction, and `Result` is used in functions alone.
     ResultType,
     /// A condition or a clause is of type BOOLEAN.
     NotBoolean,
@@ -30,7 +30,8 @@ pub enum Rule {
     NotCreation,
     /// What is created is of the current handler or of a new one.
     CreationTag,
-    /// A tag names an attached separate formal, and stands where tags may; INTEGER and BOOLEAN have no mark and no tag.
+    /// A tag names an attached separate formal and is used only where tags are allowed; INTEGER and BOOLEAN have no
+    /// mark and no tag.
     TagName,
     /// A clause of an invariant is a formula over the attributes of its class.
     InvariantForm,
@@ -42,7 +43,7 @@ pub enum Rule {
     NotExported,
     /// An object test is a condition of an `if`, or an operand of the `and then`s at its top.
     ObjectTestPlace,
-    /// `old` stands in a postcondition, not inside another, and makes no separate call.
+    /// `old` is used in a postcondition, not inside another `old`, and makes no separate call.
     OldPlace,
     /// `Void` is a right side, an actual, or an operand of `=` or `/=`.
     VoidUse,

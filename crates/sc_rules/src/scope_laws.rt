@@ -12,7 +12,7 @@ pub fn formals_are_known()
 {}
 
 /// In every system the tag of an expression names an attached separate formal, or a name of a separate block that is
-/// known where the expression stands.
+/// in scope at the expression.
 pub fn tags_name_what_is_known()
     ensures { TagsNameKnown }
 {}

@@ -11,7 +11,7 @@ pub fn targets_are_controlled()
     ensures { TargetsAreControlled }
 {}
 
-/// In a well-formed system the name of each call stands for a feature that may be called there.
+/// In a well-formed system the name of each call is that of a feature that may be called there.
 pub fn calls_stand()
     ensures { CallsStand }
 {}

@@ -21,7 +21,7 @@ pub fn invariants_are_formulas()
     ensures { InvariantsAreFormulas }
 {}
 
-/// In a well-formed system each condition gives names, which are known where it holds.
+/// In a well-formed system each condition binds its names, and they are in scope wherever it holds.
 pub fn conditions_give()
     ensures { ConditionsGive }
 {}

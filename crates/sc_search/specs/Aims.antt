@@ -1,4 +1,4 @@
--- What is looked for, by how the handlers stand.
+-- What is looked for, by the handlers' statuses.
 use Rattle.std.specs.Prelude.{◌≡◌, ◌⊎◌, Bool, true, false, List}
 use Rattle.std.specs.List.{list_any}
 use Rattle.sc_model.specs.declared.status.Status.{Status}
@@ -8,7 +8,7 @@ use Rattle.sc_search.specs.declared.aims.Aim.TheVariants as aim
 use Rattle.sc_search.specs.declared.judging.Kind.{Kind}
 use Rattle.sc_search.specs.declared.judging.Kind.TheVariants as kind
 
--- the handler stands so
+-- the status is of this kind
 abbrev pub is_of : Kind → Status → Bool
 is_of kind.HasFailed (Failed why) = true
 is_of kind.HasFailed Busy = false
@@ -23,7 +23,7 @@ is_of kind.IsWaiting Busy = false
 is_of kind.IsWaiting Waiting = true
 is_of kind.IsWaiting Free = false
 
--- one of the handlers stands so
+-- one of the statuses is of this kind
 abbrev pub some_is : Kind → List Status → Bool
 some_is k statuses = list_any (is_of k) statuses
 
@@ -36,13 +36,13 @@ pub record AreStuck (statuses : List Status) : Type 0 where
 abbrev pub HasFailed : List Status → Type 0
 HasFailed statuses = some_is kind.HasFailed statuses ≡ true
 
--- They stand as is looked for.
+-- The statuses are what is looked for.
 abbrev pub IsMet : Aim → List Status → Type 0
 IsMet aim.Stuck statuses = AreStuck statuses
 IsMet aim.Fails statuses = HasFailed statuses
 IsMet aim.Any statuses = AreStuck statuses ⊎ HasFailed statuses
 
--- A failure is told where they do; else it is that they are stuck.
+-- A failure is reported if they are; else it is that they are stuck.
 abbrev pub tells_failure : Aim → List Status → Bool
 tells_failure aim.Stuck statuses = false
 tells_failure aim.Fails statuses = some_is kind.HasFailed statuses

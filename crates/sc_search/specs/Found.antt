@@ -21,8 +21,8 @@ line_turns line = replicate line.turns line.handler
 abbrev pub turns_of : List RecordLine → List ℕ
 turns_of lines = flat_map line_turns lines
 
--- The turns of the lines lead from the opening of the program, with as many handlers as the version has, to this world,
--- and its handlers stand so.
+-- The turns of the lines lead from the opening of the program, with the version's limit on handlers, to this world,
+-- with these statuses.
 pub record LeadsTo (p : Image) (v : Version) (lines : List RecordLine) (Stand : List Status → Type 0) : Type 0 where
   pub world : PlainWorld
   pub runs : Runs (turns_of lines) (opened p v) world
@@ -37,22 +37,22 @@ IsFound p v finding.Undecided = Unit {0}
 
 -- ---- where an order ends
 
--- The turns of these handlers, one after the other, lead from the first world to the second. Each of them has something
--- to do, and before it the handlers don't stand as is looked for.
+-- The turns of these handlers, one after the other, lead from the first world to the second. Each of them has a job,
+-- and before its turn the statuses aren't what is looked for.
 abbrev pub RunsUnmet : Aim → List ℕ → PlainWorld → PlainWorld → Type 0
 RunsUnmet a [] x y = y ≡ x
 RunsUnmet a (h ∷ hs) x y =
     (IsMet a (told.statuses x) → ⊥) × (is_some (pick_for h x.center) ≡ true)
     × (z : PlainWorld) × IsTurn h x z × RunsUnmet a hs z y
 
--- The order leads from the opening of the program to a world in which the handlers stand as is looked for, and no
--- shorter beginning of it does.
+-- The order leads from the opening of the program to a world whose statuses are what is looked for, and no shorter
+-- beginning of it does.
 pub record EndsFirst (p : Image) (v : Version) (a : Aim) (lines : List RecordLine) : Type 0 where
   pub world : PlainWorld
   pub runs : RunsUnmet a (turns_of lines) (opened p v) world
   pub met : IsMet a (told.statuses world)
 
--- An order that is said to be found ends where it first leads to what is looked for.
+-- An order that is reported as found ends at the first world with what is looked for.
 abbrev pub IsFirst : Image → Version → Aim → Finding → Type 0
 IsFirst p v a finding.Nothing = Unit {0}
 IsFirst p v a (finding.Stuck order) = EndsFirst p v a order.lines.items

@@ -11,8 +11,8 @@ use Rattle.sc_search.specs.declared.verdict.Finding.{Finding}
 use Rattle.sc_search.specs.declared.verdict.Finding.TheVariants as finding
 use Rattle.sc_search.specs.Closed.{IsUnmet}
 
--- So many states were met, or more. Turns lead to each of them, and in none of them the handlers stand as is looked
--- for.
+-- At least this number of states were met. Turns lead to each of them, and in none of them the statuses are what is
+-- looked for.
 pub record AreMet (p : Image) (v : Version) (a : Aim) (count : ℕ) : Type 0 where
   pub states : List PlainKept
   pub many : count ≤ length states
@@ -23,7 +23,7 @@ pub record IsOrder (p : Image) (v : Version) (order : List ℕ) : Type 0 where
   pub world : PlainWorld
   pub runs : Runs order (opened p v) world
 
--- So many turns were played, or more: those of orders, each from the opening on.
+-- At least this number of turns were played: those of orders, each from the opening on.
 pub record ArePlayed (p : Image) (v : Version) (turns : ℕ) : Type 0 where
   pub orders : List (List ℕ)
   pub each : (i : ℕ) (order : List ℕ) → slice_get orders i ≡ Some order → IsOrder p v order
@@ -42,8 +42,8 @@ pub record AreTwo (p : Image) (v : Version) : Type 0 where
 abbrev pub turns_a_state : ℕ
 turns_a_state = 2000
 
--- Why a search gives up that may keep so many states: it has met as many, or played as many turns as go with them. Or
--- an order led to two worlds, which those of accepted texts don't.
+-- Why a search gives up with this limit on states: it has met as many, or played as many turns as that allows. Or an
+-- order led to two worlds, which those of accepted texts don't.
 pub data GivesUp (p : Image) (v : Version) (a : Aim) (limit : ℕ) : Type 0 where
   AllMet : (met : AreMet p v a limit) → GivesUp p v a limit
   AllPlayed : (played : ArePlayed p v (turns_a_state * limit)) → GivesUp p v a limit
@@ -54,13 +54,13 @@ abbrev pub NothingSays : Image → Version → Aim → ℕ → Bool → Type 0
 NothingSays p v a limit true = Unit {0}
 NothingSays p v a limit false = GivesUp p v a limit
 
--- Where nothing is found and that isn't whole, or it is undecided, the search has given up.
+-- If nothing is found and the search isn't whole, or it is undecided, it has given up.
 abbrev pub SaysWhy : Image → Version → Aim → ℕ → Bool → Finding → Type 0
 SaysWhy p v a limit is_whole finding.Nothing = NothingSays p v a limit is_whole
 SaysWhy p v a limit is_whole (finding.Stuck order) = Unit {0}
 SaysWhy p v a limit is_whole (finding.Fails order) = Unit {0}
 SaysWhy p v a limit is_whole finding.Undecided = GivesUp p v a limit
 
--- the same of what is searched
+-- the reason, for what is searched
 abbrev pub SaysWhyFor : Subject → ℕ → Bool → Finding → Type 0
 SaysWhyFor s limit is_whole found = SaysWhy s.program.now.image s.version s.aim limit is_whole found

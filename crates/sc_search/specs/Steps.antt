@@ -10,17 +10,17 @@ use Rattle.sc_search.specs.declared.aims.Aim.{Aim}
 use Rattle.sc_search.specs.Aims.{IsMet}
 use Rattle.sc_search.specs.Closed.{IsAmong, IsTried, IsUnmet}
 
--- The state of the world was met, or is met now. Its handlers don't stand as is looked for.
+-- The state of the world was met, or is met now. Its statuses aren't what is looked for.
 pub record Keeps (a : Aim) (w : PlainWorld) (ks ls : List PlainKept) : Type 0 where
   pub among : IsAmong ls (kept w)
   pub grows : (ls ≡ ks) ⊎ (ls ≡ ks ++ kept w ∷ [])
   pub unmet : IsMet a (statuses w) → ⊥
 
--- In none of the states the handlers stand as is looked for.
+-- In none of the states the statuses are what is looked for.
 abbrev pub AreUnmet : Image → Version → Aim → List PlainKept → Type 0
 AreUnmet p v a ks = (i : ℕ) (k : PlainKept) → slice_get ks i ≡ Some k → IsUnmet p v a k
 
--- The opening of the program is in one of the states, and in none of them the handlers stand as is looked for.
+-- The opening of the program is in one of the states, and in none of them the statuses are what is looked for.
 pub record Opens (p : Image) (v : Version) (a : Aim) (ks : List PlainKept) : Type 0 where
   pub opens : IsAmong ks (kept (opened p v))
   pub unmet : AreUnmet p v a ks
@@ -35,7 +35,7 @@ pub record Stands (p : Image) (v : Version) (ks : List PlainKept) (number : ℕ)
 abbrev pub IsLedTo : Image → Version → List PlainKept → ℕ → List ℕ → Type 0
 IsLedTo p v ks number path = (w : PlainWorld) × Stands p v ks number path w
 
--- States are met behind these, in none of which the handlers stand as is looked for.
+-- States are met after these, and in none of them the statuses are what is looked for.
 pub record Extends (p : Image) (v : Version) (a : Aim) (ks ls : List PlainKept) : Type 0 where
   pub stay : (i : ℕ) (k : PlainKept) → slice_get ks i ≡ Some k → slice_get ls i ≡ Some k
   pub unmet : AreUnmet p v a ks → AreUnmet p v a ls

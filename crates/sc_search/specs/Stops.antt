@@ -20,7 +20,7 @@ use Rattle.sc_search.specs.Aims.{IsMet}
 use Rattle.sc_search.specs.Limits.{ArePlayed, GivesUp, SaysWhyFor}
 use Rattle.sc_search.specs.Views.{orders_of, states_of}
 
--- The order of the number leads to a world in the state, whose handlers don't stand as is looked for.
+-- The order of the number leads to a world in the state, whose statuses aren't what is looked for.
 pub record IsReached (p : Image) (v : Version) (a : Aim) (orders : List (List ℕ)) (number : ℕ)
     (k : PlainKept) : Type 0 where
   pub order : List ℕ
@@ -30,7 +30,7 @@ pub record IsReached (p : Image) (v : Version) (a : Aim) (orders : List (List �
   pub kept_is : kept world ≡ k
   pub unmet : IsMet a (statuses world) → ⊥
 
--- Each state is reached so, and so many turns were played.
+-- Each state is reached so, and this number of turns were played.
 pub record AreReached (p : Image) (v : Version) (a : Aim) (ks : List PlainKept) (orders : List (List ℕ))
     (turns : ℕ) : Type 0 where
   pub each : (number : ℕ) (k : PlainKept) → slice_get ks number ≡ Some k → IsReached p v a orders number k
@@ -42,7 +42,7 @@ HasReached p v a x = AreReached p v a (states_of x) (orders_of x) x.turns
 
 -- ---- why a search stops
 
--- These turns lead from the opening to a world whose handlers stand as is looked for,
+-- These turns lead from the opening to a world whose statuses are what is looked for,
 pub record MeetsAfter (p : Image) (v : Version) (a : Aim) (turns : List ℕ) : Type 0 where
   pub world : PlainWorld
   pub runs : Runs turns (opened p v) world
@@ -71,7 +71,7 @@ abbrev pub HasStopped : Image → Version → Aim → ℕ → Option Stop → Ty
 HasStopped p v a limit None = ⊥
 HasStopped p v a limit (Some s) = StopsFor p v a limit s
 
--- Where it has stopped so at a limit, what is found and isn't whole says why.
+-- If it has stopped so at a limit, a finding that isn't whole says why.
 abbrev pub SaysWhyAt : Subject → Option Stop → Finding → Type 0
 SaysWhyAt s why found =
     (limit : ℕ) → HasStopped s.program.now.image s.version s.aim limit why → SaysWhyFor s limit false found
@@ -98,7 +98,7 @@ IsOrdered finding.Undecided = ⊥
 
 -- ---- movers
 
--- Behind the turns stand others, which lead from the first world to the second.
+-- After these turns come others, which lead from the first world to the second.
 pub record Moves (before after : List ℕ) (x y : PlainWorld) : Type 0 where
   pub more : List ℕ
   pub all : after ≡ before ++ more

@@ -8,7 +8,7 @@ use Rattle.sc_search.specs.declared.verdict.Finding.TheVariants as finding
 use Rattle.sc_search.specs.declared.verdict.Verdict.{Verdict}
 use Rattle.sc_search.specs.Closed.{IsClosed}
 
--- Nothing was found, and the states that were met are closed. As many are told.
+-- Nothing was found, and the states that were met are closed. Their number is reported.
 pub record IsProved (p : Image) (v : Version) (a : Aim) (d : Verdict) : Type 0 where
   pub nothing : d.finding ≡ finding.Nothing
   pub states : List PlainKept

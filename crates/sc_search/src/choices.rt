@@ -10,11 +10,10 @@ use sc_lockpass::HandlerNumber;
 use sc_request::Core;
 use std::alloc::{AllocError, Global};
 
-/// Plays choices in every order, and movers behind each, as long as no more than so many states are kept: why it stopped
-/// before all was played.
+/// Plays choices in every order, and movers after each, as long as at most this number of states are kept. Returns
+/// why it stopped before all was played.
 ///
-/// # Errors
-/// Where there is no memory.
+/// # Errors Memory ran out.
 pub(crate) fn play_choices<'p, W: Watch>(
     subject: Subject<'p>,
     progress: &mut Progress<'p>,
@@ -73,10 +72,9 @@ fn choose<'p>(
     Ok(None)
 }
 
-/// The handlers that have something to do behind these turns.
+/// The handlers that have a job after these turns.
 ///
-/// # Errors
-/// Where there is no memory.
+/// # Errors Memory ran out.
 fn choices_after(
     subject: Subject<'_>,
     turns: &[HandlerNumber],
@@ -85,7 +83,7 @@ fn choices_after(
     choices_in(subject.alloc, world.core())
 }
 
-/// The same in this core.
+/// The handlers that have a job in this core.
 fn choices_in(alloc: Global, core: &Core) -> Result<Vec<HandlerNumber>, AllocError> {
     let mut choices = Vec::new(alloc);
     for handler in 0..core.handler_count() {
@@ -97,7 +95,7 @@ fn choices_in(alloc: Global, core: &Core) -> Result<Vec<HandlerNumber>, AllocErr
     Ok(choices)
 }
 
-/// Plays movers behind the turns of a way, and keeps the state that they lead to.
+/// Plays movers after the turns of a way, and keeps the state that they lead to.
 fn follow<'p>(
     subject: Subject<'p>,
     progress: &mut Progress<'p>,

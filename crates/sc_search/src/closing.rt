@@ -13,10 +13,10 @@ use sc_lockpass::HandlerNumber;
 use sc_world::World;
 use std::alloc::AllocError;
 
-/// Plays each turn of each state, as long as no more than so many states are kept: why it stopped before all was played.
+/// Plays each turn of each state, as long as at most this number of states are kept. Returns why it stopped before
+/// all was played.
 ///
-/// # Errors
-/// Where there is no memory.
+/// # Errors Memory ran out.
 pub(crate) fn play_all<'p, W: Watch>(
     subject: Subject<'p>,
     progress: &mut Progress<'p>,

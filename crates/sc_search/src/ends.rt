@@ -13,17 +13,16 @@ use sc_lockpass::HandlerNumber;
 use sc_world::World;
 use std::alloc::{AllocError, Global};
 
-/// Turns from the opening on, behind which no handler has anything to do, and the report of what they leave.
+/// Turns from the opening on, after which no handler has a job, and the report of what they leave.
 #[derive(Drop)]
 pub(crate) struct FoundEnd {
     turns: Vec<HandlerNumber>,
     report: Vec<u8>,
 }
 
-/// Adds the outcome of these turns, which led to the world, unless its report is that of another one.
+/// Adds the outcome of these turns, which led to the world, unless another one has an equal report.
 ///
-/// # Errors
-/// Where there is no memory.
+/// # Errors Memory ran out.
 pub(crate) fn push_outcome(
     alloc: Global,
     outcomes: &mut Vec<FoundEnd>,
@@ -44,8 +43,7 @@ pub(crate) fn push_outcome(
 
 /// The ends that these outcomes are, each played once more.
 ///
-/// # Errors
-/// Where there is no memory.
+/// # Errors Memory ran out.
 pub(crate) fn ends_after(
     subject: Subject<'_>,
     outcomes: &[FoundEnd],

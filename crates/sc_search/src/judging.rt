@@ -1,4 +1,4 @@
-//! How the handlers of a state stand to what is looked for.
+//! Whether the statuses of a state are what is looked for.
 ghost use Rattle.std.specs.Prelude.{◌≡◌, ◌↔◌, IfOk, IsTrue};
 ghost use Rattle.sc_world.specs.Reports.{statuses};
 ghost use Rattle.sc_world.specs.Views.{world_of};
@@ -9,7 +9,7 @@ use sc_model::Status;
 use sc_world::World;
 use std::alloc::AllocError;
 
-/// How a handler may stand.
+/// A kind of status of a handler.
 #[derive(Clone, Copy)]
 pub(crate) enum Kind {
     HasFailed,
@@ -17,7 +17,7 @@ pub(crate) enum Kind {
     IsWaiting,
 }
 
-/// Whether what is looked for is met, where the handlers stand so.
+/// Whether these statuses meet what is looked for.
 pub(crate) fn is_met(aim: Aim, statuses: &[Status]) -> bool
     ensures { IsTrue result ↔ IsMet aim statuses.now }
 {
@@ -42,7 +42,7 @@ pub(crate) fn has_failed(statuses: &[Status]) -> bool
     some_is(Kind::HasFailed, statuses)
 }
 
-/// Whether a failure is told where what is looked for is met; else it is that they are stuck.
+/// Whether a failure is reported if what is looked for is met; else the handlers are stuck.
 pub(crate) fn tells_failure(aim: Aim, statuses: &[Status]) -> bool
     ensures { result ≡ tells_failure aim statuses.now }
 {
@@ -52,17 +52,16 @@ pub(crate) fn tells_failure(aim: Aim, statuses: &[Status]) -> bool
     }
 }
 
-/// Whether one of the handlers of the world stands so.
+/// Whether one of the handlers of the world has a status of this kind.
 ///
-/// # Errors
-/// Where there is no memory.
+/// # Errors Memory ran out.
 pub(crate) fn some_is_in(kind: Kind, world: &World<'_>) -> Result<bool, AllocError>
     ensures { IfOk result (λ some. some ≡ some_is kind (statuses (world_of world.now))) }
 {
     Ok(some_is(kind, &world.statuses()?))
 }
 
-/// Whether one of the handlers stands so.
+/// Whether one of the statuses is of this kind.
 pub(crate) fn some_is(kind: Kind, statuses: &[Status]) -> bool
     ensures { result ≡ some_is kind statuses.now }
 {
@@ -74,7 +73,7 @@ pub(crate) fn some_is(kind: Kind, statuses: &[Status]) -> bool
     false
 }
 
-/// Whether a handler stands so.
+/// Whether a status is of this kind.
 fn is_of(kind: Kind, status: Status) -> bool
     ensures { result ≡ is_of kind status }
 {

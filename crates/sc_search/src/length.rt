@@ -3,7 +3,7 @@
 use crate::verdict::Length;
 use std::alloc::{AllocError, Global};
 
-/// That so many turns lead from a state to another.
+/// This number of turns leads from one state to another.
 #[derive(Clone, Copy)]
 pub(crate) struct Edge {
     pub(crate) from: u32,
@@ -20,11 +20,10 @@ struct Visit {
     turns: u32,
 }
 
-/// How long orders are, where so many turns lead to the first state, and these edges are all that lead between so many
-/// states. The edges lie in the order of the states that they lead from.
+/// How long orders are, if this number of turns leads to the first state, and these are all edges between this number
+/// of states, in the order of the states that they lead from.
 ///
-/// # Errors
-/// Where there is no memory.
+/// # Errors Memory ran out.
 pub(crate) fn length_of(
     alloc: Global,
     first: u32,

@@ -6,10 +6,9 @@ use sc_audit::RecordLine;
 use sc_lockpass::HandlerNumber;
 use std::alloc::{AllocError, Global};
 
-/// The lines of these turns. Turns of a handler that follow one another are one line.
+/// The lines of these turns. Turns of one handler in a row are one line.
 ///
-/// # Errors
-/// Where there is no memory.
+/// # Errors Memory ran out.
 pub(crate) fn lines_of(
     alloc: Global,
     turns: &[HandlerNumber],
@@ -30,7 +29,7 @@ pub(crate) fn lines_of(
     Ok(lines)
 }
 
-/// Adds a turn behind the lines and the last one, which doesn't stand among them yet: the last one then.
+/// Adds a turn after the lines and the last one, which isn't among them yet. Returns the new last one.
 fn add_turn(
     lines: &mut Vec<RecordLine>,
     last: RecordLine,

@@ -1,8 +1,9 @@
 //! Turns that need no branching.
 //!
-//! A turn of a handler is a choice if it reserves handlers, creates one, or fails; if it asks with lock passing, unless
-//! nobody else can be in its way; and if it takes a request while another handler may post to it. Any other is a mover: it
-//! comes to the same before and behind the turns of others, so that these needn't be tried before it.
+//! A turn of a handler is a choice if it reserves handlers, creates one, or fails; if it posts with lock passing,
+//! unless no other handler can be in its way; and if it takes a request while another handler may post to it. Any
+//! other is a mover: it does the same before and after the turns of others, so that these needn't be tried before
+//! it.
 ghost use Rattle.std.specs.Prelude.{◌≡◌, IfOk};
 ghost use Rattle.sc_world.specs.Views.{world_of};
 ghost use Rattle.sc_search.specs.Stops.{Moves, RestsAt};
@@ -54,10 +55,9 @@ enum Moved {
     TooMany,
 }
 
-/// Plays movers behind these turns until none is left, and adds their turns.
+/// Plays movers after these turns until none is left, and adds their turns.
 ///
-/// # Errors
-/// Where there is no memory.
+/// # Errors Memory ran out.
 pub(crate) fn play_movers<'p>(
     subject: Subject<'p>,
     turns: &mut Vec<HandlerNumber>,
@@ -122,7 +122,7 @@ fn next_mover(core: &Core, peeks: &[Peek]) -> Option<HandlerNumber> {
     None
 }
 
-/// Whether the next turn of a handler, of which this is known, may be a mover.
+/// Whether the next turn of a handler, with this known of it, may be a mover.
 fn may_move(core: &Core, handler: HandlerNumber, peek: Peek) -> bool {
     let is_free = match core.pick_for(handler) {
         None => false,
@@ -148,7 +148,7 @@ fn is_contested(core: &Core, handler: HandlerNumber) -> bool {
     }
 }
 
-/// What the last turn of the world was, which the handler made and of which this was known.
+/// What the last turn of the world was: the handler made it, and this was known of it.
 fn peek_behind(world: &World<'_>, handler: HandlerNumber, was: Peek) -> Peek {
     match (world.status(handler), was) {
         (Some(Status::Failed(_)), _) => Peek::Choice,

@@ -43,7 +43,7 @@ pub(crate) struct Progress<'p> {
 pub(crate) struct Way {
     /// The state that it leads from, but for the opening.
     pub(crate) parent: Option<u32>,
-    /// The turns from the opening to where it leads.
+    /// The turns from the opening to the current state.
     pub(crate) turns: Vec<HandlerNumber>,
     /// How many of them are those to the state that it leads from.
     pub(crate) from: usize,
@@ -53,10 +53,9 @@ impl<'p> Progress<'p> {
     ghost use Rattle.sc_search.specs.Stops.{HasReached, StopsFor};
     ghost use Rattle.sc_search.specs.Views.{states_of};
 
-    /// Nothing.
+    /// Progress with nothing searched yet.
     ///
-    /// # Errors
-    /// Where there is no memory.
+    /// # Errors Memory ran out.
     pub(crate) fn new(subject: Subject<'p>) -> Result<Progress<'p>, AllocError>
         ensures none { IfOk result (λ progress. states_of progress ≡ []) }
         ensures reached { IfOk result (HasReached subject.entry.program.now.image subject.entry.version subject.entry.aim) }
@@ -69,11 +68,10 @@ impl<'p> Progress<'p> {
         })
     }
 
-    /// Keeps the state of the world to which the way leads, unless it was met before. Long ways are as many states as their turns
-    /// take.
+    /// Keeps the state of the world to which the way leads, unless it was met before. A long way counts as several
+    /// states, in proportion to its turns.
     ///
-    /// # Errors
-    /// Where there is no memory.
+    /// # Errors Memory ran out.
     pub(crate) fn keep(
         &mut self,
         subject: Subject<'p>,

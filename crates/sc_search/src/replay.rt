@@ -18,7 +18,7 @@ use sc_lockpass::{HandlerNumber, Version};
 use sc_world::{Turned, World};
 use std::alloc::{AllocError, Global};
 
-/// What is searched: a program, where there may be as many handlers as the version has, for what is looked for.
+/// What is searched: a program, with the version's limit on handlers, and the aim.
 #[derive(Clone, Copy)]
 pub(crate) struct Subject<'p> {
     pub(crate) alloc: Global,
@@ -29,8 +29,7 @@ pub(crate) struct Subject<'p> {
 
 /// The world after these turns, from the opening on.
 ///
-/// # Errors
-/// Where there is no memory.
+/// # Errors Memory ran out.
 pub(crate) fn world_after<'p>(
     subject: Subject<'p>,
     turns: &[HandlerNumber],
@@ -55,10 +54,9 @@ fn world_after_lines<'p>(
     Ok(world)
 }
 
-/// What these turns lead to, if it is what is looked for. The order that is told ends there.
+/// The finding of these turns, if they meet what is looked for. The order that is reported ends there.
 ///
-/// # Errors
-/// Where there is no memory.
+/// # Errors Memory ran out.
 pub(crate) fn finding_after(
     subject: Subject<'_>,
     turns: &[HandlerNumber],

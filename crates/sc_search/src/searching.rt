@@ -20,13 +20,13 @@ use sc_code::Program;
 use sc_lockpass::Version;
 use std::alloc::{AllocError, Global};
 
-/// Looks for an order of turns of a program, where there may be as many handlers as the version has, that leads to what is
-/// looked for. It gives up where it would have to keep more than so many states, or has played 2,000 turns for each of them.
+/// Looks for an order of turns of a program, with the version's limit on handlers, that meets the aim. It gives up if
+/// it would have to keep more than this number of states, or has played 2,000 turns for each of them.
 ///
-/// First orders that differ only in turns that touch nothing of others are played once. If nothing is found so, all are played.
+/// First, orders that differ only in turns that touch nothing of others are played once. If nothing is found so, all
+/// are played.
 ///
-/// # Errors
-/// Where there is no memory.
+/// # Errors Memory ran out.
 pub fn search<W: Watch>(
     alloc: Global,
     program: &Program,
@@ -91,7 +91,7 @@ fn search_all<W: Watch>(
     verdict_of(subject, progress, stop, true)
 }
 
-/// What a search comes to that stopped so, and played all turns or choices alone.
+/// The verdict of a search that stopped so, and played all turns or choices alone.
 fn verdict_of(
     subject: Subject<'_>,
     progress: Progress<'_>,

@@ -34,10 +34,9 @@ pub(crate) struct States<'p> {
 impl<'p> States<'p> {
     ghost use Rattle.sc_search.specs.Views.{orders_in, states_in};
 
-    /// None.
+    /// No states.
     ///
-    /// # Errors
-    /// Where there is no memory.
+    /// # Errors Memory ran out.
     pub(crate) fn new(alloc: Global) -> Result<States<'p>, AllocError>
         ensures states { IfOk result (λ states. states_in states ≡ []) }
         ensures orders { IfOk result (λ states. orders_in states ≡ []) }
@@ -58,7 +57,7 @@ impl<'p> States<'p> {
         self.kept.len().min(u32::MAX as usize) as u32
     }
 
-    /// Whether the world stands in the state of the number.
+    /// Whether the world is in the state with the number.
     pub(crate) fn is_at(&self, number: u32, world: &World<'_>) -> bool
         ensures { IsTrue result ↔ slice_get (states_in self.now) number ≡ Some (kept (world_of world.now)) }
     {
@@ -75,7 +74,7 @@ impl<'p> States<'p> {
         self.kept.get(number as usize)
     }
 
-    /// The state that the world stands in, if it was met.
+    /// The state that the world is in, if it was met.
     pub(crate) fn find(&self, world: &World<'_>) -> Option<u32>
         ensures { IfSome result (λ number. slice_get (states_in self.now) number ≡ Some (kept (world_of world.now))) }
     {
@@ -97,10 +96,9 @@ impl<'p> States<'p> {
         *self.buckets.get(bucket_of(hash))?
     }
 
-    /// Keeps the state that the world stands in, to which these turns led from the opening.
+    /// Keeps the state that the world is in, to which these turns led from the opening.
     ///
-    /// # Errors
-    /// Where there is no memory.
+    /// # Errors Memory ran out.
     pub(crate) fn push(
         &mut self,
         world: World<'p>,
@@ -121,10 +119,9 @@ impl<'p> States<'p> {
         Ok(())
     }
 
-    /// The turns that led to the state of the number, from the opening on.
+    /// The turns that led to the state with the number, from the opening on.
     ///
-    /// # Errors
-    /// Where there is no memory.
+    /// # Errors Memory ran out.
     pub(crate) fn order(&self, number: u32) -> Result<Vec<HandlerNumber>, AllocError>
         ensures { IfOk result (λ turns. (order : List ℕ) → slice_get (orders_in self.now) number ≡ Some order → turns.items ≡ order) }
     {

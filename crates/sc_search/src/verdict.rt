@@ -1,4 +1,4 @@
-//! What a search comes to.
+//! The result of a search.
 
 use sc_audit::RecordLine;
 
@@ -34,7 +34,7 @@ pub struct End {
 /// How long orders are.
 #[derive(Clone, Copy)]
 pub enum Length {
-    /// Each ends, after so many turns at most.
+    /// Each ends, after at most this number of turns.
     AtMost(u32),
     /// Some order goes on for ever.
     Endless,
@@ -42,7 +42,7 @@ pub enum Length {
     Unknown,
 }
 
-/// What a search comes to.
+/// The result of a search.
 #[derive(Drop)]
 pub struct Verdict {
     pub finding: Finding,

@@ -1,12 +1,12 @@
-//! Who is told of a search on its way.
+//! Which value sees a search on its way.
 
-/// Is told of a search on its way.
+/// Sees a search on its way.
 pub trait Watch {
-    /// So many states are kept now. It is told each time that the turns of another state were tried.
+    /// This number of states are kept now. It is called each time that the turns of another state were tried.
     fn kept(&mut self, states: u32);
 }
 
-/// Nobody is told.
+/// A watch that does nothing.
 impl Watch for () {
     fn kept(&mut self, _states: u32) {}
 }

@@ -123,7 +123,7 @@ fn print<'a, O: Write, E: Write>(
     }
 }
 
-/// What is written on standard output: the text, or the object that stands for it.
+/// The bytes that are written on standard output: the text, or its object.
 fn written_of<'r>(answer: &'r Answer<'_>) -> &'r [u8]
     ensures { result.now ≡ written_of answer.now }
 {

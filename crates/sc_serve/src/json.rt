@@ -1,7 +1,7 @@
 //! Answers as objects of JSON, each on a line.
 //!
-//! But for the verdict of a search the object is made of the lines that would be written, so it says what they say. The
-//! members of an object stand in the order of their names.
+//! Except for the verdict of a search the object is made of the lines that would be written, so it says what they
+//! say. The members of an object are in the order of their names.
 
 mod refused;
 mod report;

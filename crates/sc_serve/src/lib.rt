@@ -1,9 +1,9 @@
-//! What the program `scoop` does: it has the files of a system read, and answers the check, the run, the replay or the
-//! canonical text that the arguments of a command line ask for.
+//! What the program `scoop` does: it has the files of a system read, and answers the check, the run, the replay or
+//! the canonical text that the arguments of a command line ask for.
 //!
-//! [`serve::serve`] is one call of the program, over files and writers of its caller's. What it answers for a source text
-//! is that of [`sc_frontend`] and [`sc_driver`], whose contracts go from the bytes of the text to the state of the run; a
-//! refusal is told in one line.
+//! [`serve::serve`] is one call of the program, over files and writers of its caller's. What it answers for a source
+//! text is that of [`sc_frontend`] and [`sc_driver`], whose contracts go from the bytes of the text to the state of
+//! the run; a refusal is reported in one line.
 #![tactic(auto)]
 
 mod delivery;

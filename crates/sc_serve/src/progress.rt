@@ -1,14 +1,14 @@
-//! What people are told on the way to an answer.
+//! What people see on the way to an answer.
 
 use sc_search::Watch;
 use std::io::Write;
 
-/// By how many states the number differs from the one that was said last, where it is said again.
+/// How much the number of states has to grow before it is shown again.
 const STEP: u32 = 256;
 
-/// Tells people something on the way to an answer.
+/// Shows something to people before the answer.
 pub trait Tell {
-    /// Tells these lines, which stay.
+    /// Shows these lines, which stay.
     fn tell(&mut self, lines: &[u8]);
 
     /// Whether there is a terminal, on which it is shown how far something is.
@@ -18,8 +18,8 @@ pub trait Tell {
     fn show_run(&mut self, turns: u64, handlers: usize);
 }
 
-/// Says on a line of a terminal, which is written over each time, how far a search or a run is; elsewhere it says nothing of
-/// that. Lines that stay are told anywhere.
+/// Shows on a line of a terminal, which is overwritten each time, how far a search or a run is; elsewhere it shows
+/// nothing of that. Lines that stay are shown anywhere.
 #[derive(Drop)]
 pub struct Progress<'e, E> {
     err: &'e mut E,

@@ -1,4 +1,4 @@
-//! Refusals of a source text, and the line that tells one.
+//! Refusals of a source text, and the line that reports one.
 
 ghost use Rattle.std.specs.Prelude.{◌≡◌, IfOk, Some, string_bytes};
 ghost use Rattle.std.specs.Option.{option_map};
@@ -14,7 +14,7 @@ use sc_source::source::{Place, Source};
 use sc_text::{LexFault, Span};
 use std::alloc::{AllocError, Global};
 
-/// How a refusal is told: its code, which has a name, and the part of the source text that is at fault, if there is one.
+/// How a refusal is reported: its code, which has a name, and the part of the source text at fault, if there is one.
 #[derive(Clone, Copy)]
 pub struct Refusal {
     pub code: RefusalCode,
@@ -22,8 +22,8 @@ pub struct Refusal {
 }
 
 impl Refusal {
-    /// The line that tells the refusal, `refused CODE Name FILE:LINE:COLUMN`, with the place where its part of the text
-    /// begins, or without a place.
+    /// The line that reports the refusal, `refused CODE Name FILE:LINE:COLUMN`, with the place at which its part of
+    /// the text begins, or without a place.
     pub fn line(&self, alloc: Global, source: &Source) -> Result<String, AllocError>
         ensures { IfOk result (λ line. string_bytes line ≡ spec.refusal_line (code_of self.now.code)
             (name_of self.now.code) (place_at source.now self.now.span)) }
@@ -40,8 +40,8 @@ impl Refusal {
             None => format!(in alloc; "refused {code} {name}\n"),
         }
     }
-    /// How a rejection is told, where it has a code. That a program would be too long has none; that memory ran out is no
-    /// refusal.
+    /// How a rejection is reported, if it has a code. A program that would be too long has none; and running out of
+    /// memory is no refusal.
     pub fn of(rejection: &Rejection) -> Option<Refusal>
         ensures { option_map spec.seen result ≡ spec.told rejection.now }
     {

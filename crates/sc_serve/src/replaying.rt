@@ -122,7 +122,7 @@ fn play<'a, T: Tell>(
     })
 }
 
-/// Tells of the turns of a record, where that is asked for.
+/// Reports the turns of a record, if that is asked for.
 fn tell_turns<T: Tell>(
     alloc: Global,
     program: &Program,
@@ -135,7 +135,7 @@ fn tell_turns<T: Tell>(
     Tracing::new(teller, tracer).follow_all(record.lines.as_slice())
 }
 
-/// What is said of a replay beside its report, where it is asked for.
+/// The note on a replay beside its report, if it is asked for.
 fn note_of(
     alloc: Global,
     program: &Program,

@@ -98,7 +98,7 @@ fn run_loaded<'a, R: Threads + Wait + Clock + Sync, T: Tell>(
     })
 }
 
-/// Runs the program of a source text, and tells of the run on its way.
+/// Runs the program of a source text, and reports on the way.
 fn run_watched<'p, 'a, R: Threads + Wait + Clock + Sync, T: Tell>(
     rt: &R,
     alloc: Global,
@@ -142,7 +142,7 @@ fn run_bounded<'p, 'a, R: Threads + Wait + Clock + Sync, T: Tell>(
     }
 }
 
-/// What is told of what a run left: on standard output, by the status, and on standard error.
+/// What is reported of a run: standard output, the status, and standard error.
 fn told_of(
     alloc: Global,
     program: &Program,
@@ -160,7 +160,7 @@ fn told_of(
     Ok((text, exit, note))
 }
 
-/// The report, with what an audit says where one is asked for, and the status.
+/// The report, with the answer of an audit if one is asked for, and the status.
 fn judge(
     alloc: Global,
     program: &Program,
@@ -206,7 +206,7 @@ fn fault_of<'a>(fault: RunFault<'_>) -> Fault<'a>
     }
 }
 
-/// Whether a handler has refused a request for which nobody waited.
+/// Whether a handler has refused a request for which no handler waited.
 fn has_refused(left: &Left<'_>) -> bool {
     for handler in 0..left.core.handler_count().min(HandlerNumber::MAX as usize) {
         if left.core.refused(handler as HandlerNumber).unwrap_or(0) > 0 {
@@ -229,8 +229,8 @@ fn printed_past(left: &Left<'_>, options: &RunOptions<'_>, statuses: &[Status]) 
     if printed > most { Some(printed) } else { None }
 }
 
-/// What is said of a run beside its report: that its handlers have printed too much; and what became of them, where that is
-/// asked for.
+/// The note on a run beside its report: that its handlers have printed too much; and the states of its handlers, if
+/// that is asked for.
 fn note_of(
     alloc: Global,
     program: &Program,
@@ -261,7 +261,7 @@ fn note_of(
     Ok(note)
 }
 
-/// Adds that a run was ended since its handlers have printed so many bytes.
+/// Adds that a run was ended since its handlers have printed this number of bytes.
 fn push_output_note(
     alloc: Global,
     note: &mut Vec<u8>,

@@ -113,7 +113,7 @@ fn exit_of_finding(finding: &Finding) -> Exit
     }
 }
 
-/// The verdict, with the outcomes where they are to be listed.
+/// The verdict, with the outcomes if they are to be listed.
 fn verdict_text(
     alloc: Global,
     options: &SearchOptions<'_>,

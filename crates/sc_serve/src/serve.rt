@@ -101,7 +101,7 @@ pub enum Fault<'a> {
     CannotRead(&'a str, FileFault),
     /// Standard output is closed or full.
     CannotWrite,
-    /// A file that the record can't be written to, why, and what it is left with, where it was opened.
+    /// A file that the record can't be written to, why, and what it is left with, if it was opened.
     CannotRecord(&'a str, io::Error, Option<Remains>),
     /// A thread is refused.
     NoThread,
@@ -120,13 +120,14 @@ impl<'a> From<AllocError> for Fault<'a> {
     }
 }
 
-/// Does what `arguments` ask for, of which the first is the program's name, and answers the status that
-/// the program ends with. What was asked for is written to `out`, and why it can't be had to `err`. The record of a run
-/// goes to the file that is named for it, behind that. Where `err` is a terminal, a search says there how far it is, and
-/// so does a run of a second or more, and answers are explained there unless an argument says otherwise. Turns that are to be told as they are made are told there.
+/// Does what `arguments` ask for, the program's name first, and returns the status that the program ends with. The
+/// answer is written to `out`, and the reason for having none to `err`. The record of a run goes to its file after
+/// that. If `err` is a terminal, a search shows there how far it is, and so does a run of a second or more, and
+/// answers are explained there unless an argument says otherwise. Turns that are to be reported as they are made are
+/// reported there.
 ///
-/// With any status but 2 and 5 all of the answer is written. Where one is given up, as with these, a beginning of it is, and
-/// nothing where there is none.
+/// With any status but 2 and 5 all of the answer is written. With these a beginning of it is, and nothing if there is
+/// none.
 pub fn serve<
     R: Threads + Wait + Clock + Sync + AllocGlobal,
     S: AsStr,
@@ -171,7 +172,7 @@ fn say<E: Write>(fault: &Fault<'_>, err: &mut E) -> io::Result<()> {
     err.flush()
 }
 
-/// What is said of a fault that is always told in the same words.
+/// The words of a fault that always has the same ones.
 fn words_of(fault: &Fault<'_>) -> &'static str {
     match fault {
         Fault::Usage(UsageFault::NoCommand) => "no command",
@@ -249,7 +250,7 @@ fn why_unwritten(kind: ErrorKind) -> &'static str {
     }
 }
 
-/// What is answered to the arguments: what they ask for, or help where they ask for that.
+/// The answer to the arguments: what they ask for, or help if they ask for that.
 #[tactic(auto, using(crate::proofs::ServedLemmas::response, crate::proofs::ServedLemmas::helped))]
 fn respond<'a, R: Threads + Wait + Clock + Sync + AllocGlobal, S: AsStr, F: Files, W: Watch + Tell>(
     rt: &R,
@@ -267,7 +268,7 @@ fn respond<'a, R: Threads + Wait + Clock + Sync + AllocGlobal, S: AsStr, F: File
     }
 }
 
-/// What is answered to arguments that ask for nothing to be done: help, where they ask for that.
+/// The answer to arguments that ask for nothing to be done: help, if they ask for that.
 #[tactic(auto, using(crate::proofs::ServedLemmas::help))]
 fn answer_unasked<'a, S: AsStr>(
     alloc: Global,
@@ -415,7 +416,7 @@ pub fn root_if(is_explained: bool, root: &Root) -> Option<&Root> {
     if is_explained { Some(root) } else { None }
 }
 
-/// What is answered where nothing is made of the source text, shown in its line of the text where that is run from a root.
+/// The answer if nothing is made of the source text, shown in its line of the text for a system with a root.
 pub fn answer_explained<'a>(
     alloc: Global,
     source: &Source,
@@ -434,8 +435,8 @@ pub fn answer_explained<'a>(
     answer_rejected(alloc, source, rejection, note)
 }
 
-/// The line of the source text in which something is refused, with carets, a sentence on the fault, where the text stands
-/// that it goes with, and where more is said of it.
+/// The line of the source text in which something is refused, with carets, a sentence on the fault, the place that
+/// belongs to it, and what more can be said.
 fn explanation(
     alloc: Global,
     source: &Source,
@@ -453,7 +454,7 @@ fn explanation(
     lines.finish()
 }
 
-/// Adds the same of a refusal that has a code.
+/// Adds the explanation of a refusal that has a code.
 fn push_explanation(
     alloc: Global,
     lines: &mut Lines,
@@ -484,7 +485,7 @@ fn push_excerpt(alloc: Global, lines: &mut Lines, source: &Source, span: Span) {
     }
 }
 
-/// Adds where a part of the source text stands that a fault goes with, and its line with carets.
+/// Adds the place of a part of the source text that belongs to a fault, and its line with carets.
 fn push_related(alloc: Global, lines: &mut Lines, source: &Source, related: Related) {
     if let Some(Place { file, line, column }) = source.place_of(related.span.start as usize) {
         lines.push_all(&[file, ":"]);
@@ -540,7 +541,7 @@ fn too_long_note(alloc: Global, name: &str) -> Result<Vec<u8>, AllocError> {
     lines.finish()
 }
 
-/// What is answered where nothing is made of the source text, with what is added on standard error.
+/// The answer if nothing is made of the source text, with what is added on standard error.
 fn answer_rejected<'a>(
     alloc: Global,
     source: &Source,
@@ -590,7 +591,7 @@ fn examine<'a>(alloc: Global, command: &Command, text: &str) -> Result<Answer<'a
     }
 }
 
-/// The answer of a line that tells a refusal, with what is added on standard error.
+/// The answer of a line that reports a refusal, with what is added on standard error.
 pub(crate) fn answer_refused<'a>(
     alloc: Global,
     line: &[u8],
@@ -606,7 +607,7 @@ pub(crate) fn answer_refused<'a>(
     Ok(refused(text, note))
 }
 
-/// The answer of a text that tells a refusal.
+/// The answer of a text that reports a refusal.
 fn refused<'a>(text: Vec<u8>, note: Vec<u8>) -> Answer<'a>
     ensures text { result.text ≡ text }
     ensures exit { result.exit ≡ Exit.Refused }

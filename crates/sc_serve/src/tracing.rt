@@ -1,4 +1,4 @@
-//! What is told of a run as it is made.
+//! The report on a run's turns as they are made.
 
 use crate::progress::Tell;
 use sc_arguments::Trace;
@@ -9,15 +9,15 @@ use sc_lockpass::Version;
 use sc_source::source::Source;
 use std::alloc::{AllocError, Global};
 
-/// Tells of the turns of a run that people are to follow.
+/// Reports the turns of a run that people follow.
 #[derive(Drop)]
 pub struct Tracing<'w, 'r, T> {
     teller: &'w mut T,
-    /// Makes the turns once more, where they are to be told.
+    /// Makes the turns once more, if they are to be reported.
     tracer: Option<Tracer<'r>>,
     /// How many lines of the record were gone through.
     seen: usize,
-    /// Whether memory was refused to what was to be told.
+    /// Whether memory was refused to what was to be reported.
     is_lacking: bool,
 }
 
@@ -32,7 +32,7 @@ impl<'w, 'r, T: Tell> Tracing<'w, 'r, T> {
         }
     }
 
-    /// Whether turns are told.
+    /// Whether turns are reported.
     pub fn is_told(&self) -> bool {
         self.tracer.is_some()
     }
@@ -47,12 +47,12 @@ impl<'w, 'r, T: Tell> Tracing<'w, 'r, T> {
         self.teller.show_run(turns, handlers)
     }
 
-    /// Whether memory was refused to what was to be told.
+    /// Whether memory was refused to what was to be reported.
     pub fn is_lacking(&self) -> bool {
         self.is_lacking
     }
 
-    /// Tells of the lines of a record that weren't gone through, where turns are told.
+    /// Reports the lines of a record that weren't gone through, if turns are reported.
     pub fn follow(&mut self, lines: &[RecordLine]) {
         if !self.is_told() {
             return;
@@ -63,10 +63,9 @@ impl<'w, 'r, T: Tell> Tracing<'w, 'r, T> {
         self.seen = lines.len();
     }
 
-    /// Tells of the lines of a whole record.
+    /// Reports the lines of a whole record.
     ///
-    /// # Errors
-    /// Where memory was refused to what was to be told.
+    /// # Errors Memory was refused to what was to be reported.
     pub fn follow_all(&mut self, lines: &[RecordLine]) -> Result<(), AllocError> {
         self.follow(lines);
         if self.is_lacking {
@@ -93,7 +92,7 @@ impl<'w, 'r, T: Tell> Tracing<'w, 'r, T> {
     }
 }
 
-/// What makes the turns of a run once more, where they are to be told.
+/// A tracer that makes the turns of a run once more, if they are to be reported.
 pub fn tracer_of<'r>(
     alloc: Global,
     source: &'r Source,

@@ -1,4 +1,4 @@
-//! What is told of a search: the lines of its verdict.
+//! The lines of a search's verdict.
 
 ghost use Rattle.std.specs.Prelude.{◌≡◌, ◌++◌, IfOk, OnOk};
 ghost use Rattle.sc_serve.specs.Search as spec;
@@ -46,7 +46,7 @@ fn push_finding(
     }
 }
 
-/// The line that tells that nothing was found: there is nothing where every order was played.
+/// The line that says that nothing was found: there is nothing if every order was played.
 fn nothing_of(sought: Sought, is_whole: bool) -> &'static str
     ensures { result.now ≡ spec.nothing_line sought is_whole }
 {
@@ -57,7 +57,7 @@ fn nothing_of(sought: Sought, is_whole: bool) -> &'static str
     }
 }
 
-/// The line that tells that no order at all does what was looked for.
+/// The line that says that no order at all does what was looked for.
 fn none_of(sought: Sought) -> &'static str
     ensures { result.now ≡ spec.none_line sought }
 {
@@ -96,7 +96,7 @@ fn push_length(alloc: Global, lines: &mut Vec<u8>, length: Length) -> Result<(),
     }
 }
 
-/// Adds how many outcomes were met, where nothing was found.
+/// Adds the number of outcomes that were met, if nothing was found.
 fn push_outcomes(
     alloc: Global,
     lines: &mut Vec<u8>,

@@ -1,4 +1,4 @@
-//! What people are told of a run on its way: its turns, where they are traced, and how far it is.
+//! What people see of a run on its way: its turns, if they are traced, and how far it is.
 
 use crate::progress::Tell;
 use crate::tracing::Tracing;
@@ -6,7 +6,7 @@ use crate::verdict::turns_of;
 use sc_plant::{Left, Watch};
 use std::time::{Clock, Instant};
 
-/// Behind how many looks the clock is read.
+/// After how many looks the clock is read.
 const LOOKS_BETWEEN: u32 = 64;
 
 /// How many milliseconds a run takes before it is shown how far it is.
@@ -20,7 +20,7 @@ const STEP: u128 = 200;
 struct Pace {
     began: Instant,
     looks: u32,
-    /// Behind how many milliseconds it is shown next.
+    /// After how many milliseconds it is shown next.
     due: u128,
 }
 
@@ -29,12 +29,12 @@ struct Pace {
 pub struct RunWatch<'w, 'r, C, T> {
     clock: &'w C,
     tracing: Tracing<'w, 'r, T>,
-    /// None where it isn't shown how far the run is.
+    /// None if it isn't shown how far the run is.
     pace: Option<Pace>,
 }
 
 impl<'w, 'r, C: Clock, T: Tell> RunWatch<'w, 'r, C, T> {
-    /// In front of the first turn. Where turns are told, or it isn't asked for, it isn't shown how far the run is; nor where
+    /// Before the first turn. How far the run is isn't shown if turns are reported, if it isn't asked for, or if
     /// there is no clock.
     pub fn new(clock: &'w C, tracing: Tracing<'w, 'r, T>, shows: bool) -> Self {
         let is_shown = shows && !tracing.is_told() && tracing.is_shown();
@@ -46,7 +46,7 @@ impl<'w, 'r, C: Clock, T: Tell> RunWatch<'w, 'r, C, T> {
         }
     }
 
-    /// Whether memory was refused to what was to be told.
+    /// Whether memory was refused to what was to be reported.
     pub fn is_lacking(&self) -> bool {
         self.tracing.is_lacking()
     }

@@ -22,14 +22,12 @@ pub trait Files {
     // The bytes of the file of a name, where they are known.
     ghost bytes_of: { Self → List ℕ → Option (List ℕ) } = { λ _ _. None };
 
-    /// Opens a file to be read. Fails where there is none, where it can't be opened and where memory
-    /// runs out.
+    /// Opens a file to be read. Fails if there is none, if it can't be opened, and if memory runs out.
     fn reader(&self, name: &str) -> io::Result<Self::Reader>
         ensures { IfOk result (λ reader. IfSome (bytes_of self.now name.now)
             (λ bytes. Self.Reader.remaining reader ≡ Some bytes)) };
 
-    /// Opens a file to be written, empty at first. Fails where it can't be opened or made and where
-    /// memory runs out.
+    /// Opens a file to be written, empty at first. Fails if it can't be opened or made, and if memory runs out.
     fn writer(&self, name: &str) -> io::Result<Self::Writer>;
 
     /// Puts what was written in the place of what stood in the file. Fails where that can't be done, and says what is left.

@@ -5,16 +5,16 @@ use sc_text::Span;
 use std::alloc::{AllocError, Global};
 use std::str;
 
-/// The most characters that are shown of a line before the part at fault, of that part, and behind it.
+/// The most characters that are shown of a line before the part at fault, of that part, and after it.
 const MOST: usize = 150;
 
 /// What is shown for what is left out of a long line.
 const LEFT_OUT: &str = "..";
 
-/// The line in which the part of a text begins, and a line with carets under the part, as far as it lies in that line: one
-/// caret at least. Below a tab stands a tab, and below any other character what is as wide on a terminal. Of a long line
-/// only what is near the part is shown, and a sign in place of each character that a terminal doesn't show. Nothing where
-/// the text ends before the part.
+/// The line in which the part of a text begins, and a line with carets under the part, as far as it is in that line:
+/// at least one caret. Below a tab is a tab, and below any other character what is as wide on a terminal. Of a long
+/// line only what is near the part is shown, and a sign in place of each character that a terminal doesn't show.
+/// Nothing if the text ends before the part.
 pub fn excerpt(alloc: Global, text: &[u8], span: Span) -> Result<Vec<u8>, AllocError> {
     let mut lines = String::new(alloc);
     if let Some((before, after)) = text.split_at_checked(span.start as usize) {
@@ -66,7 +66,7 @@ fn push_plain(lines: &mut String, carets: &mut String, text: &str) -> Result<(),
     push_under(carets, text, ' ')
 }
 
-/// Adds what stands behind the part at fault, where that is shown whole.
+/// Adds the rest after the part at fault, if that is shown whole.
 fn push_rest(lines: &mut String, is_cut: bool, rest: &[u8]) -> Result<(), AllocError> {
     if is_cut {
         return lines.push_str(LEFT_OUT);
@@ -79,7 +79,7 @@ fn push_rest(lines: &mut String, is_cut: bool, rest: &[u8]) -> Result<(), AllocE
     Ok(())
 }
 
-/// What stands behind the last line feed.
+/// The text after the last line feed.
 fn last_line(text: &[u8]) -> &[u8] {
     let mut start = 0;
     for (index, byte) in text.iter().enumerate() {
@@ -90,7 +90,7 @@ fn last_line(text: &[u8]) -> &[u8] {
     text.get(start..).unwrap_or(&[])
 }
 
-/// What stands before the first line feed, and before a carriage return in front of it.
+/// The text before the first line feed, and before a carriage return in front of it.
 fn first_line(text: &[u8]) -> &[u8] {
     for (index, byte) in text.iter().enumerate() {
         if *byte == b'\n' {
@@ -118,7 +118,7 @@ fn whole_length(text: &[u8], length: usize) -> usize {
     text.len()
 }
 
-/// The last characters of a text, so many at most.
+/// The last characters of a text, up to the limit.
 fn last_characters(text: &[u8]) -> &[u8] {
     let mut left = MOST;
     for index in (0..text.len()).rev() {
@@ -132,7 +132,7 @@ fn last_characters(text: &[u8]) -> &[u8] {
     text
 }
 
-/// The first characters of a text, so many at most.
+/// The first characters of a text, up to the limit.
 fn first_characters(text: &[u8]) -> &[u8] {
     let mut left = MOST;
     for (index, byte) in text.iter().enumerate() {
@@ -152,7 +152,7 @@ fn is_inner(byte: u8) -> bool {
     matches!(byte, 0x80..=0xbf)
 }
 
-/// The text of these bytes, which is nothing where they are none.
+/// The text of these bytes: nothing if they are no text.
 fn text_of(bytes: &[u8]) -> &str {
     str::from_utf8(bytes).unwrap_or("")
 }

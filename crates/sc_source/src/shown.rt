@@ -9,7 +9,7 @@ const FIRST_PICTURE: u32 = 0x2400;
 /// The sign that is shown in place of a deletion.
 const DELETION: char = '\u{2421}';
 
-/// The sign that is shown in place of any other character that changes how a terminal shows what stands beside it.
+/// The sign that is shown in place of any other character that changes how a terminal shows its neighbours.
 const UNKNOWN: char = '\u{fffd}';
 
 /// Adds a text with a sign in place of each character that a terminal doesn't show. Tabs are as they are.

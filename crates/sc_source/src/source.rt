@@ -59,7 +59,7 @@ struct SourceFile {
     length: usize,
 }
 
-/// Where something stands in the files: the line and the column count from 1, and a column is a byte.
+/// A place in the files: the line and the column count from 1, and a column is a byte.
 #[derive(Drop)]
 pub struct Place<'s> {
     pub file: &'s str,
@@ -173,8 +173,8 @@ impl Source {
         Ok(())
     }
 
-    /// Where the byte at `offset` of the whole text stands, or None where the text ends before it. The
-    /// line feed after a file's text stands in that file.
+    /// The place of the byte at `offset` of the whole text, or None if the text ends before it. The line feed after a
+    /// file's text belongs to that file.
     pub fn place_of(&self, offset: usize) -> Option<Place<'_>>
         ensures { option_map spec.seen result ≡ spec.place_of self.now offset }
     {

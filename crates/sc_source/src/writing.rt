@@ -1,7 +1,7 @@
 //! Files that are written whole or not at all.
 //!
-//! What is to stand in a file is written to a new one beside it, which takes its name at the end. A device or a pipe can't
-//! be replaced so: it is written to at once.
+//! What a file is to hold is written to a new one beside it, which takes its name at the end. A device or a pipe
+//! can't be replaced so: it is written to at once.
 
 use std::alloc::Global;
 use std::fs::{self, Metadata, OpenFile, OpenOptions};
@@ -15,7 +15,7 @@ pub enum Remains {
     Unchanged,
     /// A beginning of what was to be written: it is a device or a pipe.
     Beginning,
-    /// What it was. A beginning stands in the file of this name, which couldn't be removed.
+    /// What it was. A beginning is in the file of this name, which couldn't be removed.
     Beside(String),
 }
 
@@ -47,10 +47,9 @@ impl<F: Write> Write for SystemWriter<F> {
 }
 
 impl<F: OpenFile + Drop> SystemWriter<F> {
-    /// Begins a file of this name. Where there is one that can be replaced, it stays until `commit`.
+    /// Begins a file of this name. If there is one that can be replaced, it stays until `commit`.
     ///
-    /// # Errors
-    /// Where it can't be opened to be written or no new file can be made beside it, and where memory runs out.
+    /// # Errors It can't be opened to be written, no new file can be made beside it, or memory runs out.
     pub fn open<R: Files<File = F> + AllocGlobal>(rt: &R, name: &str) -> io::Result<Self> {
         match fs::metadata(rt, name) {
             Ok(metadata) if metadata.is_file() => Self::open_over(rt, name, metadata),
@@ -63,7 +62,7 @@ impl<F: OpenFile + Drop> SystemWriter<F> {
         }
     }
 
-    /// The same, of a file that is there: links stay, and so do its permissions.
+    /// Begins a file over one that exists: links stay, and so do its permissions.
     fn open_over<R: Files<File = F> + AllocGlobal>(
         rt: &R,
         name: &str,

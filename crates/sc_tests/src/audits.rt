@@ -23,14 +23,14 @@ use std::time::Clock;
 /// What an audit answers.
 type Answer = Result<(), AuditFault>;
 
-/// What stands on the left of the bar in rows.
+/// What rows have to the left of the bar.
 #[derive(Clone, Copy)]
 enum Says {
     /// Lines of a record, each a handler and its turns. A row is a line.
     Lines(Version),
-    /// The text of a record. Between two rows stands a line with a sign.
+    /// The text of a record. A line with a sign is between two rows.
     Text,
-    /// The same, of which each byte in turn is each other one.
+    /// The text of a record, with each byte in turn replaced by each other one.
     Altered,
 }
 
@@ -295,7 +295,7 @@ const ROWS: &str = "0 1|differs 0
 0 5, 512 1|bad 3
 0 5, 0 9999996|bad 3";
 
-/// The same of the first version.
+/// The first rows in the first version.
 const FIRST_ROWS: &str = "0 4|differs 0
 0 5|yes
 0 6|yes
@@ -309,8 +309,8 @@ fn other_records(rt: HostRuntime) -> Result<(), Fail> {
     expect(&rt, FIVE_TURNS, &[second, first])
 }
 
-/// 6 to 9 turns are as good as 5, of which the rest change nothing. In both versions the first line has one byte that may be the
-/// other version's.
+/// 6 to 9 turns are as good as 5: the others change nothing. In both versions the first line has one byte that may be
+/// the other version's.
 const FIVE_TURNS_ANSWERS: &str = "scoop record 1
 0 5
 end 1
@@ -353,7 +353,7 @@ const RELAY_RECORD: &str = "scoop record 2
 end 21
 |yes";
 
-/// The same, and how many of the texts that are it but for a byte have each answer.
+/// A record, and how many of the texts that differ from it in one byte have each answer.
 const RELAY_ALTERED: &str = "scoop record 2
 0 2
 1 1

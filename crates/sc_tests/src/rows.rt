@@ -1,9 +1,9 @@
-//! Rows of text: what stands on both sides of a bar, and whether what is found is what a row wants.
+//! Rows of text: what is on both sides of a bar, and whether what is found is what a row wants.
 
 use std::process::Abort;
 use std::test::Fail;
 
-/// What stands before the first bar of a row, and behind it.
+/// The parts of a row before its first bar and after it.
 pub fn halves_of(row: &str) -> Result<(&str, &str), Fail> {
     match row.split_once('|') {
         Some(halves) => Ok(halves),

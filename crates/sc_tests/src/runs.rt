@@ -141,8 +141,8 @@ pub fn expect_report<R: Abort + AllocGlobal + Threads + Wait + Clock + Sync>(
     Ok(())
 }
 
-/// The report of what a run leaves, whose audit says yes. A replay of its record reports the same, also where memory was refused
-/// on the way, which leaves something where a turn began.
+/// The report of what a run leaves, whose audit says yes. A replay of its record reports the same, also if memory was
+/// refused on the way, which leaves a turn's beginning undone.
 fn reported<R: Abort + Threads + Wait + Clock + Sync>(
     rt: &R,
     alloc: Global,
@@ -179,7 +179,7 @@ fn audited<R: Abort>(
     }
 }
 
-/// The report of what is left, which a replay of its record tells too.
+/// The report of what is left, which a replay of its record prints, too.
 fn replayed<R: Abort>(
     rt: &R,
     alloc: Global,

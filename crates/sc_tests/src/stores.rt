@@ -29,8 +29,8 @@ const RUN: usize = 1;
 /// Current, if there is a frame; of each object whether it is settled, whether it meets its invariant, and its
 /// attributes; and the output.
 ///
-/// An object that a request makes comes first, without a procedure and by one, then one that a routine makes. At the end
-/// of a routine its object is settled where no other routine runs on it. Where no routine runs, nothing is written and
+/// An object that a request makes comes first, without a procedure and by one, then one that a routine makes. At the
+/// end of a routine its object is settled if no other routine runs on it. If no routine runs, nothing is written and
 /// nothing ends. An attribute is no routine, and a function of one formal takes one actual.
 const STORES: &str = "|runs
 born LOW|runs; settled meets 0
@@ -63,8 +63,8 @@ born LOW run, set 7, fail|Check; open meets 7
 print a, print bc|runs; printed abc
 born LOW run, print a, print bc, fail|Check; open meets 0; printed abc";
 
-/// Calls of a store without objects, and how the topmost routine stands then: its number, what began it, what it does,
-/// its slots, its Result, and whether there is room for an `old` and for an operand.
+/// Calls of a store without objects, and the topmost routine after them: its number, what began it, what it does, its
+/// slots, its Result, and whether there is room for an `old` and for an operand.
 const FRAMES: &str = "|none
 born LOW run|1 RequestedCreation Runs at 0 [] None false false
 born LOW run, make LOW run|1 Creation Runs at 0 [] None false false
@@ -78,7 +78,7 @@ born LOW run, push 1 ask 3, pop|1 RequestedCreation Runs at 0 [] None false fals
 enum Step<'t> {
     /// An object of the class is made by a request, and the routine entered on it, if there is one.
     Born(ClassNumber, Option<usize>),
-    /// The same by a routine.
+    /// A routine makes an object, by this procedure or without one.
     Make(ClassNumber, Option<usize>),
     /// The routine is entered on the object of the number, with this actual, if there is one.
     Push(ObjectNumber, usize, Option<i64>),
@@ -303,7 +303,7 @@ fn play<R: Abort + AllocGlobal>(rt: &R, store: &mut Store<'_>, steps: &str) -> R
     Ok(())
 }
 
-/// What is told of the store after these calls, or of its topmost routine.
+/// The text on the store after these calls, or on its topmost routine.
 fn told_after<R: Abort + AllocGlobal>(
     rt: &R,
     program: &Program,

@@ -144,8 +144,8 @@ fn told_object(region: &LoggedRegion<'_>) -> &'static str {
     }
 }
 
-/// The job is played. Where memory is refused to its first turn nothing is noted, and it is played once more. Where it is
-/// refused to a later one the job ends before that, and the row is out of memory.
+/// Plays the job. If memory is refused to its first turn, nothing is noted, and it is played once more. If it is
+/// refused to a later one, the job ends before that, and the row is out of memory.
 fn play(rt: &impl Abort, region: &mut LoggedRegion<'_>, job: &Job, limit: u32) -> Result<(), Fail> {
     if limit == 0 {
         return Err(Fail::new("a job without turns"));
@@ -181,7 +181,7 @@ fn play_jobs<R: Abort>(
     Ok(())
 }
 
-/// What is told of a handler after these jobs.
+/// The text on a handler after these jobs.
 fn told_after<R: Abort + AllocGlobal>(
     rt: &R,
     program: &Program,

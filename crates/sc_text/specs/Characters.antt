@@ -50,15 +50,15 @@ is_name_part c = is_ascii_alphanumeric c || c == underscore
 abbrev pub is_comment_part : ℕ → Bool
 is_comment_part c = not (c == line_feed)
 
--- what a manifest string can't hold, since it stands on one line
+-- what a manifest string can't hold, since it is on one line
 abbrev pub ends_line : ℕ → Bool
 ends_line c = c == line_feed || c == carriage_return
 
--- what stands for itself in a manifest string
+-- what means itself in a manifest string
 abbrev pub is_plain : ℕ → Bool
 is_plain c = not (c == quote || c == percent || ends_line c)
 
--- the character that a mark stands for, by what follows its percent sign
+-- the character that an escape means, by what follows its percent sign
 abbrev pub escape : ℕ → Option ℕ
 escape c =
     if c == byte "N" then Some line_feed
@@ -73,12 +73,12 @@ abbrev pub begins_with : (ℕ → Bool) → List ℕ → Bool
 begins_with is_part [] = false
 begins_with is_part (c ∷ cs) = is_part c
 
--- whether a digit comes next, behind underscores or at once
+-- whether a digit comes next, after underscores or at once
 abbrev pub digit_follows : List ℕ → Bool
 digit_follows [] = false
 digit_follows (c ∷ cs) = if is_underscore c then digit_follows cs else is_digit c
 
--- the number that digits write behind those of n; underscores between them count for nothing
+-- the number that digits write after those of n; underscores between them count for nothing
 abbrev pub decimal_from : ℕ → List ℕ → ℕ
 decimal_from n [] = n
 decimal_from n (c ∷ cs) = decimal_from (if is_digit c then 10 * n + (c - 48) else n) cs

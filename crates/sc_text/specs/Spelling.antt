@@ -12,7 +12,7 @@ use Rattle.sc_text.specs.Kind.{Kind, NAME, INTEGER, STRING, TERMINAL, kind_of}
 use Rattle.sc_text.specs.Characters.{is_white_space, is_letter, is_digit, is_underscore, is_name_part, is_comment_part, ends_line, is_plain, escape, begins_with, digit_follows, decimal, quote, percent, hyphen}
 use Rattle.sc_text.specs.Words.{reserved, long_symbol, short_symbol, goes_on}
 
--- so many bytes from this place
+-- the span of this length at this place
 abbrev pub span_at : ℕ → ℕ → Span
 span_at place n = record { start = place; end = place + n }
 
@@ -20,7 +20,7 @@ span_at place n = record { start = place; end = place + n }
 abbrev pub max_source_bytes : ℕ
 max_source_bytes = 1048576
 
--- a token, and where it stands in the text
+-- a token, and its place in the text
 pub record Lexeme : Type 0 where
   pub kind : Kind
   pub span : Span
@@ -43,7 +43,7 @@ pub data IsInteger : List ℕ → Type 0 where
   digit : {d : ℕ} (us : List ℕ) {ds : List ℕ} → IsTrue (is_digit d) → IsTrue (list_all is_underscore us) →
       IsInteger ds → IsInteger (d ∷ (us ++ ds))
 
--- what stands between the quotes of a manifest string, and the characters that it is read as
+-- the text between the quotes of a manifest string, and the characters that it is read as
 pub data IsManifest : List ℕ → List ℕ → Type 0 where
   nothing : IsManifest [] []
   itself : {c : ℕ} {cs vs : List ℕ} → IsTrue (is_plain c) → IsManifest cs vs → IsManifest (c ∷ cs) (c ∷ vs)
@@ -92,9 +92,9 @@ Spells text ts = BeginsWith 0 text ts (length text) []
 
 -- ---- what is wrong
 
--- What stands at this place is no token, white space or comment: a character that begins none of them, a manifest
--- string that no quote closes on its line or that has a percent sign without a mark, or an integer that is too large.
--- At fault are the character, the opening quote, the percent sign, or the digits.
+-- At this place is no token, white space or comment: a character that begins none of them, a manifest string that no
+-- quote closes on its line or that has a percent sign without an escape, or an integer that is too large. At fault
+-- are the character, the opening quote, the percent sign, or the digits.
 pub data IsFault : ℕ → List ℕ → LexFault → Type 0 where
   bad_character : {place c : ℕ} {rest : List ℕ} →
       IsFalse (is_white_space c || is_letter c || is_digit c || c == quote) → short_symbol c ≡ None →
@@ -126,7 +126,7 @@ IsRefused text (fault.UnclosedString span) = HasFault text (fault.UnclosedString
 IsRefused text (fault.BadEscape span) = HasFault text (fault.BadEscape span)
 IsRefused text (fault.IntegerTooLarge span) = HasFault text (fault.IntegerTooLarge span)
 
--- From this place on the tokens stand one after the other within the text, and each is spelled by its own slice of it.
+-- From this place on the tokens follow one another within the text, and each is spelled by its own slice of it.
 abbrev pub StandInOrder : List ℕ → ℕ → List Lexeme → Type 0
 StandInOrder text from [] = from ≤ length text
 StandInOrder text from (t ∷ ts) =

@@ -24,14 +24,14 @@ pub fn is_comment_part(byte: u8) -> bool
     byte != b'\n'
 }
 
-/// Whether the character ends the line that a manifest string stands on.
+/// Whether the character ends the line of a manifest string.
 pub fn ends_line(byte: u8) -> bool
     ensures { result ≡ ends_line byte }
 {
     byte == b'\n' || byte == b'\r'
 }
 
-/// The character that a mark stands for, by what follows its percent sign.
+/// The character that an escape means, by what follows its percent sign.
 pub fn escape(byte: u8) -> Option<u8>
     ensures { result ≡ escape byte }
 {

@@ -13,7 +13,7 @@ pub enum LexFault {
     /// L1: no token, white space or comment begins with the byte at `span`.
     #[error("no token begins with the character at {}", .span.start)]
     BadCharacter { span: Span },
-    /// L2: no quote closes, on the same line, the manifest string that the quote at `span` opens.
+    /// L2: the manifest string that the quote at `span` opens isn't closed on its line.
     #[error("the string at {} is not closed on its line", .span.start)]
     UnclosedString { span: Span },
     /// L3: the percent sign at `span`, in a manifest string, begins none of the marks `%N`, `%T`,

@@ -20,7 +20,7 @@ use std::rc::Rc;
 /// The greatest number of bytes of a text.
 pub const MAX_SOURCE_BYTES: usize = 1_048_576;
 
-/// What stands at one place of a text, with the number of its bytes.
+/// What begins at one place of a text, with its length in bytes.
 #[derive(Drop)]
 enum Piece {
     /// White space or a comment.
@@ -65,7 +65,7 @@ pub fn lex(alloc: Global, text: &str) -> Result<Vec<Token>, LexFault>
     Ok(tokens)
 }
 
-/// So many bytes from this place.
+/// The span of this length at this place.
 fn span_at(place: usize, length: usize) -> Span
     requires { place + length ≤ u32.MAX }
     ensures { result ≡ span_at place length }
@@ -76,7 +76,7 @@ fn span_at(place: usize, length: usize) -> Span
     }
 }
 
-/// What stands at this place of the text.
+/// What begins at this place of the text.
 #[tactic(auto, unfolding(crate::specs::Reading::Front::front))]
 fn piece_at(alloc: Global, words: &mut Words, text: &str, place: usize) -> Result<Piece, LexFault>
     requires within { place < length text.now }
@@ -112,7 +112,7 @@ fn word(words: &mut Words, text: &str, place: usize) -> Result<Piece, LexFault>
     Ok(Piece::Token { kind, length })
 }
 
-/// The integer at the front of the text, which stands at this place.
+/// The integer at the front of the text, whose place this is.
 #[tactic(auto, unfolding(crate::specs::Reading::Front::integer))]
 fn integer(text: &[u8], place: usize) -> Result<Piece, LexFault>
     requires { place + length text.now ≤ u32.MAX }
@@ -182,7 +182,7 @@ fn marks_read(alloc: Global, text: &str, place: usize) -> Result<String, LexFaul
     Ok(value)
 }
 
-/// The character that the mark at the front of the text stands for.
+/// The character that the escape at the front of the text means.
 fn mark(text: &[u8]) -> Option<u8>
     ensures value { result ≡ spec.mark_ahead text.now }
     ensures ascii { IsSome result → (1 < length text.now) × (slice_index text.now 1 < 128) }
@@ -193,7 +193,7 @@ fn mark(text: &[u8]) -> Option<u8>
     }
 }
 
-/// The comment or the symbol at the front of the text, which stands at this place.
+/// The comment or the symbol at the front of the text, whose place this is.
 #[tactic(auto, unfolding(crate::specs::Reading::Front::symbol))]
 fn symbol(text: &[u8], place: usize) -> Result<Piece, LexFault>
     requires some { 0 < length text.now }

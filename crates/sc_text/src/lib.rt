@@ -1,6 +1,6 @@
-//! Tokens of Eiffel source text: names, integers, manifest strings, reserved words and symbols, each
-//! with the place where it stands (ECMA-367, 8.32). `lex` gives the tokens that a text spells, or the
-//! first fault in it. What it means for a text to spell tokens stands in `specs/Spelling`.
+//! Tokens of Eiffel source text: names, integers, manifest strings, reserved words and symbols, each with its place
+//! (ECMA-367, 8.32). `lex` returns the tokens that a text spells, or the first fault in it. What it means for a text
+//! to spell tokens is in `specs/Spelling`.
 #![tactic(auto)]
 
 mod characters;

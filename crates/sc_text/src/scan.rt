@@ -85,8 +85,8 @@ pub fn number(digits: &[u8]) -> Option<i64>
     Some(value as i64)
 }
 
-/// Where the quote stands that closes a manifest string, whose text follows. A percent sign and the
-/// character after it count as one.
+/// The place of the quote that closes a manifest string whose text follows. A percent sign and the character after it
+/// count as one.
 pub fn closing_quote(text: &[u8]) -> Option<usize>
     ensures value { result ≡ closing 0 false text.now }
     ensures found { IfSome result (λ at. (at < length text.now) × (slice_index text.now at ≡ quote)) }

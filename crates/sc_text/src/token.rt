@@ -1,4 +1,4 @@
-//! What a source text is read as: tokens, each with the place where it stands.
+//! What a source text is read as: tokens, each with its place.
 
 use std::rc::Rc;
 
@@ -102,7 +102,7 @@ pub enum Terminal {
 /// What a token is.
 #[derive(Drop)]
 pub enum TokenKind {
-    /// An identifier, in lower case. One that a text has again and again is mostly the same in memory.
+    /// An identifier, in lower case. Tokens with the same identifier mostly share it in memory.
     Name(Rc<String>),
     /// The value of an integer, which is not negative.
     Integer(i64),
@@ -112,7 +112,7 @@ pub enum TokenKind {
     Terminal(Terminal),
 }
 
-/// A token and where it stands in the source text.
+/// A token and its place in the source text.
 #[derive(Drop)]
 pub struct Token {
     pub kind: TokenKind,

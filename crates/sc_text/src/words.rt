@@ -22,7 +22,7 @@ struct Word {
     ghost is_looked_up: { reserved (string_bytes text.value) ≡ terminal },
 }
 
-/// The words that a text has had, each at the place that is told with it: the last one of those of one place.
+/// The words that a text has had, each at a place of a table: of several words with one place, the last.
 #[derive(Drop)]
 pub struct Words {
     alloc: Global,
@@ -64,7 +64,8 @@ impl Words {
         Ok(Words { alloc, kept })
     }
 
-    /// The name or the reserved word that a word is. Where it was told with the same place before it is mostly in memory.
+    /// The name or the reserved word that a word is. A word that was the last one with its place is taken from
+    /// memory.
     pub fn token_kind(&mut self, word: &str, place: usize) -> Result<TokenKind, AllocError>
         ensures { IfOk result (λ kind. kind_of kind ≡ kind_of_word word.now (reserved word.now)) }
     {

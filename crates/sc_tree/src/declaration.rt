@@ -11,7 +11,7 @@ pub enum HandlerTag {
     Own,
     /// `separate`: they may be any handler's.
     Separate,
-    /// `separate <x.handler>`: they are of the handler of what this name stands for.
+    /// `separate <x.handler>`: they belong to the handler of this name's object.
     HandlerOf(Rc<Name>),
 }
 
@@ -19,7 +19,7 @@ pub enum HandlerTag {
 #[derive(Drop)]
 pub struct DeclaredType {
     pub span: Span,
-    /// Whether it stands for `Void` too; a type with no mark is attached.
+    /// Whether `Void` is allowed, too; a type with no mark is attached.
     pub is_detachable: bool,
     pub tag: HandlerTag,
     pub class: Rc<Name>,

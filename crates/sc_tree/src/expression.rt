@@ -8,7 +8,7 @@ use crate::declaration::DeclaredType;
 use sc_text::Span;
 use std::rc::Rc;
 
-/// A name and where it stands, in lower case.
+/// A name in lower case, and its place.
 #[derive(Drop)]
 pub struct Name {
     pub text: Rc<String>,
@@ -31,7 +31,7 @@ impl Name {
     }
 }
 
-/// An operator that stands before its operand.
+/// An operator before its operand.
 #[derive(Clone, Copy)]
 pub enum UnaryOperator {
     Not,
@@ -117,7 +117,7 @@ pub enum Expr {
 }
 
 impl Expr {
-    /// Where its text stands, without parentheses around it.
+    /// The place of its text, without parentheses around it.
     #[tactic(auto, unfolding(crate::specs::View::expr_of))]
     pub fn span(&self) -> Span
         ensures { result ≡ properties.span_of (expr_of self.now) }

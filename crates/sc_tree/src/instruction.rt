@@ -18,7 +18,7 @@ pub struct CreationCall {
     pub actuals: Vec<Expr>,
 }
 
-/// An assertion clause, with its tag where it has one.
+/// An assertion clause, with its tag if it has one.
 #[derive(Drop)]
 pub struct Clause {
     pub tag: Option<Name>,
@@ -44,9 +44,9 @@ pub enum Instr {
     Call(Call),
     /// `create variable`, with the call that follows it
     Create(Span, Variable, Option<CreationCall>),
-    /// `if`, with its condition and what stands under `then`, the `elseif`s, and what stands under `else`
+    /// `if`: its condition, the instructions under `then`, each `elseif`, and the instructions under `else`
     If(Span, Expr, Vec<Instr>, Vec<Branch>, Vec<Instr>),
-    /// A loop: what stands under `from`, the condition to leave it, and what stands under `loop`
+    /// A loop: the instructions under `from`, the condition that ends it, and the instructions under `loop`
     Loop(Span, Vec<Instr>, Expr, Vec<Instr>),
     /// `check`, with its clauses
     Check(Span, Vec<Clause>),
@@ -54,7 +54,7 @@ pub enum Instr {
     Block(Span, Vec<Head>, Vec<Instr>),
 }
 
-/// An `elseif` and what stands under it.
+/// An `elseif` and the instructions under it.
 #[cycle(instructions)]
 #[derive(Drop)]
 pub struct Branch {

@@ -23,8 +23,8 @@ pub use laws::{canonical_text_spells, canonical_text_stays, canonical_tokens_spe
 use sc_text::Terminal;
 use std::alloc::{AllocError, Global};
 
-/// The canonical text of a system: the one that stands for all that spell it, whatever their layout, comments,
-/// notes and parentheses. Its error says that memory ran out.
+/// The canonical text of a system: one text for all that differ only in layout, comments, notes and parentheses. Its
+/// error says that memory ran out.
 #[tactic(auto, unfolding(crate::specs::Canonical::canonical_text, crate::specs::View::system_of))]
 pub fn print_system(alloc: Global, system: &System) -> Result<Vec<u8>, AllocError>
     ensures { IfOk result (λ text. text.items ≡ canonical_text (system_of system.now)) }
@@ -43,12 +43,12 @@ pub fn print_system(alloc: Global, system: &System) -> Result<Vec<u8>, AllocErro
 struct Printer {
     alloc: Global,
     text: Vec<u8>,
-    /// Whether a space stands before the line's next token, if that doesn't stand close.
+    /// Whether a space comes before the line's next token, unless that token is written close.
     is_apart: bool,
 }
 
 impl Printer {
-    /// The space before a token, where one stands.
+    /// Writes the space before a token, if there is one.
     fn gap(&mut self, is_close: bool) -> Result<(), AllocError>
         ensures text { OnOk result (self.new.text.items ≡ self.old.text.items ++ gap self.old.is_apart is_close) }
         ensures same { self.new.is_apart ≡ self.old.is_apart }
@@ -70,7 +70,7 @@ impl Printer {
         Ok(())
     }
 
-    /// A token that stands apart from those around it, where they allow it.
+    /// Writes a token, with a space on each side that allows one.
     fn token(&mut self, text: &[u8]) -> Result<(), AllocError>
         ensures text { OnOk result
             (self.new.text.items ≡ self.old.text.items ++ (gap self.old.is_apart false ++ text.now)) }
@@ -139,7 +139,7 @@ impl Printer {
         self.token(digits.as_bytes())
     }
 
-    /// A character of a manifest string, with a mark where it can't stand in one.
+    /// Writes a character of a manifest string, as an escape if it must be one.
     fn marked(&mut self, byte: u8) -> Result<(), AllocError>
         ensures text { OnOk result (self.new.text.items ≡ self.old.text.items ++ marked byte) }
         ensures same { self.new.is_apart ≡ self.old.is_apart }
@@ -155,7 +155,7 @@ impl Printer {
         self.text.extend_from_slice(written)
     }
 
-    /// The characters of a manifest string, each with its mark where it needs one.
+    /// Writes the characters of a manifest string, each as an escape if it must be one.
     fn manifest(&mut self, text: &[u8]) -> Result<(), AllocError>
         ensures text { OnOk result (self.new.text.items ≡ self.old.text.items ++ manifest text.now) }
         ensures same { self.new.is_apart ≡ self.old.is_apart }

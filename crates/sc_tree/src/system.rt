@@ -15,7 +15,7 @@ pub struct System {
     pub classes: Vec<Class>,
 }
 
-/// A word before `class`, and where it stands.
+/// A word before `class`, and its place.
 #[derive(Drop)]
 pub enum ClassMark {
     Deferred(Span),
@@ -49,10 +49,10 @@ pub struct Parent {
 /// A feature. Of `a, b: INTEGER` each name is a feature of its own.
 #[derive(Drop)]
 pub struct Feature {
-    /// The classes that it is exported to: to all where none stands here. `{ANY}` leaves none here, and
-    /// `{}` leaves `NONE`. Features that stand under one `feature` share their list.
+    /// The classes that may use it: every class if this is empty. `{ANY}` is empty here, and `{}` is `NONE`. Features
+    /// under one `feature` share their list.
     pub exports: Rc<Vec<Name>>,
-    /// Whether it stands under the same `feature` as the one before it.
+    /// Whether it is under the same `feature` as the one before it.
     pub is_further: bool,
     pub name: Name,
     pub kind: FeatureKind,
@@ -65,7 +65,7 @@ pub enum FeatureKind {
     Routine(Routine),
 }
 
-/// A routine: a function where it has a result type, else a procedure.
+/// A routine: a function if it has a result type, else a procedure.
 #[derive(Drop)]
 pub struct Routine {
     pub formals: Vec<Declaration>,

@@ -29,7 +29,7 @@ pub mod positions;
 pub mod typing;
 
 impl<'t, 's> RoutineContext<'t, 's> {
-    /// Judges the type that an object test tests for, where one is written.
+    /// Judges the type that an object test tests for, if one is written.
     pub fn judge_tested(&self, declared: &Option<DeclaredType>) -> Result<(), CheckFault>
         ensures { Passes (judging.judge_tested (routine_in self.now) (type_if_any declared.now)) result }
     {
@@ -87,7 +87,7 @@ impl<'t, 's> RoutineContext<'t, 's> {
         }
     }
 
-    /// Judges what stands before the dot of a call; it is Current where nothing does.
+    /// Judges what is before the dot of a call, or Current if there is no dot.
     #[cycle(expressions)]
     #[tactic(auto, unfolding(sc_rules::specs::Judging::judge, sc_tree::specs::View::expr_of))]
     fn receiver(

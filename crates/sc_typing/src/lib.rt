@@ -1,9 +1,9 @@
-//! Typing: what a name stands for in the text of a routine, and the type that an expression has there, or the first
-//! rule that fails in it. The rules are those of `sc_rules`.
+//! Typing: the meaning of a name in the text of a routine, and the type of an expression there, or the first rule
+//! that fails in it. The rules are those of `sc_rules`.
 //!
 //! A [`RoutineContext`] is the routine, or the invariant, whose text is judged: [`RoutineContext::expression`],
-//! [`RoutineContext::call`] and [`RoutineContext::condition`] judge a part of it, where the names that are known are
-//! given as [`Entity`]s.
+//! [`RoutineContext::call`] and [`RoutineContext::condition`] judge a part of it, with the names in scope given as
+//! [`Entity`]s.
 #![tactic(auto)]
 
 mod declarations;

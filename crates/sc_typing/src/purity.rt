@@ -9,7 +9,7 @@ mod numbering;
 pub use marks::Marks;
 pub use numbering::Numbering;
 
-/// A test that tells the pure functions of a system from its other features.
+/// A test that separates the pure functions of a system from its other features.
 #[derive(Drop)]
 pub enum Purity<'t, 's> {
     /// Every function is taken for pure.

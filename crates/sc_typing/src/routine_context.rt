@@ -1,4 +1,4 @@
-//! What the names of a text stand for (ECMA-367, 8.5, 8.8, 8.19 and 8.23).
+//! The meanings of the names of a text (ECMA-367, 8.5, 8.8, 8.19 and 8.23).
 
 ghost use Rattle.std.specs.Prelude.{◌≡◌, map, string_bytes};
 ghost use Rattle.std.specs.Option.{option_map};
@@ -23,7 +23,7 @@ use std::alloc::Global;
 pub struct RoutineContext<'t, 's> {
     pub alloc: Global,
     pub tables: &'t Tables<'s>,
-    /// The number of the class that it stands in.
+    /// The number of the class that it belongs to.
     pub class: usize,
     pub formals: &'s [Declaration],
     /// The type of Result, if it is a function; it is none where the declaration is faulty.
@@ -56,7 +56,7 @@ pub struct Signature<'s> {
     pub is_secret: bool,
 }
 
-/// What a name stands for.
+/// What a name means.
 #[derive(Drop)]
 pub enum Meaning<'s> {
     /// Nothing.
@@ -84,7 +84,7 @@ pub fn is_print(name: &str) -> bool
     name == "print"
 }
 
-/// A feature behind a target of this type.
+/// A feature after a target of this type.
 #[tactic(auto, unfolding(sc_tree::specs::View::feature_of, sc_tree::specs::View::kind_of))]
 fn signature_of<'s>(tables: &Tables, target: EntityType, entry: FeatureEntry<'s>) -> Signature<'s>
     ensures { signature_in (system_in tables.now) result
@@ -109,7 +109,7 @@ fn signature_of<'s>(tables: &Tables, target: EntityType, entry: FeatureEntry<'s>
     }
 }
 
-/// What a name stands for behind a target of this type, by the feature that is found.
+/// What a name means after a target of this type, by the feature that is found.
 fn meaning_of_feature<'s>(
     tables: &Tables,
     target: EntityType,
@@ -177,7 +177,7 @@ impl<'t, 's> RoutineContext<'t, 's> {
         }
     }
 
-    /// What a name stands for that is no entity: `print`, or a feature of the class.
+    /// What a name means that is no entity: `print`, or a feature of the class.
     fn feature_meaning(&self, name: &str) -> Meaning<'s>
         ensures { meaning_in (system_in self.now.tables.now) result
             ≡ spec.feature_meaning (routine_in self.now) name.now }
@@ -189,7 +189,7 @@ impl<'t, 's> RoutineContext<'t, 's> {
         meaning_of_feature(self.tables, self.current(), entry)
     }
 
-    /// What a name stands for without a target.
+    /// What a name means without a target.
     fn unqualified_meaning(&self, names: &[Entity], name: &str) -> Meaning<'s>
         ensures { meaning_in (system_in self.now.tables.now) result
             ≡ spec.unqualified_meaning (routine_in self.now) (map entity_of names.now) name.now }
@@ -200,7 +200,7 @@ impl<'t, 's> RoutineContext<'t, 's> {
         }
     }
 
-    /// What a name stands for behind a target of this type.
+    /// What a name means after a target of this type.
     pub fn qualified_meaning(&self, target: EntityType, name: &str) -> Meaning<'s>
         ensures { meaning_in (system_in self.now.tables.now) result
             ≡ spec.qualified_meaning (routine_in self.now) target name.now }
@@ -209,7 +209,7 @@ impl<'t, 's> RoutineContext<'t, 's> {
         meaning_of_feature(self.tables, target, entry)
     }
 
-    /// What a name stands for in a call, whose target has this type, if it has one.
+    /// What a name means in a call, after a target of this type if it has one.
     pub fn meaning_of(
         &self,
         names: &[Entity],

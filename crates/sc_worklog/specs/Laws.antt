@@ -6,13 +6,13 @@ use Rattle.sc_handler.specs.declared.settlement.Settlement.{Settlement}
 use Rattle.sc_play.specs.Regions.{PlainRegion, new_region}
 use Rattle.sc_worklog.specs.Replaying.{AreMade, IsUnrefused, Replays}
 
--- Where no memory was refused, the turns of the entries lead from a new region to this one.
+-- If no memory was refused, the turns of the entries lead from a new region to this one.
 abbrev pub UnrefusedReplaysAreTurns : Type 0
 UnrefusedReplaysAreTurns =
     (p : Image) (h : ℕ) (es : List Settlement) (x : PlainRegion) (r : Replays p h es x) → IsUnrefused p h es x r →
     AreMade es (new_region p h) x
 
--- Where they lead there, the entries replay to it, and no memory was refused.
+-- If they lead there, the entries replay to it, and no memory was refused.
 abbrev pub TurnsReplay : Type 0
 TurnsReplay =
     (p : Image) (h : ℕ) (es : List Settlement) (x : PlainRegion) → AreMade es (new_region p h) x →

@@ -1,4 +1,4 @@
--- What a region with its log stands for.
+-- What a region with its log represents.
 use Rattle.std.specs.Prelude.{List}
 use Rattle.sc_handler.specs.declared.settlement.Settlement.{Settlement}
 use Rattle.sc_handler.specs.Logged.{settlements_of}

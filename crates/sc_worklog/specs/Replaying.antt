@@ -1,4 +1,4 @@
--- What the log of a region tells, and that it replays to the region.
+-- What the log of a region has, and that it replays to the region.
 use Rattle.std.specs.Prelude.{◌≡◌, ℕ, List, [], ◌∷◌, ◌++◌, false}
 use Rattle.sc_code.specs.declared.program.Image.{Image}
 use Rattle.sc_region.specs.declared.job.Job.{Job}
@@ -12,9 +12,9 @@ use Rattle.sc_play.specs.Turns.{Turns}
 abbrev pub entry_of : Job → Outcome → Settlement
 entry_of j o = record { handler = o.handler; job = j; turns = o.turns; want = o.want }
 
--- The entries replay to this region, which is that of the handler of the number, for the program. Where there is none,
--- it is new. A play of a job leads on from a region to which the entries before replay, and has its own entry behind
--- them. A play that was refused memory leads on without an entry.
+-- The entries replay to this region, which is that of the handler of the number, for the program. Without entries,
+-- it is new. A play of a job leads on from a region to which the entries before replay, and adds its own entry. A
+-- play that was refused memory leads on without an entry.
 pub data Replays (p : Image) (h : ℕ) : List Settlement → PlainRegion → Type 0 where
   opened : Replays p h [] (new_region p h)
   played : {es : List Settlement} {x y : PlainRegion} {limit : ℕ} {j : Job} {o : Outcome} →

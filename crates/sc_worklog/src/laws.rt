@@ -1,13 +1,13 @@
 //! What it means that a log replays to a region, each law the contract of a function that does nothing.
 ghost use Rattle.sc_worklog.specs.Laws.{EntriesAreTheHandlers, TurnsReplay, UnrefusedReplaysAreTurns};
 
-/// Where no memory was refused, the entries' turns, one after the other, lead from a new region to this one: each entry's
-/// under its job, as many as it says, and the last asks its want.
+/// If no memory was refused, the turns of the entries, one after the other, lead from a new region to this one: each
+/// entry's under its job, as many as it says, and the last wants what it says.
 pub fn unrefused_replays_are_turns()
     ensures { UnrefusedReplaysAreTurns }
 {}
 
-/// Where they lead there, the entries replay to it, and no memory was refused.
+/// If they lead there, the entries replay to it, and no memory was refused.
 pub fn turns_replay()
     ensures { TurnsReplay }
 {}

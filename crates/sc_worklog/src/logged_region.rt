@@ -24,7 +24,7 @@ pub struct LoggedRegion<'p> {
     pub ghost replays: { ∥ Replays region.store.program region.handler (settlements_of log) region ∥₁ },
 }
 
-/// Notes so many turns of a handler under a job, the last of which asked this, where there is room.
+/// Notes this number of turns of a handler under a job, the last of which wanted this, if there is room.
 fn note(log: &mut Log, handler: HandlerNumber, job: &Job, turns: u32, asked: &Want)
     requires { HasPlaces 1 log.old }
     ensures { settlements_of log.new ≡ settlements_of log.old ++ entry_of job.now (outcome handler turns asked.now) ∷ [] }
@@ -68,13 +68,12 @@ impl<'p> LoggedRegion<'p> {
         }
     }
 
-    /// The first turn is that of the job; further ones follow as long as nothing is asked and fewer than `limit` are made.
-    /// Where memory is refused to one of these, they end before it. The log has one more entry then, that of the job and of
-    /// its outcome.
+    /// Makes the first turn of the job, and further ones as long as they want nothing and fewer than `limit` are
+    /// made. If memory is refused to one of these, they end before it. The log then has one more entry, with the job
+    /// and its outcome.
     ///
-    /// # Errors
-    /// Where memory is refused to the log, and nothing has changed; or where it is refused to the first turn: the log is as
-    /// it was, and the job can be played again and goes on where it stopped.
+    /// # Errors Memory ran out for the log, and nothing has changed; or for the first turn: the log is as it was, and
+    /// the job can be played again and goes on where it stopped.
     pub fn play(&mut self, job: &Job, limit: u32) -> Result<Outcome, AllocError>
         requires { 1 ≤ limit }
         ensures ok { IfOk result (λ outcome. Plays limit job.now (region_of self.old) (region_of self.new) outcome) }
@@ -93,7 +92,7 @@ impl<'p> LoggedRegion<'p> {
         })
     }
 
-    /// The same, where what is asked is written into a place: how many turns are made.
+    /// Plays a job as `play` does, and writes what its last turn wants into a place: returns how many turns are made.
     pub fn play_asking(
         &mut self,
         job: &Job,

@@ -25,7 +25,7 @@ kept_of w = record { state = core.kept_of w.core; regions = contents_at w.region
 
 -- ---- laws
 
--- A world in which nobody is out, with a region for each handler that there may be, all of them of the program.
+-- A world in which no handler is out, with a region for each handler that there may be, all of them of the program.
 pub record IsOf (p : Image) (limit : ℕ) (w : PlainWorld) : Type 0 where
   pub most : w.most ≡ limit
   pub nobody_out : (h : ℕ) → w.center.out h ≡ None
@@ -36,7 +36,7 @@ pub record IsOf (p : Image) (limit : ℕ) (w : PlainWorld) : Type 0 where
 abbrev pub with_last : ℕ → PlainWorld → PlainWorld
 with_last h w = record w { center = record w.center { last = h } }
 
--- Worlds of one program of which the same is kept are the same, but for the handler picked last.
+-- Worlds of one program whose kept parts are equal are equal, apart from the handler picked last.
 abbrev pub KeptAlikeAreAlike : Type 0
 KeptAlikeAreAlike = (p : Image) (most : ℕ) (w v : PlainWorld) → IsOf p most w → IsOf p most v → kept w ≡ kept v →
     with_last v.center.last w ≡ v

@@ -1,4 +1,4 @@
--- How the handlers of a world stand, and the report of a run.
+-- The statuses of a world's handlers, and the report of a run.
 use Rattle.std.specs.Prelude.{ℕ, zero, suc, ◌-◌, Bool, true, false, ◌||◌, List, [], ◌∷◌, ◌++◌, Option, Some, None, length, map, codes, slice_get}
 use Rattle.std.specs.Fmt.{decimal}
 use Rattle.std.specs.List.{range_with_len}
@@ -9,7 +9,7 @@ use Rattle.sc_request.specs.Logs.{status_in}
 use Rattle.sc_play.specs.Regions.{PlainRegion}
 use Rattle.sc_world.specs.Worlds.{PlainWorld}
 
--- how each handler stands, in order of number
+-- the status of each handler, in order of number
 abbrev pub statuses : PlainWorld → List Status
 statuses w = map (λ h. status_in h w.center) (range_with_len 0 w.center.state.count)
 
@@ -19,14 +19,14 @@ is_busy Busy = true
 is_busy Waiting = false
 is_busy Free = false
 
--- one of so many handlers has something to do
+-- one of the first `n` handlers has a job
 abbrev pub some_is_busy : ℕ → PlainWorld → Bool
 some_is_busy zero w = false
 some_is_busy (suc n) w = is_busy (status_in n w.center) || some_is_busy n w
 
 -- ---- text
 
--- the line of a handler, which refused so many requests, and its output with a line feed behind it
+-- the line of a handler, which refused this number of requests, and its output with a line feed after it
 abbrev pub handler_report : ℕ → Status → ℕ → List ℕ → List ℕ
 handler_report h status refused output =
     codes "handler " ++ decimal h ++ codes " " ++ status_text status
@@ -42,7 +42,7 @@ abbrev pub report_of : ℕ → PlainWorld → List ℕ
 report_of h w =
     handler_report h (status_in h w.center) (w.center.state.handlers h).refused (output_in (slice_get w.regions h))
 
--- the last so many handlers
+-- the last `n` handlers
 abbrev pub handlers_report : ℕ → PlainWorld → List ℕ
 handlers_report zero w = []
 handlers_report (suc n) w = report_of (w.center.state.count - suc n) w ++ handlers_report n w

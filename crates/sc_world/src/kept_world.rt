@@ -23,10 +23,9 @@ impl<'p> World<'p> {
     ghost use Rattle.sc_world.specs.Kept.{kept, kept_of};
     ghost use Rattle.sc_world.specs.Views.{world_of};
 
-    /// What the world holds, to be kept. The world goes.
+    /// What the world holds, to be kept. The world is consumed.
     ///
-    /// # Errors
-    /// Where there is no memory. The world is gone then, too.
+    /// # Errors Memory ran out. The world is gone then, too.
     pub fn keep(self) -> Result<KeptWorld<'p>, AllocError>
         ensures { IfOk result (λ world. kept_of world ≡ kept (world_of self.entry)) }
     {
@@ -35,8 +34,8 @@ impl<'p> World<'p> {
         Ok(KeptWorld { core, regions })
     }
 
-    /// A number that differs for most worlds that hold something else. Nothing is promised of it. It takes time for each handler
-    /// that there is, for what it holds, and for each request that stands at it.
+    /// A hash of what the world holds. No contract says which number it is. It takes time for each handler, for what
+    /// it holds, and for each request in its queue.
     pub fn hash(&self) -> u64 {
         let mut hasher = FoldHasher::default();
         hasher.write_u64(self.core.hash());
@@ -51,7 +50,8 @@ impl<'p> KeptWorld<'p> {
     ghost use Rattle.sc_world.specs.Kept.{kept, kept_of};
     ghost use Rattle.sc_world.specs.Views.{world_of};
 
-    /// Whether a world holds what is kept: the core's state, and in each region the same objects, frames, output and failure.
+    /// Whether a world holds what is kept: an equal state of the core, and in each region equal objects, frames,
+    /// output and failure.
     pub fn is_same(&self, world: &World<'_>) -> bool
         ensures { IsTrue result ↔ kept_of self.now ≡ kept (world_of world.now) }
     {
@@ -83,14 +83,14 @@ fn used(regions: &[Region<'_>]) -> usize
     count
 }
 
-/// Whether the region of a handler is new. Where there is none, it is.
+/// Whether the region of a handler is new, or there is none.
 fn is_new_at(regions: &[Region<'_>], handler: HandlerNumber) -> bool
     ensures { IsTrue result ↔ contents_at regions.now handler ≡ new_contents handler }
 {
     same_at(regions, &[], handler)
 }
 
-/// Whether the regions of all handlers hold the same, where all past these are new.
+/// Whether the regions of all handlers hold the same, if all after these are new.
 fn same_regions(regions: &[Region<'_>], others: &[Region<'_>]) -> bool
     requires few { length regions.now ≤ 512 }
     requires few_others { length others.now ≤ 512 }
@@ -104,7 +104,7 @@ fn same_regions(regions: &[Region<'_>], others: &[Region<'_>]) -> bool
     true
 }
 
-/// Whether the regions of a handler hold the same, where one that there isn't is new.
+/// Whether the regions of a handler hold the same. A missing one counts as new.
 fn same_at(regions: &[Region<'_>], others: &[Region<'_>], handler: HandlerNumber) -> bool
     ensures { IsTrue result ↔ contents_at regions.now handler ≡ contents_at others.now handler }
 {

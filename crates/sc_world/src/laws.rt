@@ -31,9 +31,9 @@ pub fn stopped_rounds_stay_linked()
     ensures { StoppedRoundsStayLinked }
 {}
 
-/// In each world that there is, each object of a handler that is free, and so hasn't failed, meets its class invariant.
+/// In every world, each object of a handler that is free, and so hasn't failed, meets its class invariant.
 ///
-/// What a store keeps is known where it stands, so the region is looked up. Nothing of it is tested.
+/// The type of a store keeps this fact, so the region is looked up and nothing is tested.
 pub fn free_objects_meet(world: &World<'_>, handler: HandlerNumber)
     ensures { FreeObjectsMeet handler (world_of world.now) }
 {
@@ -42,7 +42,7 @@ pub fn free_objects_meet(world: &World<'_>, handler: HandlerNumber)
     }
 }
 
-/// At the opening of a program all regions are of it, and nobody is out,
+/// At the opening of a program all regions belong to it, and no handler is out.
 pub fn openings_are_of_their_program()
     ensures { OpeningsAreOf }
 {}
@@ -57,7 +57,7 @@ pub fn attempts_stay_of_their_program()
     ensures { AttemptsStayOf }
 {}
 
-/// Worlds of one program of which the same is kept are the same, but for the handler picked last.
+/// Worlds of one program whose kept parts are equal are equal, apart from the handler picked last.
 pub fn kept_alike_are_alike()
     ensures { KeptAlikeAreAlike }
 {}

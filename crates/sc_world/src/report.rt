@@ -8,7 +8,7 @@ ghost use Rattle.sc_world.specs.Reports as told;
 use sc_model::{Cause, Status};
 use std::alloc::{AllocError, Global};
 
-/// Adds a handler's line, and its output with a line feed behind it.
+/// Adds a handler's line, and its output with a line feed after it.
 pub fn push_handler(
     alloc: Global,
     report: &mut Vec<u8>,

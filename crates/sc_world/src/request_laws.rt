@@ -4,8 +4,8 @@ ghost use Rattle.sc_world.specs.Requests.Links.{FreeRegionsRest, LinkedObjectsMe
 ghost use Rattle.sc_world.specs.Requests.Settlements.{OthersServe, SettlementsServe};
 ghost use Rattle.sc_world.specs.Requests.Turns.{FirstTurnsServe, FurtherTurnsServe, RefusedRegionsServe, RegionsServe};
 
-/// The first turn under a job begins to serve a request where it takes that, and ends one where it asks so; no other
-/// frame of a request comes or goes, unless the turn asks for a failure.
+/// The first turn under a job begins to serve a request if it takes one, and ends one if it wants to; no other frame
+/// of a request comes or goes, unless the turn wants a failure.
 pub fn first_turns_serve()
     ensures { FirstTurnsServe }
 {}
@@ -26,8 +26,7 @@ pub fn refused_regions_serve()
     ensures { RefusedRegionsServe }
 {}
 
-/// In a settlement the handler serves one request more where it took one, and one less where one is done, unless it
-/// fails.
+/// In a settlement the handler serves one request more if it took one, and one less if one is done, unless it fails.
 pub fn settlements_serve()
     ensures { SettlementsServe }
 {}

@@ -35,14 +35,15 @@ pub enum Turned {
 /// How many handlers there may be in any version.
 const MAX_HANDLERS: u16 = 512;
 
-/// A world of handlers, of which number 0 begins with the creation of the root object.
+/// A world of handlers; number 0 begins with the creation of the root object.
 ///
-/// Each handler serves in the core what its region serves. So the region of a handler that is free has no frames, and each
-/// of its objects meets its class invariant ([`free_objects_meet`](crate::laws::free_objects_meet)).
+/// Each handler serves in the core what its region serves. So the region of a handler that is free has no frames, and
+/// each of its objects meets its class invariant ([`free_objects_meet`](crate::laws::free_objects_meet)).
 ///
-/// Turns that were made, and turns that memory was refused to, lead to the world from the opening of a program, in any mix. A turn
-/// that was refused leaves the core and the other regions as they are, and its own region but for silent operations of a routine
-/// that goes on. The handler keeps its job, and its next turn goes on from there as if memory had never been refused.
+/// Turns that were made, and turns that memory was refused to, lead to the world from the opening of a program, in
+/// any mix. A turn that was refused leaves the core and the other regions as they are, and its own region but for
+/// silent operations of a routine that goes on. The handler keeps its job, and its next turn goes on from there as if
+/// memory had never been refused.
 #[derive(Drop)]
 pub struct World<'p> {
     pub(crate) alloc: Global,
@@ -58,11 +59,10 @@ impl<'p> World<'p> {
     ghost use Rattle.sc_request.specs.Logs.{next, pick_for};
     ghost use Rattle.sc_world.specs.Views.{world_of};
 
-    /// The world of a program at its opening, where there may be as many handlers as the version has. What grows later
-    /// takes its memory from this allocator.
+    /// The world of a program at its opening, with the version's limit on handlers. Further memory comes from this
+    /// allocator.
     ///
-    /// # Errors
-    /// Where there is no memory.
+    /// # Errors Memory ran out.
     pub fn open(
         alloc: Global,
         program: &'p Program,
@@ -77,11 +77,10 @@ impl<'p> World<'p> {
         })
     }
 
-    /// The turn of one handler: its silent steps, up to and with the next visible one.
+    /// Makes the turn of one handler: its silent steps, up to and with the next visible one.
     ///
-    /// # Errors
-    /// Where there is no memory. Then nothing has changed, but that silent steps of the turn may be done: it is still to be made,
-    /// and the machine stands where it stood.
+    /// # Errors Memory ran out. Then nothing has changed, but that silent steps of the turn may be made: the turn is
+    /// still to be made, and the machine is in the same state.
     pub fn turn(&mut self, handler: HandlerNumber) -> Result<Turned, AllocError>
         ensures ok { OnOk result (IsTurn handler (world_of self.old) (world_of self.new)) }
         ensures turned { IfOk result (λ turned. turned ≡ turned_by (pick_for handler (world_of self.old).center)) }
@@ -97,10 +96,10 @@ impl<'p> World<'p> {
         }
     }
 
-    /// The turns of the handlers, one after the other.
+    /// Makes the turns of the handlers, one after the other.
     ///
-    /// # Errors
-    /// Where there is no memory. Then the world stands after the turns before, but that silent steps of the next may be done.
+    /// # Errors Memory ran out. The world is then the one after the turns before, but that silent steps of the next
+    /// may be made.
     pub fn turns(&mut self, handlers: &[HandlerNumber]) -> Result<(), AllocError>
         ensures ok { OnOk result (Runs handlers.now (world_of self.old) (world_of self.new)) }
         ensures err { OnErr result ((n : ℕ) × StopsBehind n handlers.now (world_of self.old) (world_of self.new)) }
@@ -124,10 +123,11 @@ impl<'p> World<'p> {
         (handlers.len(), Ok(()))
     }
 
-    /// So many turns of one handler. Once it has nothing to do, the others would change nothing, and are left out.
+    /// Makes this number of turns of one handler. Once it has no job, the others would change nothing, and are left
+    /// out.
     ///
-    /// # Errors
-    /// Where there is no memory. Then the world stands after the turns before, but that silent steps of the next may be done.
+    /// # Errors Memory ran out. The world is then the one after the turns before, but that silent steps of the next
+    /// may be made.
     pub fn turns_of(&mut self, handler: HandlerNumber, count: u32) -> Result<(), AllocError>
         ensures ok { OnOk result (Runs (replicate count handler) (world_of self.old) (world_of self.new)) }
         ensures err { OnErr result ((n : ℕ) ×
@@ -147,11 +147,10 @@ impl<'p> World<'p> {
         Ok(())
     }
 
-    /// A handler plays so many turns at most under the job that it has, and they are settled as one: how many, none where it has
-    /// nothing to do. Fewer are made where one asks something.
+    /// Plays at most this number of turns of a handler under its job, and settles them as one. Returns how many: none
+    /// if it has no job, and fewer if one wants something.
     ///
-    /// # Errors
-    /// Where memory is refused to one of them, perhaps behind others.
+    /// # Errors Memory is refused to one of them, perhaps after others.
     fn turns_under_job(&mut self, handler: HandlerNumber, limit: u32) -> Result<u32, AllocError>
         requires { 1 ≤ limit }
         ensures ok { IfOk result (λ turns. TurnsUnderJob limit handler turns (world_of self.old) (world_of self.new)) }
@@ -170,12 +169,11 @@ impl<'p> World<'p> {
         }
     }
 
-    /// A turn of each handler, in order of number and round and round, until none has anything to do or so many turns are
-    /// made. It begins behind the handler that made the last turn.
+    /// Makes a turn of each handler, in order of number and round and round, until none has a job or this number of
+    /// turns are made. It begins after the handler that made the last turn.
     ///
-    /// # Errors
-    /// Where there is no memory. Then the world stands after the turns before, also where several are made at once, but that
-    /// silent steps of the next may be done.
+    /// # Errors Memory ran out. The world is then the one after the turns before, also if several are made at once,
+    /// but that silent steps of the next may be made.
     pub fn rounds(&mut self, limit: u32) -> Result<(), AllocError>
         ensures ok { OnOk result (EndsRounds limit (world_of self.old) (world_of self.new)) }
         ensures err { OnErr result (StopsRounds limit (world_of self.old) (world_of self.new)) }
@@ -194,8 +192,8 @@ impl<'p> World<'p> {
         Ok(())
     }
 
-    /// The next handler that has something to do makes a turn; or as many as are left, where it would be the next again
-    /// after each. Answers how many. Err where memory is refused to one of them, which may be behind others.
+    /// Makes a turn of the next handler that has a job; or as many as are left, if it would be the next again after
+    /// each. Returns how many. Err if memory is refused to one of them, which may be after others.
     fn next_turns(&mut self, left: u32) -> Result<u32, AllocError>
         requires { 1 ≤ left }
         ensures ok { IfOk result (λ turns.
@@ -223,17 +221,16 @@ impl<'p> World<'p> {
         self.core.handler_count()
     }
 
-    /// How a handler stands, or None where there is no such handler.
+    /// The status of a handler, or None if there is no such handler.
     pub fn status(&self, handler: HandlerNumber) -> Option<Status>
         ensures { result ≡ core.status_for handler (world_of self.now).center }
     {
         self.core.status(handler)
     }
 
-    /// How each handler stands, in order of number.
+    /// The status of each handler, in order of number.
     ///
-    /// # Errors
-    /// Where there is no memory.
+    /// # Errors Memory ran out.
     pub fn statuses(&self) -> Result<Vec<Status>, AllocError>
         ensures { IfOk result (λ statuses. statuses.items ≡ told.statuses (world_of self.now)) }
     {
@@ -261,23 +258,22 @@ impl<'p> World<'p> {
         &self.core
     }
 
-    /// The region of a handler, or None where there can be no such handler in any version.
+    /// The region of a handler, or None if no version has such a handler.
     pub fn region(&self, handler: HandlerNumber) -> Option<&Region<'p>>
         ensures { option_map (λ region. region.now) result ≡ slice_get (world_of self.now).regions handler }
     {
         self.regions.get(handler as usize)
     }
 
-    /// Where a handler was as it failed, or else is now, to be told to people; None where there is no such handler. Nothing
-    /// is promised of it: no turn depends on it.
+    /// Where a handler was as it failed, or else is now, to be shown to people; None if there is no such handler. It
+    /// has no contract: no turn depends on it.
     pub fn breakdown(&self, handler: HandlerNumber) -> Option<Breakdown> {
         Some(self.regions.get(handler as usize)?.breakdown())
     }
 
     /// Each handler's line and output, and how the run has ended.
     ///
-    /// # Errors
-    /// Where there is no memory.
+    /// # Errors Memory ran out.
     pub fn report(&self) -> Result<Vec<u8>, AllocError>
         ensures { IfOk result (λ report. report.items ≡ told.report (world_of self.now)) }
     {
@@ -319,8 +315,8 @@ fn regions<'p>(alloc: Global, program: &'p Program) -> Result<Vec<Region<'p>>, A
     Ok(regions)
 }
 
-/// How many turns a handler that is out may make at once, of so many that are left: all where it is the next one again as
-/// long as they ask nothing.
+/// How many turns a handler that is out may make at once, if this number is left: all, if it is the next one again as
+/// long as they want nothing.
 fn turns_at_once(core: &mut Core, handler: HandlerNumber, left: u32) -> u32
     ensures turns { (job : Job) → (center_of core.old).out handler ≡ Some job → result ≡ turns_at_once left job (center_of core.old) }
     ensures center { center_of core.new ≡ center_of core.old }
@@ -338,8 +334,8 @@ fn are_cut_short(limit: u32, turns: u32, asked: &Want) -> bool
     turns < limit && matches!(asked, Want::Continue)
 }
 
-/// The handler, which is out, plays at most so many turns under its job, and is settled: how many it played, and whether
-/// memory was refused to the next. Err where it was refused to the first: the handler is put back.
+/// Plays at most this number of turns of a handler that is out under its job, and settles it. Returns how many it
+/// played, and whether memory was refused to the next. Err if it was refused to the first: the handler is put back.
 fn play(
     core: &mut Core,
     region: &mut Region<'_>,
@@ -369,7 +365,7 @@ fn play(
     Ok((turns, cut_short))
 }
 
-/// The handler, which is out, plays as many turns under its job as it may make at once, of so many that are left.
+/// Plays as many turns of a handler that is out under its job as it may make at once, if this number is left.
 fn play_on(
     core: &mut Core,
     region: &mut Region<'_>,

@@ -27,7 +27,7 @@ fn main(rt: HostRuntime) -> ExitCode {
     ExitCode::from(status)
 }
 
-/// The arguments of the command line, of which the first is the program's name.
+/// The arguments of the command line, the program's name first.
 fn command_line(rt: &HostRuntime) -> Result<Vec<String>, Fault<'static>> {
     match std::env::args(rt) {
         Ok(arguments) => Ok(arguments.collect(rt.alloc())?),

@@ -6,8 +6,8 @@ ghost use Rattle.sc_arguments.specs.Asked as spec;
 use std::alloc::{AllocError, Global};
 use std::convert::AsStr;
 
-/// What is given to a command by these words, in order: those that are no options and no values of options. Behind `--` it is
-/// all of them.
+/// The arguments that these words give to a command, in order: those that are no options and no values of options.
+/// After `--` all of them are.
 pub fn given_in<'a, S: AsStr>(alloc: Global, words: &'a [S]) -> Result<Vec<&'a str>, AllocError>
     ensures { IfOk result (λ given. map (λ text. text.now) given.items ≡ spec.given_in false (map S.text words.entry.now)) }
 {
@@ -31,7 +31,7 @@ pub fn given_in<'a, S: AsStr>(alloc: Global, words: &'a [S]) -> Result<Vec<&'a s
     Ok(given)
 }
 
-/// Whether there are no options behind a word.
+/// Whether no options come after a word.
 fn ends_options(word: &str) -> bool
     ensures { result ≡ spec.ends_options word.now }
 {

@@ -21,11 +21,11 @@ pub struct Taken {
     pub value_names: &'static [&'static str],
     /// What each value has to be.
     pub parser: ValueParser<'static>,
-    /// The value where it isn't used.
+    /// The value if it isn't used.
     pub default: &'static [&'static str],
     /// The value of a use without one.
     pub missing: &'static [&'static str],
-    /// Whether its value stands behind `=`.
+    /// Whether its value follows `=`.
     pub needs_equals: bool,
     /// The options that a use of this one undoes.
     pub undone: &'static [&'static str],
@@ -92,7 +92,7 @@ pub const OUTPUT_LIMIT: Taken = Taken {
     ..OPTION
 };
 
-/// The option `--trace`, whose value stands behind `=` if it has one.
+/// The option `--trace`; its value, if it has one, follows `=`.
 pub const TRACE: Taken = Taken {
     name: "trace",
     help: TRACE_HELP,

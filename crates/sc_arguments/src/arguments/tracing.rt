@@ -1,9 +1,9 @@
-//! The option `--trace`: which turns of a run are told as they are made.
+//! The option `--trace`: which turns of a run are reported as they are made.
 
 use crate::arguments::UsageFault;
 use clap::ArgMatches;
 
-/// Which turns of a run are told.
+/// Which turns of a run are reported.
 #[derive(Clone, Copy)]
 pub enum Trace {
     /// Those that print, and those that concern other handlers: requests, creations, reservations, waits, refusals and failures.
@@ -25,7 +25,8 @@ pub fn read_trace(options: &ArgMatches<'_>) -> Option<Trace> {
     }
 }
 
-/// What is traced of a run by so many workers: only one of them makes the turns in an order that can be told.
+/// What is traced of a run by this number of workers: only one of them makes the turns in an order that can be
+/// reported.
 pub fn read_trace_by(options: &ArgMatches<'_>, workers: u8) -> Result<Option<Trace>, UsageFault> {
     match read_trace(options) {
         Some(_) if workers > 1 => Err(UsageFault::TracedWorkers),

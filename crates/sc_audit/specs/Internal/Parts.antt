@@ -22,6 +22,6 @@ title = codes "scoop record "
 abbrev pub head_of : Version → List RecordLine → List ℕ
 head_of version lines = first_line version ++ flat_map line_text lines
 
--- these lines, and the last one behind so many
+-- these lines, and the last one after `n` others
 abbrev pub rest_of : List RecordLine → ℕ → List ℕ
 rest_of lines count = flat_map line_text lines ++ last_line count

@@ -56,7 +56,7 @@ pub record IsKept (b : Beginning) : Type 0 where
 abbrev pub read_of : Beginning → List ℕ
 read_of b = bytes_read b.version b.lines.items b.expected
 
--- the line in which the next byte stands, behind so many lines that are whole
+-- the line of the next byte, after `n` whole lines
 abbrev pub line_at : ℕ → Expected → ℕ
 line_at count (expected.Title read) = 1
 line_at count expected.VersionNumber = 1
@@ -67,7 +67,7 @@ line_at count _ = count + 2
 abbrev pub line_of : Beginning → ℕ
 line_of b = line_at (length b.lines.items) b.expected
 
--- What comes next where this byte goes on to a record, and None only where it goes on to none.
+-- What may follow if this byte goes on to a record, and None only if it goes on to none.
 abbrev pub GoesOn : Beginning → ℕ → Option Expected → Type 0
 GoesOn b byte next = MatchOption next (¬ BeginsRecord (read_of b ++ byte ∷ []))
     (λ e. IsOpen b.version b.lines.items e × (bytes_read b.version b.lines.items e ≡ read_of b ++ byte ∷ []))

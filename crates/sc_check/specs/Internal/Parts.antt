@@ -38,7 +38,7 @@ judge_creation_call h n t x es = do
       (judged_actuals h context.Body n es) (typing t false)
   required (is_made_by_if_any h.system t x) NotCreation x.span
 
--- what stands under a condition
+-- the instructions under a condition
 abbrev pub judge_branch : RoutineContext → Entities → Expr → Instrs → Judged (Unit {0})
 judge_branch h n e body = do
   _ ← judge_condition h context.Body Condition n e
@@ -51,7 +51,7 @@ judge_block h n ds body = do
   m ← judge_heads h n n ds
   judge_instrs h m body
 
--- a head of a block, where so many names of blocks are known in its body
+-- a head of a block, with this number of block names in scope in its body
 abbrev pub judge_head : RoutineContext → Entities → ℕ → Head → Judged Entity
 judge_head h n j d = do
   t ← judge h context.Body Plain n d.value
@@ -71,7 +71,7 @@ judge_loop h n initial e body = do
   _ ← judge_condition h context.Body Plain n e
   judge_instrs h n body
 
--- the text of a routine behind its types: its precondition, locals, body and postcondition
+-- the text of a routine after its types: its precondition, locals, body and postcondition
 abbrev pub judge_text : RoutineContext → List Clause → List Declaration → Instrs → List Clause → Judged (Unit {0})
 judge_text h pre locals is post = do
   _ ← judge_each (judge_clause h context.Require (formals_known h.system h.formals)) pre

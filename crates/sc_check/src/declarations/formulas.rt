@@ -142,7 +142,7 @@ pub fn may_be_formula(tables: &Tables, class: usize, e: &Expr) -> bool
     }
 }
 
-/// Where a clause stands: from its tag, if it has one, to the end of its condition.
+/// The place of a clause: from its tag, if it has one, to the end of its condition.
 pub fn clause_span(clause: &Clause) -> Span
     ensures { result ≡ rules.clause_span (tag_of clause.now.tag) (expr_of clause.now.condition) }
 {
@@ -155,7 +155,7 @@ pub fn clause_span(clause: &Clause) -> Span
     }
 }
 
-/// Whether the rule stands behind the one on the form of an invariant's clause.
+/// Whether the rule comes after the one on the form of an invariant's clause.
 fn is_late(rule: Rule) -> bool
     ensures { result ≡ judging_system.is_late rule }
 {
@@ -166,14 +166,14 @@ fn is_late(rule: Rule) -> bool
     }
 }
 
-/// Whether two places are the same.
+/// Whether two places are equal.
 fn is_same_span(one: Span, other: Span) -> bool
     ensures { result ≡ judging_system.is_same_span one other }
 {
     one.start == other.start && one.end == other.end
 }
 
-/// The form of a clause, behind what is judged of its expression, but before a later rule that fails at the same place.
+/// Judges the form of a clause, after its expression, but before a later rule that fails at the same place.
 pub fn judge_form(
     is_formula: bool,
     span: Span,

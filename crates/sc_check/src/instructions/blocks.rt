@@ -26,7 +26,8 @@ fn separate_any() -> EntityType
     }
 }
 
-/// Judges a head of a block, where so many names of blocks are known in its body, and gives the name that it has there.
+/// Judges a head of a block, with this number of block names in scope in its body, and returns the name that it has
+/// there.
 #[tactic(auto, unfolding(sc_tree::specs::View::head_of))]
 fn judge_head<'s>(
     routine: &RoutineContext<'_, 's>,

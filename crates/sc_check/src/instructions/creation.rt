@@ -86,7 +86,7 @@ fn is_made_by_if_any(tables: &Tables, created: Option<EntityType>, name: &Name) 
     }
 }
 
-/// What the procedure of a creation stands for behind an entity of this type, if it has one.
+/// The meaning of a creation's procedure, after an entity of this type, if it has one.
 fn creation_meaning<'s>(
     routine: &RoutineContext<'_, 's>,
     created: Option<EntityType>,

@@ -123,7 +123,7 @@ fn add_heads<'s>(
     Ok(())
 }
 
-/// Adds what is done in a condition and in what stands under it.
+/// Adds the effects of a condition and of the instructions under it.
 #[cycle(instruction_effects)]
 #[tactic(auto, using(crate::proofs::purity::EffectSteps::added_two))]
 fn add_branch_effects<'s>(

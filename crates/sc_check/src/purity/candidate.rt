@@ -50,7 +50,7 @@ pub fn is_pure_candidate(kind: &FeatureKind) -> bool
     }
 }
 
-/// What is done in the body of a routine of the class at the number, behind what these hold.
+/// Adds the effects of the body of a routine of this class to these.
 fn add_body<'s>(
     alloc: Global,
     tables: &Tables<'s>,

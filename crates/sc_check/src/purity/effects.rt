@@ -24,7 +24,7 @@ pub enum Effect<'s> {
     RoutineCall(FeatureEntry<'s>),
 }
 
-/// Adds that something is done that no pure function does, where it is.
+/// Adds a side effect, which no pure function has, if there is one.
 pub fn add_side_effect_if(effects: &mut Vec<Effect>, is_done: bool) -> Result<(), CheckFault>
     ensures { Adds effects.old.items effects.new.items (spec.side_effect_if is_done) result }
 {
@@ -35,7 +35,7 @@ pub fn add_side_effect_if(effects: &mut Vec<Effect>, is_done: bool) -> Result<()
     Ok(())
 }
 
-/// Adds a call of the routine, where it is one.
+/// Adds a call of the routine, if it is one.
 fn add_routine<'s>(
     effects: &mut Vec<Effect<'s>>,
     routine: Option<FeatureEntry<'s>>,

@@ -26,7 +26,7 @@ fn mark_all(search: &mut Search, numbers: &[usize]) -> Result<(), AllocError>
     Ok(())
 }
 
-/// Marks the feature at the number, where there is one.
+/// Marks the feature at the number, if there is one.
 fn mark_if_any(search: &mut Search, number: Option<usize>) -> Result<(), AllocError>
     requires { (k : ℕ) → number ≡ Some k → k < length search.old.impure.items }
     ensures { OnOk result (MarksAll (λ k. number ≡ Some k) search.old search.new) }
@@ -57,7 +57,8 @@ fn mark_named(
     Ok(())
 }
 
-/// Records what a feature does: it is marked where no pure function does that, and is a caller of what it calls.
+/// Records an effect of a feature: marks it if no pure function has that effect, and makes it a caller of what it
+/// calls.
 fn record_effect(
     numbering: &Numbering,
     search: &mut Search,
@@ -85,7 +86,7 @@ fn record_effect(
     }
 }
 
-/// Records what a feature does, behind those before it.
+/// Records the effects of a feature, after those before it.
 fn collect_effects(
     alloc: Global,
     numbering: &Numbering,

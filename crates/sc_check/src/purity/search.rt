@@ -16,7 +16,7 @@ pub struct Search {
 }
 
 impl Search {
-    /// A search among so many features that has found none of them.
+    /// A search among this number of features that has found none of them.
     pub fn new(alloc: Global, count: usize) -> Result<Search, AllocError>
         ensures { IfOk result (λ search. (length search.impure.items ≡ count) × (search.todo.items ≡ [])
             × ((k : ℕ) → IsSeen search.impure.items k → ⊥)) }
@@ -49,7 +49,7 @@ pub struct Callers {
 }
 
 impl Callers {
-    /// No callers of so many features.
+    /// No callers of any of this number of features.
     pub fn new(alloc: Global, count: usize) -> Result<Callers, AllocError>
         ensures many { IfOk result (λ callers. length callers.lists.items ≡ count) }
         ensures none { IfOk result (λ callers. (k : ℕ) → callers_in callers.lists.items k ≡ []) }

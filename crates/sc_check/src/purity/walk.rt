@@ -33,7 +33,7 @@ fn received(target: &Option<Box<Expr>>, found: Typing) -> Result<Typing, CheckFa
     }
 }
 
-/// What is found of a unary operator, behind what is found of its operand.
+/// Judges the effects of a unary operator, after those of its operand.
 fn judge_behind_operand(
     context: Context,
     span: Span,
@@ -45,7 +45,7 @@ fn judge_behind_operand(
     judge_unary(context, span, operator, as_check_result(operand)?)
 }
 
-/// What is found of a binary operator, behind what is found of its operands.
+/// Judges the effects of a binary operator, after those of its operands.
 fn judge_behind_operands(
     span: Span,
     operator: BinaryOperator,
@@ -59,7 +59,7 @@ fn judge_behind_operands(
     judge_binary(span, operator, left, as_check_result(right)?)
 }
 
-/// What is found of an object test that stands in no condition, behind what is tested.
+/// Judges an object test outside a condition, after what is tested.
 fn judge_misplaced<'s>(
     routine: &RoutineContext<'_, 's>,
     span: Span,
@@ -74,7 +74,7 @@ fn judge_misplaced<'s>(
     Err(refusal(Rule::ObjectTestPlace, span))
 }
 
-/// What is found of a call, behind its target and its actuals.
+/// Judges a call, after its target and its actuals.
 fn judge_met<'s>(
     routine: &RoutineContext<'_, 's>,
     context: Context,

@@ -67,7 +67,7 @@ code_number fault.OutOfMemory = 0
 abbrev pub HasLeastCode : System → Root → ClassFault → Type 0
 HasLeastCode s root f = (g : ClassFault) → Fails s root g → code_number f ≤ code_number g
 
--- Of the faults of its code in the system none stands before it. C6 and C7 have no place.
+-- Of the faults of its code in the system none comes before it. C6 and C7 have no place.
 abbrev pub IsPlacedFirst : System → Root → ClassFault → Type 0
 IsPlacedFirst s root (fault.DuplicateClass p) = (q : Span) → Fails s root (fault.DuplicateClass q) → p.start ≤ q.start
 IsPlacedFirst s root (fault.UnknownParent p) = (q : Span) → Fails s root (fault.UnknownParent q) → p.start ≤ q.start

@@ -78,7 +78,7 @@ pub data PassesLimit (s : System) : Type 0 where
   many_features : {k : ℕ} → k < length s.classes → max_features < length (features s k) → PassesLimit s
   large_routine : Any (λ c. Any (λ f. is_large f.kind ≡ true) c.features) s.classes → PassesLimit s
 
--- One of so many classes has too many features, or none of them has.
+-- One of the first `n` classes has too many features, or none of them has.
 abbrev pub TellsLargeClass : System → ℕ → Bool → Type 0
 TellsLargeClass s n true = (k : ℕ) × (k < n) × (has_many_features s k ≡ true)
 TellsLargeClass s n false = (k : ℕ) → k < n → has_many_features s k ≡ false

@@ -8,7 +8,7 @@ use Rattle.sc_class.specs.Tables.Conformance.{is_same_type, type_conforms}
 abbrev pub is_same_formal : Declaration → Declaration → Bool
 is_same_formal d e = bytes_eq d.name.text e.name.text && is_same_type d.declared_type e.declared_type
 
--- the same names and types, one by one
+-- equal names and types, one by one
 abbrev pub is_same_formals : List Declaration → List Declaration → Bool
 is_same_formals [] [] = true
 is_same_formals [] (e ∷ es) = false
@@ -22,12 +22,12 @@ result_fits s None (Some u) = false
 result_fits s (Some t) None = false
 result_fits s (Some t) (Some u) = type_conforms s t u
 
--- no clause stands there
+-- there is no clause
 abbrev pub is_empty_contract : List Clause → Bool
 is_empty_contract [] = true
 is_empty_contract (k ∷ ks) = false
 
--- The first can redefine the second: both are routines with the same formals, its result fits, and it has no contract
+-- The first can redefine the second: both are routines with equal formals, its result fits, and it has no contract
 -- of its own.
 abbrev pub can_redefine : System → FeatureKind → FeatureKind → Bool
 can_redefine s (Routine r) (Routine q) =

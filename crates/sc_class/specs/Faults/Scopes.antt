@@ -8,7 +8,7 @@ use Rattle.sc_tree.specs.Plain.{System, Class, FeatureKind, Routine, RoutineDecl
 use Rattle.sc_class.specs.Tables.Features.{DeclaredFeature, redefined_by, not_redefined, inherited_features, features}
 use Rattle.sc_class.specs.Names.{Clashes, OneClashes}
 
--- The names that a condition gives where it holds: those of the object tests that it is, or that its `and then`s join.
+-- The names that a condition binds if it holds: those of the object tests that it is, or that its `and then`s join.
 abbrev pub tests_of : Expr → List Name
 tests_of (ObjectTest s t e n) = n ∷ []
 tests_of (Binary s AndThen a b) = tests_of a ++ tests_of b
@@ -95,7 +95,7 @@ mutual
     in_other_instrs : {known : List Name} {i : Instr} {is : Instrs} {p : Span} → InstrsClash known is p →
         InstrsClash known (instr_then i is) p
 
-  -- in an `elseif`, its condition or what stands under it
+  -- in an `elseif`, its condition or its instructions
   pub data BranchesClash : List Name → Branches → Span → Type 0 where
     in_branch_condition : {known : List Name} {e : Expr} {body : Instrs} {bs : Branches} {p : Span} →
         ConditionClashes known e p → BranchesClash known (branch_then e body bs) p

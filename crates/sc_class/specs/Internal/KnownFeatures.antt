@@ -9,7 +9,7 @@ use Rattle.sc_class.specs.Faults.Scopes.{feature_names}
 use Rattle.sc_class.specs.View.{entry_of}
 use Rattle.sc_class.specs.Internal.NameIndex.{place_among}
 
--- the features that stand together
+-- the features that are listed together
 abbrev pub entries_of : KnownFeatures → List DeclaredFeature
 entries_of t = map entry_of t.entries.items
 
@@ -20,7 +20,7 @@ class_of_first x fs = option_map (λ (f : DeclaredFeature). f.class) (named_amon
 abbrev pub declarer_known : List KnownFeatures → ℕ → List ℕ → Option ℕ
 declarer_known ts k x = option_and_then (λ t. class_of_first x (entries_of t)) (slice_get ts k)
 
--- the same, by the system
+-- the declarer, by the system
 abbrev pub declarer : System → ℕ → List ℕ → Option ℕ
 declarer s k x = class_of_first x (features s k)
 

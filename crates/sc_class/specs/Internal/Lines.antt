@@ -22,12 +22,12 @@ use Rattle.sc_class.specs.Internal.KnownFeatures.{class_of_first, place_of_name}
 abbrev pub no_features : NamedFeatures
 no_features = record { class = None; place = None }
 
--- the features of this name of the first of these classes, each of which is the parent of the one before it
+-- the features of this name of the first of these classes, each the parent of the one before it
 abbrev pub named_along : System → List ℕ → List ℕ → NamedFeatures
 named_along s ks x =
     record { class = class_of_first x (features_along s ks); place = place_of_name x (features_along s ks) }
 
--- the same of a class, or of none, and of so many classes on the way up from it
+-- the features of this name of a class, or of none, and of this number of classes on the way up from it
 abbrev pub named_up : System → ℕ → Option ℕ → List ℕ → NamedFeatures
 named_up s n o x = named_along s (ancestors_from n s o) x
 
@@ -61,7 +61,7 @@ pub record Said : Type 0 where
   pub text : List ℕ
   pub features : NamedFeatures
 
--- what is said of a name behind changes, where this was said before
+-- what is known of a name after changes, if this was known before
 abbrev pub put_in_turn : List ℕ → List Said → NamedFeatures → NamedFeatures
 put_in_turn x [] f = f
 put_in_turn x (c ∷ cs) f = put_in_turn x cs (if bytes_eq c.text x then c.features else f)
@@ -76,17 +76,17 @@ changes_of cs = map change_of cs
 abbrev pub said_of : (List ℕ → NamedFeatures) → List Name → List Said
 said_of f ns = map (λ n. record { text = n.text; features = f n.text }) ns
 
--- the same name in the class at the number, where this is said of it in its parent
+-- the name in the class at the number, if this is known of it in its parent
 abbrev pub said_below : System → ℕ → Said → Said
 said_below s k c = record { text = c.text; features = with_own s k c.text c.features }
 
--- the names of a level's class, with their features in the class above it, where so many stand there
+-- the names of a level's class, with their features in the class above it, if there is one
 abbrev pub above_in : System → ℕ → ℕ → List Said
 above_in s n k = said_of (named_up s n (parent_number s k)) (listed_names s k)
 
 -- ---- lines
 
--- No more than so many classes stand on the way up from a class.
+-- There are at most this number of classes on the way up from a class.
 abbrev pub IsWhole : System → ℕ → Option ℕ → Type 0
 IsWhole s n o = (m : ℕ) → n ≤ m → ancestors_from m s o ≡ ancestors_from n s o
 
@@ -107,11 +107,11 @@ pub record StandsAt (s : System) (o : Option ℕ) (levels : List Level) (known :
 abbrev pub Stands : System → Line → Type 0
 Stands s line = StandsAt s line.class line.levels.items (λ x. known_by x line.known)
 
--- Where the first line stands at the parent of the class at the number, the second stands at that class.
+-- If the first line ends at the parent of the class at the number, the second ends at that class.
 abbrev pub GoesOn : System → ℕ → Line → Line → Type 0
 GoesOn s k line line' = Stands s line → line.class ≡ parent_number s k → Stands s line'
 
--- What is known in the line is what the first of these classes has, each of which is the parent of the one before it.
+-- What the line knows is what the first of these classes has, each the parent of the one before it.
 abbrev pub KnowsAlong : System → List ℕ → Line → Type 0
 KnowsAlong s ks line = (x : List ℕ) → known_by x line.known ≡ named_along s ks x
 

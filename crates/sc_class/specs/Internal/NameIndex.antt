@@ -12,7 +12,7 @@ use Rattle.sc_class.specs.declared.names.Known.{Known}
 use Rattle.sc_class.specs.Names.{number_among}
 use Rattle.sc_class.specs.Internal.Found.{first_place}
 
--- the first place in the text at which one of the names that are this stands
+-- the first place in the text of a name that equals this one
 abbrev pub place_among : List ℕ → List Name → Option Span
 place_among x [] = None
 place_among x (n ∷ ns) = first_place (if bytes_eq n.text x then Some n.span else None) (place_among x ns)

@@ -26,7 +26,7 @@ like_place names n = option_map (λ p. last_place p n.span) (place_among n.text 
 unfoldable pub name_clash : List Name → List Name → Name → Option Span
 name_clash fs ns n = if is_print n.text then Some n.span else first_place (like_place fs n) (like_place ns n)
 
--- where one of these names does, each of which is known behind it
+-- the place of one that clashes; each is in scope after itself
 unfoldable pub names_clash : List Name → List Name → List Name → Option Span
 names_clash fs ns [] = None
 names_clash fs ns (m ∷ ms) = first_place (name_clash fs ns m) (names_clash fs (ns ++ m ∷ []) ms)

@@ -33,7 +33,7 @@ FindsWayBack s k parents (Some p) =
     × ((j : ℕ) (r : Parent) → j < i → slice_get parents j ≡ Some r → NameLeadsTo s k r → ⊥) × NameLeadsTo s k q
     × (p ≡ q.name.span)
 
--- a search has come to the class
+-- a search has reached the class
 abbrev pub IsSeen : List Bool → ℕ → Type 0
 IsSeen seen k = slice_get seen k ≡ Some true
 
@@ -45,7 +45,7 @@ IsTodo todo k = Any (λ j. j ≡ k) todo
 abbrev pub left_over : List Bool → List ℕ → ℕ
 left_over seen todo = 2 * sum_by (λ b. if b then 0 else 1) seen + length todo
 
--- A search has come to some of these classes, each of which is still to be looked at.
+-- A search has reached some of these classes, and has yet to look at each of them.
 pub record Grows (Are : ℕ → Type 0) (seen : List Bool) (todo : List ℕ) (seen' : List Bool) (todo' : List ℕ)
     : Type 0 where
   pub same_length : length seen' ≡ length seen
@@ -55,8 +55,8 @@ pub record Grows (Are : ℕ → Type 0) (seen : List Bool) (todo : List ℕ) (se
   pub todo_before : (k : ℕ) → IsTodo todo' k → IsTodo todo k ⊎ IsSeen seen' k
   pub no_more : left_over seen' todo' ≤ left_over seen todo
 
--- The search has come to the start, and to nothing but what the start leads to. It has looked at the parents of those
--- that aren't still to be looked at.
+-- The search has reached the start, and nothing but what the start leads to. It has looked at the parents of those
+-- that are no longer to be looked at.
 pub record IsSearch (s : System) (target start : ℕ) (seen : List Bool) (todo : List ℕ) : Type 0 where
   pub started : IsSeen seen start
   pub come_to : (k : ℕ) → IsSeen seen k → LeadsTo s k start

@@ -14,7 +14,7 @@ abbrev pub first_parent : List Parent → Option Parent
 first_parent [] = None
 first_parent (p ∷ ps) = Some p
 
--- the number of the class that a class inherits from, where there is one
+-- the number of a class's parent, if it has one
 abbrev pub parent_in : List Name → Class → Option ℕ
 parent_in names c = option_and_then (λ (p : Parent). number_in names p.name.text) (first_parent c.parents)
 
@@ -25,12 +25,12 @@ parent_of s = parent_in (class_names s.classes)
 abbrev pub parent_number : System → ℕ → Option ℕ
 parent_number s k = option_and_then (parent_of s) (slice_get s.classes k)
 
--- the class, its parent, the parent's parent and so on, at most so many of them
+-- the class, its parent, the parent's parent and so on, at most `n` of them
 abbrev pub ancestors_within : ℕ → System → ℕ → List ℕ
 ancestors_within zero s k = []
 ancestors_within (suc n) s k = k ∷ option_map_or (ancestors_within n s) (parent_number s k) []
 
--- the class and those above it, where there is one, at most so many of them
+-- the class and those above it, if there is one, at most `n` of them
 abbrev pub ancestors_from : ℕ → System → Option ℕ → List ℕ
 ancestors_from n s o = option_map_or (ancestors_within n s) o []
 

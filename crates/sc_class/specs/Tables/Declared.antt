@@ -7,7 +7,7 @@ use Rattle.sc_tree.specs.Plain.{System, Class, Feature, Name}
 abbrev pub declared_feature_names : Class → List Name
 declared_feature_names c = map (λ f. f.name) c.features
 
--- the same, of the class at a number
+-- the names that the class at a number declares
 abbrev pub declared_feature_names_at : System → ℕ → List Name
 declared_feature_names_at s k = option_map_or declared_feature_names (slice_get s.classes k) []
 
@@ -15,7 +15,7 @@ declared_feature_names_at s k = option_map_or declared_feature_names (slice_get 
 abbrev pub created_by : Class → List Name
 created_by c = c.creators
 
--- the same, of the class at a number
+-- the creation procedures of the class at a number
 abbrev pub creators_of : System → ℕ → List Name
 creators_of s k = option_map_or created_by (slice_get s.classes k) []
 

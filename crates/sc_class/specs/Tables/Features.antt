@@ -30,7 +30,7 @@ redefined_names s k = option_map_or redefined_by (slice_get s.classes k) []
 abbrev pub not_redefined : List Name → List DeclaredFeature → List DeclaredFeature
 not_redefined names fs = filter (λ f. not (is_listed f.feature.name.text names)) fs
 
--- the features of the first of these classes, each of which is the parent of the one before it
+-- the features of the first of these classes, each the parent of the one before it
 abbrev pub features_along : System → List ℕ → List DeclaredFeature
 features_along s [] = []
 features_along s (k ∷ ks) = declared_features s k ++ not_redefined (redefined_names s k) (features_along s ks)

@@ -1,4 +1,4 @@
--- Laws of heirs: which version of a feature a class has, where that stands in the text, and whose contract it keeps
+-- Laws of heirs: which version of a feature a class has, which text has that version, and whose contract it keeps
 -- (ECMA-367, 8.10).
 use Rattle.std.specs.Prelude.{◌≡◌, ◌<◌, ◌⊎◌, ◌↔◌, ℕ, Bool, true, List, [], ◌∷◌, ◌++◌, ◌&&◌, Option, Some, None, Contains, bytes_eq, length, map, slice_get}
 use Rattle.std.specs.List.{IsDistinct}
@@ -54,7 +54,7 @@ InvariantsJoined =
     WhereFaultless λ s. (k i : ℕ) → parent_number s k ≡ Some i →
     invariant_of s k ≡ invariant_of s i ++ declared_invariant s k
 
--- The feature that a class has of a name stands in the text of one of its ancestors, under that name.
+-- The feature that a class has of a name is in the text of one of its ancestors, under that name.
 pub record StandsInText (s : System) (k : ℕ) (x : List ℕ) (f : DeclaredFeature) : Type 0 where
   pub class : Class
   pub is_class : slice_get s.classes f.class ≡ Some class
@@ -89,7 +89,7 @@ HeirsRedeclare =
 
 -- ---- kept contracts
 
--- The version that the topmost of these classes declares, each of which is the parent of the one before it.
+-- The version that the topmost of these classes declares, each the parent of the one before it.
 abbrev pub topmost_along : System → List ℕ → List ℕ → Option DeclaredFeature
 topmost_along s x [] = None
 topmost_along s x (k ∷ ks) = option_or (topmost_along s x ks) (named_among x (declared_features s k))
@@ -98,12 +98,12 @@ topmost_along s x (k ∷ ks) = option_or (topmost_along s x ks) (named_among x (
 abbrev pub origin_of : System → DeclaredFeature → Option DeclaredFeature
 origin_of s f = topmost_along s f.feature.name.text (ancestors s f.class)
 
--- no clause stands in its contract
+-- its contract has no clause
 abbrev pub has_no_contract : FeatureKind → Bool
 has_no_contract (Attribute t) = true
 has_no_contract (Routine r) = is_empty_contract r.precondition && is_empty_contract r.postcondition
 
--- The first takes the formals of the second: both are routines with the same ones.
+-- The first takes the formals of the second: both are routines with equal ones.
 pub data TakesSame : FeatureKind → FeatureKind → Type 0 where
   takes_same : {r q : RoutineDeclaration} → is_same_formals r.formals q.formals ≡ true →
       TakesSame (Routine r) (Routine q)
@@ -135,7 +135,7 @@ abbrev pub OneContract : Type 0
 OneContract =
     (s : System) (f g : DeclaredFeature) → Redeclares s f g → (g ≡ f) ⊎ (has_no_contract g.feature.kind ≡ true)
 
--- The version of a routine is a routine with the same formals.
+-- The version of a routine is a routine with equal formals.
 abbrev pub RoutinesTakeSame : Type 0
 RoutinesTakeSame =
     (s : System) (f g : DeclaredFeature) (r : RoutineDeclaration) → Redeclares s f g → g.feature.kind ≡ Routine r →

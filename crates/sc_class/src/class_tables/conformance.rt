@@ -12,7 +12,7 @@ use crate::identity::ClassId;
 use crate::names::is_same_text;
 use sc_tree::{DeclaredType, HandlerTag};
 
-/// The class that a name stands for. It looks once by hash.
+/// The class with this name. It looks once by hash.
 pub fn class_named(hierarchy: &Hierarchy, name: &str) -> Option<ClassId>
     ensures { result ≡ class_names.class_named (in_hierarchy hierarchy.now) name.now }
 {
@@ -80,7 +80,7 @@ pub fn type_class(hierarchy: &Hierarchy, name: &str) -> Option<ClassId>
     }
 }
 
-/// Whether two tags are the same.
+/// Whether two tags are equal.
 fn is_same_tag(one: &HandlerTag, other: &HandlerTag) -> bool
     ensures { result ≡ conformance.is_same_tag (handler_tag_of one.now) (handler_tag_of other.now) }
 {
@@ -104,7 +104,7 @@ fn tag_conforms(one: &HandlerTag, other: &HandlerTag) -> bool
     }
 }
 
-/// Whether two types are the same.
+/// Whether two types are equal.
 pub fn is_same_type(one: &DeclaredType, other: &DeclaredType) -> bool
     ensures { result ≡ conformance.is_same_type (type_of one.now) (type_of other.now) }
 {

@@ -1,5 +1,5 @@
-//! A line of classes, each the parent of the next, with what is known by name of the last one's features. Where one goes
-//! from class to class, each behind its parent, this takes time in proportion to what they declare and redefine.
+//! A line of classes, each the parent of the next, with the features of the last one by name. If one goes from class
+//! to class, each after its parent, this takes time in proportion to what they declare and redefine.
 
 ghost use Rattle.std.specs.Prelude.{◌≡◌, ◌++◌, ℕ, List, [], None, Some, IfOk, OnOk, bytes_eq, map, slice_get, if◌then◌else◌};
 ghost use Rattle.std.specs.Bool.{OnTrue};
@@ -22,8 +22,8 @@ use sc_tree::{Class, Feature, Name};
 use std::alloc::{AllocError, Global};
 use std::collections::HashMap;
 
-/// The features of a class that have one name: the number of the class that declares the first of them, and the first
-/// place in the text at which one stands.
+/// The features of a class that have one name: the number of the class that declares the first of them, and its first
+/// place in the text.
 #[derive(Clone, Copy)]
 pub struct NamedFeatures {
     pub class: Option<usize>,
@@ -52,7 +52,7 @@ pub struct Line<'s> {
     known: HashMap<&'s str, NamedFeatures>,
 }
 
-/// Whether the two are the same class, or none.
+/// Whether the two are one class, or neither is a class.
 fn is_same_class(one: Option<usize>, other: Option<usize>) -> bool
     ensures { OnTrue result (one ≡ other) }
 {
@@ -88,7 +88,7 @@ fn put_all<'s>(
     Ok(())
 }
 
-/// What is known of the same names in the class at the number, where this is known above it.
+/// The names' features in the class at the number, from those in its parent.
 fn changes_in<'s>(
     alloc: Global,
     outline: &Outline<'s>,
@@ -181,7 +181,7 @@ impl<'s> Line<'s> {
         Ok(changes)
     }
 
-    /// Goes on to a class. The line stands where the last one was its parent.
+    /// Goes on to a class. The last class of the line is its parent.
     pub fn enter(
         &mut self,
         alloc: Global,
@@ -205,7 +205,7 @@ impl<'s> Line<'s> {
         Ok(())
     }
 
-    /// Goes on to the class at a number, where there is one.
+    /// Goes on to the class at a number, if there is one.
     fn go_down(
         &mut self,
         alloc: Global,
@@ -235,7 +235,7 @@ impl<'s> Line<'s> {
         Ok(line)
     }
 
-    /// Whether the line has come to the parent of the class at a number.
+    /// Whether the line has reached the parent of the class at a number.
     pub fn is_above(&self, hierarchy: &Hierarchy, number: usize) -> bool
         requires { Stands (in_hierarchy hierarchy.now) self.now }
         ensures known { OnTrue result (KnowsAbove (in_hierarchy hierarchy.now) number self.now) }
@@ -275,7 +275,7 @@ impl<'s> Line<'s> {
         Ok(())
     }
 
-    /// Goes back to this class, or to none where it isn't in the line.
+    /// Goes back to this class, or to none if it isn't in the line.
     pub fn return_to(
         &mut self,
         hierarchy: &Hierarchy,

@@ -3,8 +3,8 @@
 use crate::class_tables::hierarchy::Hierarchy;
 use std::alloc::{AllocError, Global};
 
-/// The classes, each behind its parent, and all that inherit from a class before those that don't. It takes time in
-/// proportion to them. Nothing rests on it but how long it takes to go from class to class.
+/// The classes, each after its parent, and all heirs of a class before other classes. It takes time in proportion to
+/// their number. Only the time to go from class to class depends on this order.
 pub fn down_from_parents(alloc: Global, hierarchy: &Hierarchy) -> Result<Vec<usize>, AllocError> {
     let heirs = heirs_of_each(alloc, hierarchy)?;
     let count = heirs.len();

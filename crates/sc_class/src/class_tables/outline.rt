@@ -128,8 +128,7 @@ impl<'s> Outline<'s> {
         }
     }
 
-    /// The first place at which a feature of this name stands that the class at the number declares itself. It looks
-    /// once by hash.
+    /// The first place of a feature of this name that the class at the number declares itself. It looks once by hash.
     fn declared_place(&self, class: usize, name: &str) -> Option<Span>
         ensures { result
             ≡ place_among name.now (declared_feature_names_at (system_of self.now.hierarchy.system.now) class) }
@@ -155,8 +154,7 @@ impl<'s> Outline<'s> {
         }
     }
 
-    /// The features of this name of the parent of the class at the number, where it has these, that the class doesn't
-    /// redefine.
+    /// The features of this name of the class's parent, if it has any and the class doesn't redefine them.
     fn named_unless_redefined(
         &self,
         class: usize,
@@ -217,8 +215,8 @@ impl<'s> Outline<'s> {
         Ok(())
     }
 
-    /// Adds the features of classes, each of which is the parent of the one before it, but for those of the redefined
-    /// names. The names that the classes redefine are among these then.
+    /// Adds the features of classes, each the parent of the one before it, except those of the redefined names. The
+    /// names that the classes redefine are then among these.
     pub fn add_along(
         &self,
         features: &mut Vec<FeatureEntry<'s>>,

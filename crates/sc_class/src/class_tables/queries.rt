@@ -1,4 +1,4 @@
-//! What the tables of a system's classes tell.
+//! The answers of the tables of a system's classes.
 
 ghost use Rattle.std.specs.Prelude.{◌≡◌, ◌++◌, IfOk, OnOk, map, slice_get};
 ghost use Rattle.std.specs.Option.{option_map, option_copied};
@@ -25,7 +25,7 @@ use sc_tree::{Class, Clause, Name};
 use std::alloc::{AllocError, Global};
 
 impl<'s> Tables<'s> {
-    /// The tables of these classes, which have no fault where they are run from this root.
+    /// The tables of these classes, which have no fault with this root.
     pub(crate) fn of(alloc: Global, outline: Outline<'s>, root: &Root) -> Result<Self, AllocError>
         requires { IsFaultless (in_outline outline) (root_of root.now) }
         ensures of_it { IfOk result (λ tables. system_in tables ≡ in_outline outline.entry) }
@@ -57,7 +57,7 @@ impl<'s> Tables<'s> {
         self.outline.hierarchy.classes()
     }
 
-    /// The class that a name stands for. It looks once by hash.
+    /// The class with this name. It looks once by hash.
     pub fn class_named(&self, name: &str) -> Option<ClassId>
         ensures { result ≡ class_names.class_named (system_in self.now) name.now }
     {

@@ -20,7 +20,8 @@ use sc_text::Span;
 use sc_tree::{Class, Clause, Feature};
 use std::alloc::{AllocError, Global};
 
-/// Where one of the features that a class declares is like another, or like one that it inherits and doesn't redefine.
+/// The place of a feature that the class declares and that equals another one, or one that it inherits and doesn't
+/// redefine.
 pub fn features_clash(
     alloc: Global,
     outline: &Outline,

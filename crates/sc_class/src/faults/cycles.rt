@@ -29,7 +29,7 @@ pub fn cycle(alloc: Global, hierarchy: &Hierarchy) -> Result<Option<Span>, Alloc
     }
 }
 
-/// The rank of a class; 0 where it has none.
+/// The rank of a class; 0 if it has none.
 fn rank(ranks: &[usize], class: usize) -> usize
     ensures { result ≡ unwrap_or (slice_get ranks.now class) 0 }
 {
@@ -71,8 +71,8 @@ fn is_not_below(hierarchy: &Hierarchy, ranks: &[usize], number: usize, parent: &
     }
 }
 
-/// The same as `cycle`. It searches up from the classes that are in no higher rank than one of their parents, until
-/// one of them leads back.
+/// Finds the first cycle, as `cycle` does. It searches up from the classes whose rank is no higher than that of a
+/// parent, until one of them leads back.
 fn first_cycle(
     alloc: Global,
     hierarchy: &Hierarchy,
@@ -110,7 +110,7 @@ fn way_back(
     Ok(None)
 }
 
-/// Whether the parent leads to the class at the number. It can't where it is below that class.
+/// Whether the parent leads to the class at the number. It can't if its rank is below that class's.
 fn name_leads_to(
     alloc: Global,
     hierarchy: &Hierarchy,
@@ -154,7 +154,7 @@ fn leads_to(
     Ok(false)
 }
 
-/// The classes that a search has come to, and those of them whose parents it hasn't looked at.
+/// The classes that a search has reached, and those whose parents it hasn't looked at.
 #[derive(Drop)]
 struct Search {
     seen: Vec<bool>,
@@ -162,7 +162,7 @@ struct Search {
 }
 
 impl Search {
-    /// A search among so many classes that has seen none of them.
+    /// A search among this number of classes that has reached none of them.
     fn new(alloc: Global, count: usize) -> Result<Search, AllocError>
         ensures { IfOk result (λ search. (length search.seen.items ≡ count) × (search.todo.items ≡ [])
             × ((k : ℕ) → IsSeen search.seen.items k → ⊥)) }
@@ -174,7 +174,7 @@ impl Search {
         })
     }
 
-    /// Comes to a class.
+    /// Reaches a class.
     fn see(&mut self, number: usize) -> Result<(), AllocError>
         requires { number < length self.old.seen.items }
         ensures { OnOk result (Grows (λ k. k ≡ number) self.old.seen.items self.old.todo.items self.new.seen.items
@@ -188,7 +188,7 @@ impl Search {
         Ok(())
     }
 
-    /// Comes to the parents of a class.
+    /// Reaches the parents of a class.
     fn see_parents(&mut self, hierarchy: &Hierarchy, class: usize) -> Result<(), AllocError>
         requires { length self.old.seen.items ≡ length hierarchy.now.system.now.classes.items }
         ensures { let s = in_hierarchy hierarchy.now in
@@ -204,7 +204,7 @@ impl Search {
         Ok(())
     }
 
-    /// Comes to a parent.
+    /// Reaches a parent.
     fn see_parent(&mut self, hierarchy: &Hierarchy, parent: &Parent) -> Result<(), AllocError>
         requires { length self.old.seen.items ≡ length hierarchy.now.system.now.classes.items }
         ensures { let is_it = IsNumberOf (in_hierarchy hierarchy.now) (parent_of parent.now) in

@@ -46,7 +46,7 @@ fn faults_below<'s>(
     })
 }
 
-/// What is at fault in a class. The line goes on to the class where it has come to its parent.
+/// The faults in a class. The line goes on to the class if it has reached its parent.
 fn faults_in_class<'s>(
     alloc: Global,
     outline: &Outline<'s>,
@@ -76,7 +76,7 @@ fn keep(found: &mut [Option<FeatureFaults>], number: usize, faults: FeatureFault
     }
 }
 
-/// Finds out what is at fault in the class at the number, where there is one.
+/// Finds the faults in the class at the number, if there is one.
 fn find_faults<'s>(
     alloc: Global,
     outline: &Outline<'s>,
@@ -97,7 +97,7 @@ fn find_faults<'s>(
     Ok(())
 }
 
-/// What is at fault in each class, by number, as far as a line comes to them from parents to heirs.
+/// The faults in each class, by number, as far as a line reaches them from parents to heirs.
 fn faults_along<'s>(
     alloc: Global,
     outline: &Outline<'s>,
@@ -115,7 +115,7 @@ fn faults_along<'s>(
     Ok(found)
 }
 
-/// What was found at fault in a class, or what is, where nothing was looked for.
+/// The faults that were found in a class, or finds them if no one has looked yet.
 fn faults_at<'s>(
     alloc: Global,
     outline: &Outline<'s>,

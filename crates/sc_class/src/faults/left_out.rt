@@ -12,14 +12,14 @@ use crate::fault::LeftOut;
 use sc_text::Span;
 use sc_tree::{Class, ClassMark, Feature, Name};
 
-/// Something that is left out, and where it stands.
+/// Something that the language leaves out, and its place.
 #[derive(Clone, Copy)]
 pub struct Exclusion {
     pub what: LeftOut,
     pub span: Span,
 }
 
-/// Of two, the one that stands first in the text.
+/// Of two, the first in the text.
 fn first_exclusion(one: Option<Exclusion>, other: Option<Exclusion>) -> Option<Exclusion>
     ensures { result ≡ first_placed (λ x. x.span.start) one other }
 {
@@ -57,7 +57,7 @@ fn in_class(class: &Class) -> Option<Exclusion>
     first_exclusion(marked, export_list(&class.features))
 }
 
-/// The class, where it is marked.
+/// The class, if it has a mark.
 #[tactic(auto, unfolding(sc_tree::specs::View::class_of))]
 fn marked(class: &Class) -> Option<Exclusion>
     ensures { FindsFirstExclusion (left_out.MarkLeftOut (class_of class.now)) result }

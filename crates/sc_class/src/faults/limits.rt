@@ -14,7 +14,7 @@ const MAX_CLASSES: usize = 256;
 /// How many features a class may have, inherited ones too.
 const MAX_FEATURES: usize = 256;
 
-/// Whether one of so many classes has too many features.
+/// Whether one of the first `count` classes has too many features.
 fn has_large_class(alloc: Global, outline: &Outline, count: usize) -> Result<bool, AllocError>
     ensures { IfOk result (λ large. limits.TellsLargeClass (in_outline outline.now) count large) }
 {

@@ -27,7 +27,7 @@ pub fn repeated_class(hierarchy: &Hierarchy) -> Option<Span>
     found
 }
 
-/// Where the name of the class at the number stands, if the class can't have it.
+/// The place of the class's name, if the class can't have that name.
 fn taken_name(hierarchy: &Hierarchy, number: usize, name: &Name) -> Option<Span>
     ensures { let n = name_of name.now in let number_of_name = number_among n.text hierarchy.now.names in
         result ≡ (if is_built_in n.text || not (option_eq nat_eq number_of_name (Some number))

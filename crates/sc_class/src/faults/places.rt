@@ -6,7 +6,7 @@ ghost use Rattle.sc_class.specs.Internal.Found as found;
 
 use sc_text::Span;
 
-/// Of two places, the one that stands first in the text.
+/// Of two places, the first in the text.
 pub fn first_place(one: Option<Span>, other: Option<Span>) -> Option<Span>
     ensures { result ≡ found.first_place one other }
 {
@@ -23,7 +23,7 @@ pub fn first_place(one: Option<Span>, other: Option<Span>) -> Option<Span>
     }
 }
 
-/// Of two places, the one that stands later in the text.
+/// Of two places, the later one in the text.
 pub fn last_place(one: Span, other: Span) -> Span
     ensures { result ≡ names.last_place one other }
 {

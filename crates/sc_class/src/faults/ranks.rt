@@ -1,10 +1,10 @@
-//! Ranks of classes: where no class inherits from itself, each stands above its parents; classes that lead to each
-//! other have the same rank.
+//! Ranks of classes: if no class inherits from itself, each is above its parents; classes that lead to each other
+//! have equal ranks.
 
 use crate::class_tables::hierarchy::Hierarchy;
 use std::alloc::{AllocError, Global};
 
-/// A step of a walk: to come to a class, or to leave it behind all that it leads to, with its number in the walk.
+/// A step of a walk: reach a class, or leave it after all that it leads to, with its number in the walk.
 #[derive(Clone, Copy)]
 enum Step {
     Enter(usize),
@@ -17,15 +17,15 @@ struct Walk {
     todo: Vec<Step>,
     /// The classes that have no rank yet, as the walk came to them. Their numbers are those of their places, from 1.
     open: Vec<usize>,
-    /// For each open class, the number of an open one that it leads to: its own, or a lower one. It is 0 where the
-    /// walk hasn't come to the class yet, and greater than any number where that has its rank.
+    /// For each open class, the number of an open one that it leads to: its own, or a lower one. It is 0 if the walk
+    /// hasn't reached the class yet, and greater than any number if the class has its rank.
     lowest: Vec<usize>,
     ranks: Vec<usize>,
     rank: usize,
 }
 
-/// A rank for each class, by number: that of a parent isn't greater, and is the same where the parent leads back
-/// to the class. It takes time in proportion to the text.
+/// A rank for each class, by number: a parent's rank is not greater, and is equal if the parent leads back to the
+/// class. It takes time in proportion to the text.
 pub fn ranks_of(alloc: Global, hierarchy: &Hierarchy) -> Result<Vec<usize>, AllocError> {
     let count = hierarchy.classes().len();
     let mut walk = Walk {
@@ -49,7 +49,7 @@ pub fn ranks_of(alloc: Global, hierarchy: &Hierarchy) -> Result<Vec<usize>, Allo
 }
 
 impl Walk {
-    /// Comes to a class: its parents are to be entered before it is left.
+    /// Reaches a class: its parents are to be entered before it is left.
     fn enter(&mut self, hierarchy: &Hierarchy, class: usize) -> Result<(), AllocError> {
         let number = self.open.len().saturating_add(1);
         match self.lowest.get_mut(class) {
@@ -69,7 +69,7 @@ impl Walk {
         Ok(())
     }
 
-    /// Leaves a class: where it leads to no lower one, it and the open ones behind it lead to each other.
+    /// Leaves a class: if it leads to no lower one, it and the open ones after it lead to each other.
     fn leave(&mut self, hierarchy: &Hierarchy, class: usize, number: usize) {
         let lowest = self.lowest_of(hierarchy, class, number);
         if let Some(place) = self.lowest.get_mut(class) {

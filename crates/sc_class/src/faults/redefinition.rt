@@ -78,7 +78,7 @@ fn can_redefine(hierarchy: &Hierarchy, declared: &FeatureKind, inherited: &Featu
     }
 }
 
-/// Whether no clause stands there.
+/// Whether there is no clause.
 fn is_empty_contract(clauses: &[Clause]) -> bool
     ensures { result ≡ redefinition.is_empty_contract (map clause_of clauses.now) }
 {
@@ -107,7 +107,7 @@ fn result_fits(
     }
 }
 
-/// Whether two formals have the same name and type.
+/// Whether two formals have equal names and types.
 fn is_same_formal(declared: &Declaration, inherited: &Declaration) -> bool
     ensures { result ≡ redefinition.is_same_formal (declaration_of declared.now) (declaration_of inherited.now) }
 {
@@ -115,7 +115,7 @@ fn is_same_formal(declared: &Declaration, inherited: &Declaration) -> bool
         && is_same_type(&declared.declared_type, &inherited.declared_type)
 }
 
-/// Whether the formals have the same names and types, one by one.
+/// Whether the formals have equal names and types, one by one.
 fn is_same_formals(declared: &[Declaration], inherited: &[Declaration]) -> bool
     ensures { result
         ≡ redefinition.is_same_formals (map declaration_of declared.now) (map declaration_of inherited.now) }

@@ -85,7 +85,7 @@ fn block_names(instruction: &Instr) -> usize
     }
 }
 
-/// The same of instructions.
+/// The greatest number of names that blocks have at once in these instructions.
 #[cycle(block_names)]
 fn block_names_of(instructions: &[Instr]) -> usize
     ensures { result ≡ min (limits.max_locals + 1) (limits.block_names_of (instrs_of instructions.now)) }
@@ -97,7 +97,7 @@ fn block_names_of(instructions: &[Instr]) -> usize
     names
 }
 
-/// The same of the `elseif`s of an instruction.
+/// The greatest number of names that blocks have at once in the `elseif`s of an instruction.
 #[cycle(block_names)]
 fn branch_block_names(branches: &[Branch]) -> usize
     ensures { result ≡ min (limits.max_locals + 1) (limits.branch_block_names (branches_of branches.now)) }
@@ -129,7 +129,7 @@ fn has_wide_block(instruction: &Instr) -> bool
     }
 }
 
-/// The same of instructions.
+/// Whether a block in these instructions has too many names.
 #[cycle(wide_blocks)]
 fn has_wide_block_in(instructions: &[Instr]) -> bool
     ensures { result ≡ limits.has_wide_block_in (instrs_of instructions.now) }
@@ -142,7 +142,7 @@ fn has_wide_block_in(instructions: &[Instr]) -> bool
     false
 }
 
-/// The same of the `elseif`s of an instruction.
+/// Whether a block in the `elseif`s of an instruction has too many names.
 #[cycle(wide_blocks)]
 fn branch_has_wide_block(branches: &[Branch]) -> bool
     ensures { result ≡ limits.branch_has_wide_block (branches_of branches.now) }

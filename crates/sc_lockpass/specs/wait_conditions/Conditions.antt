@@ -17,9 +17,8 @@ abbrev pub kind_where : Bool → ClauseKind
 kind_where true = WaitCondition
 kind_where false = CorrectnessCondition
 
--- A clause is a wait condition of an entry where it names, anywhere in its text, a formal whose value lies on a handler
--- that this entry newly reserved.
--- The values are those of the formals that it names.
+-- A clause is a wait condition of an entry if it names, anywhere in its text, a formal whose value is an object of a
+-- handler that this entry newly reserved. The values are those of the formals that it names.
 abbrev pub clause_kind : List ℕ → List (Option ℕ) → ClauseKind
 clause_kind reserved values = kind_where (list_any (lies_on_any reserved) values)
 

@@ -3,12 +3,12 @@ use Rattle.std.specs.Prelude.{◌==◌, ◌∷◌, ◌++◌, ℕ, not, List, [],
 use Rattle.std.specs.List.{filter_map}
 use Rattle.sc_lockpass.specs.Rights.{Rights, held, is_among}
 
--- the same in the same order, each where it first stands
+-- these in the same order, each at its first place
 abbrev pub each_once : List ℕ → List ℕ
 each_once [] = []
 each_once (k ∷ ks) = k ∷ filter (λ j. not (j == k)) (each_once ks)
 
--- the handler of a value, where it has one that this handler doesn't hold
+-- the handler of a value, if it has one that this handler doesn't hold
 abbrev pub unheld : Rights → ℕ → Option ℕ → Option ℕ
 unheld r h None = None
 unheld r h (Some k) = if held r h k then None else Some k
@@ -18,7 +18,7 @@ unheld r h (Some k) = if held r h k then None else Some k
 abbrev pub needed : Rights → ℕ → List (Option ℕ) → List ℕ
 needed r h values = each_once (filter_map (unheld r h) values)
 
--- these, and behind them a handler, where there is one that isn't among them
+-- these, and then a handler, if it isn't among them
 abbrev pub with_new : List ℕ → Option ℕ → List ℕ
 with_new ks None = ks
 with_new ks (Some k) = if is_among k ks then ks else ks ++ k ∷ []

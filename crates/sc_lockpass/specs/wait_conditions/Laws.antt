@@ -59,7 +59,7 @@ IsTriedAgain =
     (sessions later : ℕ → ℕ) (k : ℕ) (ks : List ℕ) → is_among k ks ≡ true → sessions k < later k →
     mark_allows later (mark_of sessions ks) ≡ true
 
--- What may be reserved is nobody's, and idle with an empty queue; then the reserve step doesn't fail.
+-- What may be reserved is free, and idle with an empty queue; then the reserve step doesn't fail.
 abbrev pub ReservesUnreserved : Type 0
 ReservesUnreserved =
     (standing : ℕ → Standing) (r : Rights) (ks : List ℕ) (mark : List Marked) → may_reserve standing r ks mark ≡ true →

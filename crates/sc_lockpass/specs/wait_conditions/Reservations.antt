@@ -18,11 +18,11 @@ pub record Standing : Type 0 where
 abbrev pub is_idle : Standing → Bool
 is_idle s = not s.has_frames && not s.has_failed
 
--- A handler may be reserved where it is idle, has an empty queue and is nobody's.
+-- A handler may be reserved if it is idle, has an empty queue and is free.
 abbrev pub may_be_reserved : Standing → Option ℕ → Bool
 may_be_reserved s holder = is_idle s && not s.has_requests && is_none holder
 
--- It can never be reserved again: it has failed, and is nobody's.
+-- It can never be reserved again: it has failed, and no handler holds it.
 abbrev pub is_lost : Standing → Option ℕ → Bool
 is_lost s holder = s.has_failed && is_none holder
 

@@ -1,6 +1,6 @@
 //! Clauses of preconditions.
 
-/// What becomes of an entry whose clause is false.
+/// What a false clause means for its entry.
 #[derive(Clone, Copy)]
 pub enum ClauseKind {
     /// It waits: the clause speaks of a handler that this entry newly reserved, so others may make it true.
@@ -12,7 +12,7 @@ pub enum ClauseKind {
 /// A clause that was evaluated.
 #[derive(Clone, Copy)]
 pub struct ClauseResult {
-    /// What becomes of the entry where the clause is false.
+    /// What the entry does if the clause is false.
     pub kind: ClauseKind,
     /// Whether it is true.
     pub holds: bool,

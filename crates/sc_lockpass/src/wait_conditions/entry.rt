@@ -35,8 +35,8 @@ impl Entry {
         }
     }
 
-    /// The handlers of these values that the entering handler doesn't hold, each once, in the order of the values. They
-    /// are those of attached separate formals or of a block's names, of which there are 16 at most.
+    /// The handlers of these values that the entering handler doesn't hold, each once, in the order of the values.
+    /// The values are those of attached separate formals or of a block's names: at most 16.
     pub fn needed(
         &self,
         values: &[Option<HandlerNumber>],
@@ -63,8 +63,8 @@ impl Entry {
         Some(handler)
     }
 
-    /// Whether a clause is waited for, by the values of all formals that it names, wherever in its text: it is where one
-    /// of these lies on a handler that this entry newly reserved.
+    /// Whether a clause is waited for, by the values of all formals that it names anywhere in its text: it is if one
+    /// of these is an object of a handler that this entry newly reserved.
     pub fn clause_kind(&self, values: &[Option<HandlerNumber>]) -> ClauseKind
         ensures { result ≡ conditions.clause_kind self.now.reserved.items values.now }
     {

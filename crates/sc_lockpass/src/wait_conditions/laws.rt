@@ -41,7 +41,7 @@ pub fn entry_is_tried_again()
     ensures { IsTriedAgain }
 {}
 
-/// What may be reserved is nobody's.
+/// What may be reserved is free.
 pub fn reserves_what_is_unreserved()
     ensures { ReservesUnreserved }
 {}

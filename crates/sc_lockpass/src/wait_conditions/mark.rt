@@ -77,7 +77,7 @@ impl Mark {
         self.counts.is_empty() || has_any_risen(self.counts.as_slice(), sessions)
     }
 
-    /// Whether the same handlers are marked with the same counts, in the same order.
+    /// Whether both mark the same handlers with the same counts, in the same order.
     pub fn is_same(&self, other: &Mark) -> bool
         ensures { IsTrue result ↔ self.now ≡ other.now }
     {

@@ -21,12 +21,12 @@ use std::alloc::{AllocError, Global};
 #[derive(Clone, Copy)]
 pub struct Attribute<'s> {
     pub name: &'s str,
-    /// Where its name stands.
+    /// The place of its name.
     pub span: Span,
     pub entity_type: EntityType,
 }
 
-/// Where the first attribute of the name stands.
+/// The place of the first attribute of the name.
 fn place(attributes: &[Attribute<'_>], name: &str) -> Option<usize>
     ensures { result ≡ position (is_named name.now) attributes.now }
 {

@@ -55,7 +55,7 @@ fn conforms(alloc: Global, tables: &Tables, class: usize) -> Result<Vec<bool>, A
     Ok(conforms)
 }
 
-/// The clauses of an invariant over these attributes; `False` where one of them is no formula.
+/// The clauses of an invariant over these attributes; `False` if one of them is no formula.
 fn formulas(
     alloc: Global,
     attributes: &[Attribute],

@@ -1,4 +1,4 @@
-//! Where classes stand in the text, for what is told to people of their objects.
+//! The places of classes in the text, for what is shown to people about their objects.
 
 use sc_class::Tables;
 use sc_code::{ClassText, ClauseText};
@@ -9,7 +9,7 @@ use std::alloc::{AllocError, Global};
 /// Where a part is that isn't there.
 const NOWHERE: Span = Span { start: 0, end: 0 };
 
-/// Where the class at the number stands.
+/// The place of the class at the number.
 pub fn class_text(alloc: Global, tables: &Tables, class: usize) -> Result<ClassText, AllocError> {
     let (span, name, own): (Span, Span, &[Clause]) = match tables.classes().get(class) {
         Some(declared) => (declared.span, declared.name.span, &declared.invariant),
@@ -26,7 +26,7 @@ pub fn class_text(alloc: Global, tables: &Tables, class: usize) -> Result<ClassT
     })
 }
 
-/// Where a clause stands.
+/// The place of a clause.
 fn clause_text(clause: &Clause) -> ClauseText {
     let condition = clause.condition.span();
     let tag = match &clause.tag {

@@ -18,7 +18,7 @@ use sc_formula::{ArithmeticOperator, Comparison, Connective, Formula, Term};
 use sc_tree::{BinaryOperator, Call, Clause, Expr, UnaryOperator};
 use std::alloc::{AllocError, Global};
 
-/// The clauses as formulas over these attributes, or None where one is none.
+/// The clauses as formulas over these attributes, or None if one is no formula.
 #[tactic(auto, using(crate::proofs::Views::expr_views, sc_formula::proofs::Plain::plain_trees))]
 pub fn clauses(
     alloc: Global,
@@ -38,7 +38,7 @@ pub fn clauses(
     Ok(Some(formulas))
 }
 
-/// The expression as a formula over these attributes, or None where it is none. Goes as deep as the expression does.
+/// The expression as a formula over these attributes, or None if it is none. It recurses as deep as the expression.
 #[tactic(auto, using(crate::proofs::Views::expr_views, sc_formula::proofs::Plain::plain_trees))]
 fn formula(
     alloc: Global,
@@ -77,7 +77,7 @@ fn formula(
     }
 }
 
-/// A comparison of two terms over these attributes, or None where it is none.
+/// A comparison of two terms over these attributes, or None if it is none.
 #[tactic(auto, using(crate::proofs::Views::expr_views, sc_formula::proofs::Plain::plain_trees))]
 fn comparison(
     alloc: Global,
@@ -166,7 +166,7 @@ fn void_formula(operator: BinaryOperator, number: Option<usize>) -> Option<Formu
     }
 }
 
-/// The expression as a term over these attributes, or None where it is none. Goes as deep as the expression does.
+/// The expression as a term over these attributes, or None if it is none. It recurses as deep as the expression.
 #[tactic(auto, using(crate::proofs::Views::expr_views, sc_formula::proofs::Plain::plain_trees))]
 fn term(
     alloc: Global,
@@ -217,7 +217,7 @@ fn call_term(attributes: &[Attribute<'_>], call: &Call) -> Option<Term>
     }
 }
 
-/// The attribute of the number as a formula, where it is a truth value.
+/// The attribute of the number as a formula, if it is a truth value.
 #[tactic(auto, using(crate::proofs::Views::expr_views, sc_formula::proofs::Plain::plain_trees))]
 fn boolean_attribute(number: usize, class: ClassId) -> Option<Formula>
     requires { number < 256 }
@@ -229,7 +229,7 @@ fn boolean_attribute(number: usize, class: ClassId) -> Option<Formula>
     }
 }
 
-/// The attribute of the number as a term, where it is an integer.
+/// The attribute of the number as a term, if it is an integer.
 #[tactic(auto, using(crate::proofs::Views::expr_views, sc_formula::proofs::Plain::plain_trees))]
 fn integer_attribute(number: usize, class: ClassId) -> Option<Term>
     requires { number < 256 }

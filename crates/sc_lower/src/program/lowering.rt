@@ -33,8 +33,8 @@ pub fn lower<'s>(alloc: Global, checked: Checked<'s>) -> Result<Program, Lowerin
     lower_within(alloc, checked, MAX_INSTRUCTIONS)
 }
 
-/// The checked system in flat code, of at most so many instructions; or the system once more, where the code would have
-/// more or no memory is left.
+/// The checked system in flat code, of at most `most` instructions; or the system itself, if the code would have more
+/// or memory ran out.
 pub fn lower_within<'s>(
     alloc: Global,
     checked: Checked<'s>,

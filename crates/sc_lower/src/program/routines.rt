@@ -67,7 +67,7 @@ fn length_of(code: &Option<RoutineCode>) -> usize
     }
 }
 
-/// The number of instructions with so many more, if there may be so many.
+/// The number of instructions with `more` further ones, if there may be that many.
 fn counted(instructions: u32, more: usize, most: u32) -> Option<u32>
     requires { instructions ≤ most }
     ensures counted { IfSome result (λ total. total ≡ instructions + more) }
@@ -81,7 +81,7 @@ fn counted(instructions: u32, more: usize, most: u32) -> Option<u32>
     }
 }
 
-/// The code of the features of a system, where it has no more than so many instructions.
+/// The code of the features of a system, if it has at most `most` instructions.
 pub fn lower_routines<'s>(
     alloc: Global,
     tables: &Tables<'s>,

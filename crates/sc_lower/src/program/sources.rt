@@ -60,8 +60,7 @@ fn original<'s>(tables: &Tables<'s>, class: usize, name: &str) -> Option<Feature
     tables.declared(class, name)
 }
 
-/// The declaration of the name that is no redefinition, along these classes, each of which is the parent of the one
-/// before it.
+/// The declaration of the name that is no redefinition, along these classes, each the parent of the one before it.
 fn origin<'s>(tables: &Tables<'s>, name: &str, classes: &[usize]) -> Option<FeatureEntry<'s>>
     ensures { option_map entry_of result ≡ routines.origin_along (system_in tables.now) name.now classes.now }
 {
@@ -84,7 +83,7 @@ fn routine_of<'s>(kind: &'s FeatureKind) -> Option<&'s Routine>
     }
 }
 
-/// The routine that a feature is, with the contract of where it was first declared.
+/// The routine of a feature, with the contract of its first declaration.
 #[tactic(auto, unfolding(sc_tree::specs::View::feature_of))]
 pub fn source<'s>(tables: &Tables<'s>, entry: FeatureEntry<'s>) -> Option<RoutineSource<'s>>
     ensures { option_map (source_in (system_in tables.now)) result ≡ routines.routine_of (system_in tables.now) (entry_of entry.entry) }

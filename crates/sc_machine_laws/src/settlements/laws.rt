@@ -30,7 +30,7 @@ pub fn entries_stay()
     ensures { EntriesStay }
 {}
 
-/// Where no clause of a routine's precondition is left, none is left after its next turn, in which none is found false.
+/// If no clause of a routine's precondition is left, none is left after its next turn, in which none is found false.
 pub fn started_routines_stay_started()
     ensures { StartedStay }
 {}
@@ -40,8 +40,8 @@ pub fn pure_functions_reserve_nothing()
     ensures { PureReserveNothing }
 {}
 
-/// Where a routine stands in its own precondition, its next turn calls what contracts may call, or asks another handler and lends nothing, or the
-/// routine starts, is refused or fails.
+/// If a routine is in its own precondition, its next turn calls a function that contracts may call, or wants
+/// something of another handler and lends nothing, or the routine starts, is refused or fails.
 pub fn clauses_call_pure()
     ensures { ClausesCallPure }
 {}
@@ -51,7 +51,7 @@ pub fn clauses_come_first()
     ensures { ClausesComeFirst }
 {}
 
-/// In each state that an accepted system reaches, a routine that has not started stands in its own precondition.
+/// In each state that an accepted system reaches, a routine that has not started is in its own precondition.
 pub fn unstarted_routines_stand_in_clauses()
     ensures { EachStandsInClauses }
 {}
@@ -73,8 +73,8 @@ pub fn pure_functions_stay_calm()
     ensures { EachPureIsCalm }
 {}
 
-/// In each state that an accepted system reaches, whoever reserves stands on routines that have started: it wasn't
-/// called for a clause of a precondition.
+/// In each state that an accepted system reaches, the routines below one that reserves have started: none was called
+/// for a clause of a precondition.
 pub fn reservers_stand_on_started()
     ensures { ReserversOnStarted }
 {}

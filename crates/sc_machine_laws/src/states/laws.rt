@@ -3,19 +3,20 @@
 ghost use Rattle.sc_machine_laws.specs.states.Formals.{FormalsAreHeld, NamesAreHeld};
 ghost use Rattle.sc_machine_laws.specs.states.Headline.{CallbacksComeFirst, ChainsHold, HasTrails, InEachReached, OnlyWaitersAreTold, PostedUnderRight, QueuesAreInOrder, RepliesMeetNone, ReservedAreHeld, TargetsAreKept, WaitersAreTold};
 
-/// Behind each state that is reached stand the trails of its rights, with all that `steps` says of them.
+/// Each state that is reached has trails of its rights, with all that `steps` says of them.
 pub fn trails_stand_behind_states()
     ensures { InEachReached HasTrails }
 {}
 
-/// Posted under a right: a request that comes to stand at a handler in a turn was posted by the handler of that turn,
-/// which then held the other, or created it in this turn.
+/// Posted under a right: a request that a turn adds to a handler was posted by the turn's handler, which then held
+/// the other, or created it in this turn.
 pub fn posted_under_right()
     ensures { PostedUnderRight }
 {}
 
-/// Taken in order: in a turn a queue stays, gives its first to its own handler, takes a request of the turn's handler
-/// behind its last, or falls with its handler. So each request is taken at most once, in the order of its queue.
+/// Taken in order: in a turn a queue stays, gives its first request to its own handler, takes a request of the turn's
+/// handler after its last, or is lost with its handler. So each request is taken at most once, in the order of its
+/// queue.
 pub fn queues_are_in_order()
     ensures { QueuesAreInOrder }
 {}
@@ -47,12 +48,12 @@ pub fn block_names_are_held()
     ensures { InEachReached NamesAreHeld }
 {}
 
-/// Told: whoever awaits an answer of a handler that has failed is told.
+/// A handler that awaits an answer of one that has failed learns of the failure.
 pub fn waiters_are_told()
     ensures { InEachReached WaitersAreTold }
 {}
 
-/// Nobody else is: who is told waits for a handler that has failed.
+/// No other handler does: one that learns of a failure waits for a handler that has failed.
 pub fn only_waiters_are_told()
     ensures { InEachReached OnlyWaitersAreTold }
 {}
@@ -62,7 +63,7 @@ pub fn replies_meet_none()
     ensures { InEachReached RepliesMeetNone }
 {}
 
-/// No callback stands beside a reply.
+/// No handler has both a callback and a reply.
 pub fn callbacks_come_first()
     ensures { InEachReached CallbacksComeFirst }
 {}

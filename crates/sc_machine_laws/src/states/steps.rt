@@ -11,8 +11,8 @@ pub fn reached_states_are_lawful()
     ensures { ReachedAreLawful }
 {}
 
-/// Posted under a right: a request that comes to stand at a handler was posted by the handler that it names, which then
-/// may post to its target or push on the target's waiting stack.
+/// Posted under a right: a request that is added to a handler was posted by the handler that it names, which then may
+/// post to its target or push on the target's waiting stack.
 pub fn posted_under_right()
     ensures { PostedUnderRight }
 {}
@@ -38,13 +38,12 @@ pub fn reserved_while_it_runs()
     ensures { ReservedWhileItRuns }
 {}
 
-/// Told: a handler is told of a failure where it has an open wait for one that has failed, and only where it waits for
-/// one.
+/// A handler learns of a failure if it has an open wait for one that has failed, and only if it waits for one.
 pub fn told()
     ensures { Told }
 {}
 
-/// A failure tells those who wait for the handler, and nobody else.
+/// A handler's failure reaches those who wait for it, and no other handler.
 pub fn failure_tells()
     ensures { FailureTells }
 {}
@@ -54,7 +53,7 @@ pub fn one_answer()
     ensures { OneAnswer }
 {}
 
-/// No callback stands beside a reply.
+/// No handler has both a callback and a reply.
 pub fn callback_first()
     ensures { CallbackFirst }
 {}

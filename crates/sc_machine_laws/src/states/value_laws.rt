@@ -1,15 +1,15 @@
-//! What follows of the invariant on values, and where it holds.
+//! What follows from the invariant on values, and in which states it holds.
 
 ghost use Rattle.sc_machine_laws.specs.states.Passing.{FitWhereConforming, FitWhereGiven, FitWherePassed};
 ghost use Rattle.sc_machine_laws.specs.states.Values.{ActsKeepIt, AnswersKeepIt, CallbacksKeepIt, EachEndIsAwaited, EachStandsAlone, EntriesFit, ExitsKeepIt, FailuresKeepIt, FitWhereWorldFits, FromTurns, MovesFit, NextKeepIt, NoMoveIsExcluded, NonSeparateIsOwn, NoneIsExcluded, OpeningFits, OwnWhereWorldFits, ReleasesKeepIt, RequestsAreMatched, ReservationsKeepIt, RightsKeepIt, RunningFramesMove, StepsFit, TurnsFromEnds, TurnsKeepIt, TurnsKeepWhereAwaited, ValuesFit, is_entry, is_new_handler, is_own_act, is_refusal, is_request};
 
-/// Where the invariant on values holds of a state, each value fits its type wherever it stands; an attribute, a local or a
+/// If the invariant on values holds of a state, each value fits its type wherever it is; an attribute, a local or a
 /// Result may still be unset.
 pub fn values_fit()
     ensures { FitWhereWorldFits }
 {}
 
-/// Where it holds, an object that is typed non-separate belongs to the handler from which it is seen.
+/// If it holds, an object that is typed non-separate belongs to the handler from which it is seen.
 pub fn non_separate_is_own()
     ensures { OwnWhereWorldFits }
 {}
@@ -51,8 +51,8 @@ pub fn moves_fit()
     ensures { MovesFit }
 {}
 
-/// A routine of an accepted system that is entered with actuals that fit its formals begins typed, with values that fit, also
-/// where it keeps the contract of a routine that it redefines.
+/// A routine of an accepted system that is entered with actuals that fit its formals begins typed, with values that
+/// fit, also if it keeps the contract of a routine that it redefines.
 pub fn entries_fit()
     ensures { EntriesFit }
 {}
@@ -129,13 +129,13 @@ pub fn next_keep_it()
     ensures { NextKeepIt }
 {}
 
-/// So does one in which it takes a callback, where no reply has come.
+/// A turn in which a callback is taken, with no reply there, keeps it, too.
 pub fn callbacks_keep_it()
     ensures { CallbacksKeepIt }
 {}
 
-/// Each turn keeps the invariant on values, where no callback stands beside a reply, and whoever waits for a request that may
-/// end in the next turn of its handler takes what the request asks for.
+/// Each turn keeps the invariant on values, if no handler has both a callback and a reply, and each handler that
+/// waits for a request that may end in the next turn of its handler takes what the request asks for.
 pub fn turns_keep_where_awaited()
     ensures { TurnsKeepWhereAwaited }
 {}
@@ -146,7 +146,7 @@ pub fn turns_from_ends()
     ensures { TurnsFromEnds }
 {}
 
-/// No callback stands beside a reply in any state that is reached.
+/// No handler has both a callback and a reply in any state that is reached.
 pub fn callbacks_stand_alone()
     ensures { EachStandsAlone }
 {}
@@ -157,8 +157,8 @@ pub fn requests_are_matched()
     ensures { RequestsAreMatched }
 {}
 
-/// In each state that an accepted system reaches, whoever waits for a request that may end in the next turn of its handler takes
-/// what the request asks for.
+/// In each state that an accepted system reaches, each handler that waits for a request that may end in the next turn
+/// of its handler takes what the request asks for.
 pub fn ends_are_awaited()
     ensures { EachEndIsAwaited }
 {}
@@ -168,8 +168,8 @@ pub fn turns_keep_it()
     ensures { TurnsKeepIt }
 {}
 
-/// In each state that an accepted system reaches, each value fits its type wherever it stands; an attribute, a local or a Result
-/// may still be unset.
+/// In each state that an accepted system reaches, each value fits its type wherever it is; an attribute, a local or a
+/// Result may still be unset.
 pub fn each_value_fits()
     ensures { ValuesFit }
 {}

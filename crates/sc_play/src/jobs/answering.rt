@@ -23,7 +23,7 @@ pub fn top_stage(store: &Store<'_>) -> Option<Stage>
 
 // ---- an answer
 
-/// The routine goes on, with the value, where it is given one and there is one.
+/// Lets the routine go on, with the value, if it takes one and there is one.
 fn hand_to(activation: &mut Activation, gives: bool, value: Option<Value>)
     ensures { activation_of activation.new ≡ handed_as gives value (runs (activation_of activation.old)) }
 {
@@ -35,7 +35,7 @@ fn hand_to(activation: &mut Activation, gives: bool, value: Option<Value>)
     }
 }
 
-/// The same of the topmost routine.
+/// Lets the topmost routine go on, with the value, if it takes one and there is one.
 fn hand_over(store: &mut Store<'_>, gives: bool, value: Option<Value>)
     ensures { store.new ≡ on_top (λ a. handed_as gives value (runs a)) store.old }
 {
@@ -58,8 +58,8 @@ fn answer(store: &mut Store<'_>, value: Option<Value>)
     }
 }
 
-/// The topmost routine takes an answer: where it waits for one it goes on, with the value, where it is given one. One that
-/// goes on already takes the end of a callback that it posted as a command. F16 in any other stage.
+/// Gives the topmost routine an answer: if it waits for one it goes on, with the value if it takes one. One that goes
+/// on already takes the end of a callback that it posted as a command. F16 in any other stage.
 pub fn reply(store: &mut Store<'_>, value: Option<Value>, asked: &mut Want)
     requires { asked.old ≡ want.Continue }
     ensures { Becomes (replied value store.old) want.Continue store.new asked.new }
@@ -78,7 +78,7 @@ fn grant_entry_on(activation: &mut Activation, handlers: &ArrayVec<HandlerNumber
     activation.reserved = copy_handlers(handlers);
 }
 
-/// The same of the topmost routine.
+/// Gives the topmost routine's entry the handlers that it newly reserved.
 fn grant_entry(store: &mut Store<'_>, handlers: &ArrayVec<HandlerNumber, 16>)
     ensures { store.new ≡ on_top (entry_granted handlers.now.items) store.old }
 {
@@ -88,8 +88,8 @@ fn grant_entry(store: &mut Store<'_>, handlers: &ArrayVec<HandlerNumber, 16>)
     }
 }
 
-/// A separate block of the routine has newly reserved these handlers. Err where there is no memory; nothing has changed
-/// then.
+/// Gives a separate block of the routine the handlers that it newly reserved. Its error says that memory ran out, and
+/// nothing has changed then.
 fn grant_block_on(
     activation: &mut Activation,
     handlers: &ArrayVec<HandlerNumber, 16>,
@@ -102,7 +102,8 @@ fn grant_block_on(
     Ok(())
 }
 
-/// The same of the topmost routine.
+/// Gives a separate block of the topmost routine the handlers that it newly reserved. Its error says that memory ran
+/// out, and nothing has changed then.
 fn grant_block(
     store: &mut Store<'_>,
     handlers: &ArrayVec<HandlerNumber, 16>,
@@ -116,8 +117,8 @@ fn grant_block(
     }
 }
 
-/// The topmost routine has newly reserved these handlers, in its stage. Err where there is no memory; nothing has changed
-/// then.
+/// Gives the topmost routine, in its stage, the handlers that it newly reserved. Its error says that memory ran out,
+/// and nothing has changed then.
 fn grant_in(store: &mut Store<'_>, handlers: &ArrayVec<HandlerNumber, 16>) -> Result<(), AllocError>
     ensures ok { OnOk result (store.new ≡ granted handlers.now.items store.old) }
     ensures err { OnErr result (store.new ≡ store.old) }
@@ -135,8 +136,8 @@ fn grant_in(store: &mut Store<'_>, handlers: &ArrayVec<HandlerNumber, 16>) -> Re
     }
 }
 
-/// The reserve step of the topmost routine, or of its separate block that begins, has newly reserved these handlers: it
-/// goes on. F16 where it has none. Err where there is no memory; nothing has changed then.
+/// Gives the topmost routine, or its separate block that begins, the handlers that its reserve step newly reserved:
+/// it goes on. F16 if it has no reserve step. Its error says that memory ran out, and nothing has changed then.
 pub fn grant(
     store: &mut Store<'_>,
     handlers: &ArrayVec<HandlerNumber, 16>,
@@ -167,7 +168,7 @@ fn tell_on(activation: &mut Activation, handler: HandlerNumber)
     }
 }
 
-/// The same of the topmost routine.
+/// Writes the new handler's number into the topmost routine's reference.
 pub fn tell(store: &mut Store<'_>, handler: HandlerNumber)
     ensures { store.new ≡ told handler store.old }
 {
@@ -184,7 +185,7 @@ fn resume_on(activation: &mut Activation)
     activation.stage = Stage::Runs;
 }
 
-/// The same of the topmost routine.
+/// Lets the topmost routine go on.
 fn resume_top(store: &mut Store<'_>)
     ensures { store.new ≡ on_top runs store.old }
 {

@@ -64,7 +64,7 @@ fn answer_at(store: &mut Store<'_>, target: Reference, number: usize, asked: &mu
     ask_done(value, asked);
 }
 
-/// The version of the feature that is called. Err where there is no memory; nothing has changed then.
+/// Calls the version of the feature. Its error says that memory ran out, and nothing has changed then.
 fn call_version(
     store: &mut Store<'_>,
     request: &Request,
@@ -95,8 +95,8 @@ fn call_version(
     }
 }
 
-/// The feature of the number is called on the target: F14 where it is no object of this handler, F16 where there is no
-/// such object or feature. Err where there is no memory; nothing has changed then.
+/// Calls the feature of the number on the target: F14 if that is no object of this handler, F16 if there is no such
+/// object or feature. Its error says that memory ran out, and nothing has changed then.
 fn call(
     store: &mut Store<'_>,
     handler: HandlerNumber,
@@ -125,8 +125,8 @@ fn call(
 
 // ---- a creation
 
-/// An object is made, and the routine of the number entered on it, if one is given. Err where there is no memory;
-/// nothing has changed then.
+/// Makes an object, and enters the routine of the number on it, if one is given. Its error says that memory ran out,
+/// and nothing has changed then.
 fn bear(store: &mut Store<'_>, request: &Request, routine: Option<usize>) -> Result<(), AllocError>
     ensures ok { OnOk result (store.new ≡ born_by routine request.now store.old) }
     ensures err { OnErr result (store.new ≡ store.old) }
@@ -141,8 +141,8 @@ fn bear(store: &mut Store<'_>, request: &Request, routine: Option<usize>) -> Res
     }
 }
 
-/// An object is made by the procedure of the number, or without one. Err where there is no memory; nothing has changed
-/// then.
+/// Makes an object by the procedure of the number, or without one. Its error says that memory ran out, and nothing
+/// has changed then.
 fn make(
     store: &mut Store<'_>,
     request: &Request,
@@ -172,7 +172,7 @@ fn make(
 
 // ---- requests
 
-/// The handler takes the request. Err where there is no memory; nothing has changed then.
+/// Takes the request. Its error says that memory ran out, and nothing has changed then.
 fn take_errand(
     store: &mut Store<'_>,
     handler: HandlerNumber,
@@ -191,10 +191,10 @@ fn take_errand(
     }
 }
 
-/// The handler takes the request. A call: F14 where the target is an object of another handler, F16 where there is no
-/// such object or feature; an attribute is answered at once, F7 where it is unset; a routine is entered, F16 and F11 as
-/// in [`Store::push`]. A creation: F1 where the object breaks its invariant; F16 and F11 as in [`Store::birth_with`].
-/// Err where there is no memory; nothing has changed then.
+/// Takes the request. A call: F14 if the target is an object of another handler, F16 if there is no such object or
+/// feature; an attribute is answered at once, F7 if it is unset; a routine is entered, F16 and F11 as in
+/// [`Store::push`]. A creation: F1 if the object breaks its invariant; F16 and F11 as in [`Store::birth_with`]. Its
+/// error says that memory ran out, and nothing has changed then.
 pub fn take(
     store: &mut Store<'_>,
     handler: HandlerNumber,

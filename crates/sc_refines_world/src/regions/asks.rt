@@ -6,16 +6,16 @@ ghost use Rattle.sc_refines_world.specs.regions.Taking.{RequestsAreTaken, TakenR
 
 use crate::regions::half_laws::programs_serve;
 
-/// Where a routine of the same handler is called the turn asks for its reserve step, if it has attached separate formals, unless
-/// the store has failed.
+/// If a routine of the same handler is called, the turn wants its reserve step, if it has attached separate formals,
+/// unless the store has failed.
 pub fn calls_ask()
     ensures { CallsAsk }
 {
     programs_serve();
 }
 
-/// Where an object of the same handler is created the turn asks so for its procedure, and nothing where there is none, unless the
-/// store has failed.
+/// If an object of the same handler is created, the turn wants the reserve step of its procedure, or nothing without
+/// one, unless the store has failed.
 pub fn object_creations_ask()
     ensures { ObjectCreationsAsk }
 {
@@ -30,9 +30,9 @@ pub fn blocks_ask()
     programs_serve();
 }
 
-/// Where a request is taken the store stands for what the job makes of the half, if its name has its number and the reference
-/// to its target tells that object's class, each object has as many attributes as its class, and no routine runs on the next
-/// object.
+/// If a request is taken, the store represents what the job makes of the half, if its name has its number and the
+/// reference to its target has that object's class, each object has as many attributes as its class, and no routine
+/// runs on the next object.
 pub fn requests_are_taken()
     ensures { RequestsAreTaken }
 {}
@@ -43,13 +43,13 @@ pub fn taken_requests_ask()
     ensures { TakenRequestsAsk }
 {}
 
-/// Where the creator of a handler is told its number the store stands for what the half becomes.
+/// If the creator of a handler gets its number, the store represents the half after that.
 pub fn creators_are_told()
     ensures { CreatorsAreTold }
 {}
 
-/// Where a creator that passed its locks is told the number of the handler that was made, it goes on, and the store stands for
-/// what the job makes of the half.
+/// If a creator that passed its locks gets the number of the handler that was made, it goes on, and the store
+/// represents what the job makes of the half.
 pub fn made_are_answers()
     ensures { MadeAreAnswers }
 {}

@@ -1,4 +1,4 @@
-//! What the laws of regions stand on, each the contract of a function that does nothing.
+//! What the laws of regions rest on, each the contract of a function that does nothing.
 ghost use Rattle.sc_refines_world.specs.regions.Laws.{NewStoresStand, ProgramsServe};
 
 use sc_class::heir_laws::{features_differ, features_without_a_parent, found_features_stand};
@@ -12,7 +12,7 @@ pub fn programs_serve()
     found_features_stand();
 }
 
-/// A new store stands for the half of a handler that was asked for nothing yet.
+/// A new store represents the half of a handler to which nothing was posted yet.
 pub fn new_stores_stand()
     ensures { NewStoresStand }
 {}

@@ -4,8 +4,8 @@ ghost use Rattle.sc_refines_world.specs.regions.Further.{FirstTurnsGoOn, Further
 ghost use Rattle.sc_refines_world.specs.regions.Joined.{CreatedAreNew, OpensAsHalves, OpensAsNew, OthersKeepHalves, RegionsFollow, TurnsKeepHalves};
 ghost use Rattle.sc_refines_world.specs.regions.Order.{OpensInOrder, TurnsKeepOrder};
 
-/// What a handler's turn under its job makes of its region's half is that of the machine's turn, beside what the core's
-/// settlement leaves, where its frames stand in order, its requests have names with numbers, and settled objects meet
+/// A handler's turn under its job changes its region's half as the machine's turn does, beside what the core's
+/// settlement leaves, if its frames are in order, its requests have names with numbers, and settled objects meet
 /// their invariants after the turn.
 pub fn regions_follow()
     ensures { RegionsFollow }
@@ -31,7 +31,7 @@ pub fn openings_are_new()
     ensures { OpensAsNew }
 {}
 
-/// At the opening the frames of all handlers stand in order.
+/// At the opening the frames of all handlers are in order.
 pub fn openings_are_in_order()
     ensures { OpensInOrder }
 {}

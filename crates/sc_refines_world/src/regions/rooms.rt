@@ -3,7 +3,7 @@ ghost use Rattle.sc_refines_world.specs.regions.Rooms.{AnswersHaveRoom, RoomIsKe
 
 use crate::regions::half_laws::programs_serve;
 
-/// An operation that was told leaves each routine that is to be given a value room for it.
+/// An operation that was returned leaves each routine that is to be given a value room for it.
 pub fn room_is_kept()
     ensures { RoomIsKept }
 {}
@@ -13,8 +13,9 @@ pub fn answers_have_room()
     ensures { AnswersHaveRoom }
 {}
 
-/// Where a routine ends the store stands for what the turn makes of the half, if each object has as many attributes as its
-/// class, each routine that is to be given a value has room for it, and the caller, where it takes a value, is given one.
+/// If a routine ends, the store represents what the turn makes of the half, if each object has as many attributes as
+/// its class, each routine that is to be given a value has room for it, and the caller, if it takes a value, is given
+/// one.
 pub fn routines_end_with_room()
     ensures { RoutinesEndWithRoom }
 {

@@ -1,5 +1,5 @@
-//! What holds of each store that turns leave, and what turns make of such stores where they stand for halves that fit, each a
-//! law that is the contract of a function that does nothing.
+//! What holds of each store that turns leave, and what turns do to such stores that represent halves that fit, each
+//! a law that is the contract of a function that does nothing.
 ghost use Rattle.sc_refines_world.specs.regions.Placed.{SoundJobsAreTaken, SoundTurnsAreMade, SoundTurnsArePlayed, TurnsJoin};
 ghost use Rattle.sc_refines_world.specs.regions.Sound.{JobsKeepSound, NewStoresAreSound, PlaysKeepSound, TurnsKeepSound};
 
@@ -25,15 +25,15 @@ pub fn plays_keep_sound()
     ensures { PlaysKeepSound }
 {}
 
-/// A turn on a sound store that stands for a half that fits leaves a sound store, which stands for what the definition makes of
-/// the half, and asks the same.
+/// A turn on a sound store that represents a half that fits leaves a sound store, which represents what the
+/// definition makes of the half, and has an equal want.
 pub fn sound_turns_are_made()
     ensures { SoundTurnsAreMade }
 {
     programs_serve();
 }
 
-/// So does the first turn under a job that fits, whether the creator of a handler was told it before or not.
+/// So does the first turn under a job that fits, whether the creator of a handler had its number before or not.
 pub fn sound_jobs_are_taken()
     ensures { SoundJobsAreTaken }
 {
@@ -47,7 +47,7 @@ pub fn sound_turns_are_played()
     programs_serve();
 }
 
-/// A turn from where silent operations of a routine have led is its turn from where they began.
+/// A turn from the place that silent operations of a routine have reached is its turn from where they began.
 pub fn turns_join()
     ensures { TurnsJoin }
 {}

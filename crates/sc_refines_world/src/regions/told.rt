@@ -1,17 +1,18 @@
-//! What turns make of stores where the operation that they came to was told, each the contract of a function that does nothing.
+//! What turns do to stores for the operation that they have reached, each the contract of a function that does
+//! nothing.
 ghost use Rattle.sc_refines_world.specs.regions.Told.{ToldBlocksBegin, ToldCallsAreMade, ToldHandlersAreCreated, ToldObjectsAreCreated, ToldObjectsAreCreatedBy, ToldRequestsAreMade};
 
 use crate::regions::half_laws::programs_serve;
 
-/// Where a routine of the same handler is called the store stands for what the turn makes of the half, if requests have room
-/// for what the program names.
+/// If a routine of the same handler is called, the store represents what the turn makes of the half, if requests have
+/// room for what the program names.
 pub fn told_calls_are_made()
     ensures { ToldCallsAreMade }
 {
     programs_serve();
 }
 
-/// Where a request goes to another handler the store stands for what the turn makes of the half, and the turn asks for the
+/// If a request goes to another handler, the store represents what the turn makes of the half, and the turn wants the
 /// request, if requests have room for what the program names.
 pub fn told_requests_are_made()
     ensures { ToldRequestsAreMade }
@@ -19,7 +20,7 @@ pub fn told_requests_are_made()
     programs_serve();
 }
 
-/// Where a handler is created the store stands for what the turn makes of the half, and the turn asks for the handler, if
+/// If a handler is created, the store represents what the turn makes of the half, and the turn wants the handler, if
 /// requests have room for what the program names.
 pub fn told_handlers_are_created()
     ensures { ToldHandlersAreCreated }
@@ -27,24 +28,25 @@ pub fn told_handlers_are_created()
     programs_serve();
 }
 
-/// Where a separate block begins the store stands for what the turn makes of the half, if requests have room for what the
-/// program names.
+/// If a separate block begins, the store represents what the turn makes of the half, if requests have room for what
+/// the program names.
 pub fn told_blocks_begin()
     ensures { ToldBlocksBegin }
 {
     programs_serve();
 }
 
-/// Where an object is created without a procedure the store stands for what the turn makes of the half, if requests have room
-/// for what the program names, the store hasn't failed, the routine runs on an object of the handler, and none runs on the
-/// next object.
+/// If an object is created without a procedure, the store represents what the turn makes of the half, if requests
+/// have room for what the program names, the store hasn't failed, the routine runs on an object of the handler, and
+/// none runs on the next object.
 pub fn told_objects_are_created()
     ensures { ToldObjectsAreCreated }
 {
     programs_serve();
 }
 
-/// The same where it is created by a procedure, whose name is that of a routine, where there is room for the reference.
+/// If an object is created by a procedure, whose name is that of a routine, the store represents what the turn makes
+/// of the half, if there is room for the reference.
 pub fn told_objects_are_created_by()
     ensures { ToldObjectsAreCreatedBy }
 {

@@ -6,137 +6,139 @@ ghost use Rattle.sc_refines_world.specs.regions.Acting.{BlocksBegin, BlocksEnd, 
 
 use crate::regions::half_laws::programs_serve;
 
-/// What silent operations come to in a store is what silent steps come to in the half that it stands for.
+/// Silent operations do to a store what silent steps do to the half that it represents.
 pub fn silent_operations_follow()
     ensures { SilentOperationsFollow }
 {
     programs_serve();
 }
 
-/// Where an integer is printed the store stands for what the turn makes of the half.
+/// If an integer is printed, the store represents what the turn makes of the half.
 pub fn integers_are_printed()
     ensures { IntegersArePrinted }
 {
     programs_serve();
 }
 
-/// Where a truth value is printed the store stands for what the turn makes of the half.
+/// If a truth value is printed, the store represents what the turn makes of the half.
 pub fn booleans_are_printed()
     ensures { BooleansArePrinted }
 {
     programs_serve();
 }
 
-/// Where a text is printed the store stands for what the turn makes of the half.
+/// If a text is printed, the store represents what the turn makes of the half.
 pub fn texts_are_printed()
     ensures { TextsArePrinted }
 {
     programs_serve();
 }
 
-/// Where a loop ends or its body comes again the store stands for what the turn makes of the half.
+/// If a loop ends or its body comes again, the store represents what the turn makes of the half.
 pub fn rounds_end()
     ensures { RoundsEnd }
 {
     programs_serve();
 }
 
-/// Where a body begins behind its precondition the store stands for what the turn makes of the half.
+/// If a body begins after its precondition, the store represents what the turn makes of the half.
 pub fn bodies_start()
     ensures { BodiesStart }
 {
     programs_serve();
 }
 
-/// Where a routine fails the store stands for what the turn makes of the half.
+/// If a routine fails, the store represents what the turn makes of the half.
 pub fn routines_fail()
     ensures { RoutinesFail }
 {
     programs_serve();
 }
 
-/// Where a routine ends the store stands for what the turn makes of the half, if each object has as many attributes as its
-/// class, and the caller, where it takes a value, is given one and has room for it.
+/// If a routine ends, the store represents what the turn makes of the half, if each object has as many attributes as
+/// its class, and the caller, if it takes a value, is given one and has room for it.
 pub fn routines_end()
     ensures { RoutinesEnd }
 {
     programs_serve();
 }
 
-/// Where a clause of the precondition is false that isn't waited for, the request is refused or the own call fails, and the
-/// store stands for what the turn makes of the half, if each object has as many attributes as its class.
+/// If a clause of the precondition is false that isn't waited for, the request is refused or the own call fails, and
+/// the store represents what the turn makes of the half, if each object has as many attributes as its class.
 pub fn calls_are_refused()
     ensures { CallsAreRefused }
 {
     programs_serve();
 }
 
-/// Where a clause of the precondition is false that is waited for, the routine begins anew with its reserve step, and the
-/// store stands for what the turn makes of the half, if the routine is the version of a name and stands in its contract.
+/// If a clause of the precondition is false that is waited for, the routine begins anew with its reserve step, and
+/// the store represents what the turn makes of the half, if the routine is the version of a name and is in its
+/// contract.
 pub fn routines_wait()
     ensures { RoutinesWait }
 {
     programs_serve();
 }
 
-/// Where a request goes to another handler the store stands for what the turn makes of the half.
+/// If a request goes to another handler, the store represents what the turn makes of the half.
 pub fn requests_are_made()
     ensures { RequestsAreMade }
 {
     programs_serve();
 }
 
-/// Where a handler is created the store stands for what the turn makes of the half.
+/// If a handler is created, the store represents what the turn makes of the half.
 pub fn handlers_are_created()
     ensures { HandlersAreCreated }
 {
     programs_serve();
 }
 
-/// Where a separate block begins the store stands for what the turn makes of the half.
+/// If a separate block begins, the store represents what the turn makes of the half.
 pub fn blocks_begin()
     ensures { BlocksBegin }
 {
     programs_serve();
 }
 
-/// Where a separate block ends the store stands for what the turn makes of the half.
+/// If a separate block ends, the store represents what the turn makes of the half.
 pub fn blocks_end()
     ensures { BlocksEnd }
 {
     programs_serve();
 }
 
-/// Where a separate block ends and none is open, the handler fails, and the store stands for what the turn makes of the half.
+/// If a separate block ends and none is open, the handler fails, and the store represents what the turn makes of the
+/// half.
 pub fn no_block_ends()
     ensures { NoBlockEnds }
 {
     programs_serve();
 }
 
-/// Where a routine is entered by its name the store stands for what the definition makes of the half.
+/// If a routine is entered by its name, the store represents what the definition makes of the half.
 pub fn routines_are_entered()
     ensures { RoutinesAreEntered }
 {}
 
-/// Where a routine of the same handler is called the store stands for what the turn makes of the half, if the name has its
-/// number and the operands are there.
+/// If a routine of the same handler is called, the store represents what the turn makes of the half, if the name has
+/// its number and the operands are there.
 pub fn calls_are_made()
     ensures { CallsAreMade }
 {
     programs_serve();
 }
 
-/// Where an object is created without a procedure the store stands for what the turn makes of the half, if the store hasn't
-/// failed, the routine runs on an object of the handler, and none runs on the next object.
+/// If an object is created without a procedure, the store represents what the turn makes of the half, if the store
+/// hasn't failed, the routine runs on an object of the handler, and none runs on the next object.
 pub fn objects_are_created()
     ensures { ObjectsAreCreated }
 {
     programs_serve();
 }
 
-/// The same where it is created by a procedure, whose name has its number and is a routine, and whose operands are there and
-/// have room for the reference.
+/// If an object is created by a procedure, whose name has its number and is that of a routine, the store represents
+/// what the turn makes of the half, if its operands are there and have room for the reference.
 pub fn objects_are_created_by()
     ensures { ObjectsAreCreatedBy }
 {
@@ -155,7 +157,7 @@ pub fn simple_steps_ask_nothing()
     programs_serve();
 }
 
-/// A turn that leaves a store that has failed tells why.
+/// A turn that leaves a store that has failed says why.
 pub fn failures_are_told()
     ensures { FailuresAreTold }
 {}
@@ -182,7 +184,7 @@ pub fn refusals_ask()
     programs_serve();
 }
 
-/// Among distinct names each has the number at which it stands.
+/// Among distinct names each has its own place as its number.
 pub fn distinct_names_have_numbers()
     ensures { DistinctNamesHaveNumbers }
 {}
@@ -206,13 +208,13 @@ pub fn bad_answers_are_taken()
     ensures { BadAnswersAreTaken }
 {}
 
-/// Where a reserve step has reserved handlers the store stands for what the job makes of the half.
+/// If a reserve step has reserved handlers, the store represents what the job makes of the half.
 pub fn grants_are_taken()
     ensures { GrantsAreTaken }
 {}
 
-/// Where an answer is taken the store stands for what the job makes of the half, if a routine that waits for a value is given
-/// one and has room for it.
+/// If an answer is taken, the store represents what the job makes of the half, if a routine that waits for a value is
+/// given one and has room for it.
 pub fn answers_are_taken()
     ensures { AnswersAreTaken }
 {}

@@ -1,13 +1,14 @@
-//! One whole turn of a handler: what it makes of a store is what the definition of a turn makes of the half that the store
-//! stands for, and it asks the same. Each law is the contract of a function that does nothing.
+//! One whole turn of a handler: it does to a store what the definition of a turn does to the half that the store
+//! represents, and has an equal want. Each law is the contract of a function that does nothing.
 ghost use Rattle.sc_refines_world.specs.regions.Playing.{TurnsArePlayed};
 ghost use Rattle.sc_refines_world.specs.regions.Turns.{FirstTurnsAreMade, JobsAreTaken, TurnsAreMade};
 ghost use Rattle.sc_refines_world.specs.regions.Versions.{JobsKeepVersions, TurnsKeepVersions};
 
 use crate::regions::half_laws::programs_serve;
 
-/// A turn leaves what the definition makes of the half, and asks the same, if the store is well placed where its visible
-/// operation is done, that operation may be done there, and a routine that finds a clause false stands in its contract.
+/// A turn leaves what the definition makes of the half, and has an equal want, if the store is well placed for its
+/// visible operation, that operation may be executed there, and a routine that finds a clause false is in its
+/// contract.
 pub fn turns_are_made()
     ensures { TurnsAreMade }
 {

@@ -1,11 +1,11 @@
-//! Whether the operands of two routines, and what their postconditions keep, are the same.
+//! Whether the operands of two routines, and what their postconditions keep, are equal.
 ghost use Rattle.std.specs.Prelude.{◌≡◌, ◌↔◌, IsTrue};
 
 use super::{Olds, Operands};
 use crate::equality::same_values;
 
 impl Operands {
-    /// Whether they are the same, and there is room for as many. It looks at each at most once.
+    /// Whether they are equal and have equal room. It looks at each operand at most once.
     pub fn is_same(&self, other: &Operands) -> bool
         ensures { IsTrue result ↔ self.now ≡ other.now }
     {
@@ -15,7 +15,7 @@ impl Operands {
 }
 
 impl Olds {
-    /// Whether they are the same, and there is room for as many. It looks at each at most once.
+    /// Whether they are equal and have equal room. It looks at each value at most once.
     pub fn is_same(&self, other: &Olds) -> bool
         ensures { IsTrue result ↔ self.now ≡ other.now }
     {

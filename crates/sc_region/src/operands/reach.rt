@@ -23,7 +23,7 @@ impl Operands {
         }
     }
 
-    /// The value comes in the place of the last so many operands, of which there is one at least.
+    /// Replaces the last `count` operands, at least one, by the value.
     #[inline(always)]
     pub fn replace(&mut self, count: usize, value: Value)
         requires some { 1 ≤ count }
@@ -43,7 +43,7 @@ impl Operands {
         self.count
     }
 
-    /// The operand under the last so many.
+    /// The operand below the last `count`.
     #[inline(always)]
     pub fn under(&self, count: usize) -> Option<Value>
         ensures { result ≡ slice_get self.now.values count }
@@ -55,7 +55,7 @@ impl Operands {
         }
     }
 
-    /// The last so many operands, in the order of the text.
+    /// The last `count` operands, in the order of the text.
     #[inline(always)]
     pub(crate) fn last_values(&self, count: usize) -> &[Value]
         requires { count ≤ length self.now.values }
@@ -64,7 +64,7 @@ impl Operands {
         &self.items[self.count - count..self.count]
     }
 
-    /// Whether there is room for so many more.
+    /// Whether there is room for this number of further operands.
     #[inline(always)]
     pub fn has_room(&self, count: usize) -> bool
         ensures { IsTrue result ↔ (length self.now.values + count ≤ self.now.depth) }
@@ -72,7 +72,7 @@ impl Operands {
         self.depth - self.count >= count
     }
 
-    /// Whether there is room for one more where the last so many are gone.
+    /// Whether there is room for one more after the last `count` are removed.
     #[inline(always)]
     pub fn has_room_under(&self, count: usize) -> bool
         ensures { result ≡ nat_lt (length (drop count self.now.values)) self.now.depth }
@@ -80,7 +80,7 @@ impl Operands {
         self.count.saturating_sub(count) < self.depth
     }
 
-    /// The last so many operands go.
+    /// Removes the last `count` operands.
     #[inline(always)]
     pub fn drop_last(&mut self, count: usize)
         ensures { self.new ≡ record self.old { values = drop count self.old.values } }
@@ -90,8 +90,8 @@ impl Operands {
 }
 
 impl Olds {
-    /// One more value, which takes memory only where there is no room left; the room stays as it was. Err where there is
-    /// none; nothing has changed then.
+    /// Adds a value. It takes memory only if there is no room left; the room stays as it was. Its error says that
+    /// memory ran out, and nothing has changed then.
     pub fn keep(&mut self, value: Value) -> Result<(), AllocError>
         ensures ok { OnOk result (self.new ≡ record self.old { values = self.old.values ++ value ∷ [] }) }
         ensures err { OnErr result (self.new ≡ self.old) }

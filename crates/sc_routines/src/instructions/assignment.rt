@@ -21,7 +21,7 @@ use sc_tree::{Expr, Name, Variable};
 use sc_typing::{Assignee, Entity};
 use std::alloc::AllocError;
 
-/// What the left side of an assignment, or the entity of a creation, stands for.
+/// What the left side of an assignment, or the entity of a creation, means.
 pub fn assignee_at(setting: &Setting, names: &[Entity], variable: &Variable) -> Assignee
     ensures { assignee_in result ≡ assignee (here (setting_in setting.now)) (map entity_of names.now) (variable_of variable.now) }
 {

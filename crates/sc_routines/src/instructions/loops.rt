@@ -16,7 +16,7 @@ use sc_tree::Expr;
 use sc_typing::Entity;
 use std::alloc::AllocError;
 
-/// Lowers the condition of a loop behind its body, which stands behind the jump at this place. The jump goes to the
+/// Lowers the condition of a loop after its body, which follows the jump at this place. The jump goes to the
 /// condition, and the end of the loop back to the body.
 pub fn end_loop<'s>(
     setting: &Setting<'_, 's>,

@@ -14,7 +14,7 @@ pub struct Needs {
 }
 
 impl Needs {
-    /// Those of code that needs so many operands and nothing else.
+    /// The needs of code that takes this number of operands and nothing else.
     pub fn of_operands(depth: usize) -> Needs
         ensures depth { result.depth ≡ depth }
         ensures slots { result.slots ≡ 0 }

@@ -57,7 +57,7 @@ fn add_formals_in(names: &[Entity], slots: &mut Vec<usize>, e: &Expr) -> Result<
     }
 }
 
-/// Adds those that a call names, by itself where it has no target.
+/// Adds those that a call names, also its own name if it has no target.
 #[cycle(names)]
 #[tactic(auto, using(crate::proofs::FormalNames::formals_joined, crate::proofs::FormalNames::names_in_own, crate::proofs::FormalNames::names_in_qualified))]
 fn add_formals_in_call(

@@ -17,8 +17,8 @@ use sc_tree::Clause;
 use sc_typing::Entity;
 use std::alloc::AllocError;
 
-/// Lowers clauses of a precondition, behind which the routine starts whose name stands there, and gives how many operands
-/// they need.
+/// Lowers clauses of a precondition, before the routine with this name starts, and returns how many operands they
+/// need.
 #[tactic(auto, unfolding(sc_tree::specs::View::clause_of))]
 fn lower_demands<'s>(
     setting: &Setting<'_, 's>,
@@ -44,7 +44,7 @@ fn lower_demands<'s>(
     Ok(depth)
 }
 
-/// Lowers the precondition of the routine whose name stands there, and gives how many operands it needs.
+/// Lowers the precondition of the routine with this name, and returns how many operands it needs.
 pub fn lower_precondition<'s>(
     setting: &Setting<'_, 's>,
     names: &mut Vec<Entity<'s>>,

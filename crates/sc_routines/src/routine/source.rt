@@ -7,12 +7,12 @@ use sc_tree::Routine;
 #[derive(Clone, Copy)]
 pub struct RoutineSource<'s> {
     pub name: &'s str,
-    /// Where its name stands.
+    /// The place of its name.
     pub span: Span,
-    /// The number of the class that it stands in.
+    /// The number of the class that it belongs to.
     pub class: usize,
     pub routine: &'s Routine,
-    /// The number of the class where it was first declared, as its contract is.
+    /// The number of the class that first declared it, which has its contract.
     pub contract_class: usize,
     pub contract: &'s Routine,
 }

@@ -23,14 +23,14 @@ combined_result target result =
     then record { attached = true; tag = tag.Own; class = result.class }
     else record { attached = result.attached; tag = result_tag target.tag result.tag; class = result.class }
 
--- what a tag tells of the handler: which one it is, or nothing
+-- the handler that a tag names, if it names one
 abbrev pub known_of : Tag → Known
 known_of tag.Own = known.Own
 known_of (tag.With x) = known.With x
 known_of tag.Any = known.Neither
 known_of tag.None = known.Neither
 
--- the tag of a known handler; where nothing is known, Void's
+-- the tag of a known handler; if none is known, Void's
 abbrev pub known_tag : Known → Tag
 known_tag known.Own = tag.Own
 known_tag (known.With x) = tag.With x

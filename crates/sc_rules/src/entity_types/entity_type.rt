@@ -14,7 +14,7 @@ pub struct EntityType {
     pub attached: bool,
     /// On which handler its object lies.
     pub tag: Tag,
-    /// Of which class it is.
+    /// The class of its objects.
     pub class: ClassId,
 }
 

@@ -17,7 +17,7 @@ pub enum Known {
 }
 
 impl Known {
-    /// What an actual's tag tells: `own` and `with(x)` are the handler, the others tell nothing.
+    /// The handler that an actual's tag names: `own` and `with(x)` name one, the others don't.
     pub fn of(tag: Tag) -> Known
         ensures { result ≡ known_of tag }
     {
@@ -28,7 +28,7 @@ impl Known {
         }
     }
 
-    /// The tag of references to objects of this handler: Void's tag, where it isn't known.
+    /// The tag of references to objects of this handler, or Void's tag if the handler isn't known.
     pub fn tag(self) -> Tag
         ensures { result ≡ known_tag self }
     {

@@ -27,7 +27,7 @@ pub fn void_is_detachable()
     ensures { VoidFits }
 {}
 
-/// A tag conforms to another exactly where all handlers that it speaks of are the other's.
+/// A tag conforms to another exactly if every handler that it names is the other's.
 pub fn tags_are_handlers()
     ensures { TagsAreHandlers }
 {}

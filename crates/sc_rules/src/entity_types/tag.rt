@@ -3,8 +3,7 @@
 ghost use Rattle.std.specs.Prelude.{◌≡◌};
 ghost use Rattle.sc_rules.specs.entity_types.Tags.{tag_conforms};
 
-/// A name of a routine whose handler is reserved where the name is known. Two that are known in one place are told
-/// apart.
+/// A name of a routine whose handler is reserved while the name is in scope. Two names in one scope are kept apart.
 #[derive(Clone, Copy, PartialEq, Eq)]
 pub enum Reserved {
     /// The formal at this number of the routine's list, from 0.

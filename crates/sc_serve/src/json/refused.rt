@@ -3,8 +3,8 @@
 use crate::json::number_of;
 use crate::json::writer::Writer;
 
-/// Writes a refusal: its code and name, and where it stands; nulls where it has no code or stands nowhere. Of the line that
-/// tells it this is what stands behind the first word.
+/// Writes a refusal: its code and name, and its place; nulls if it has no code or no place. `told` is the line that
+/// reports it after its first word.
 pub fn push_refusal(json: &mut Writer, told: &[u8]) {
     let line = str::from_utf8(told).unwrap_or("");
     let line = line.strip_suffix('\n').unwrap_or(line);

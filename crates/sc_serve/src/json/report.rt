@@ -9,7 +9,7 @@ struct Reader<'t> {
     rest: &'t [u8],
 }
 
-/// What the line of a handler tells.
+/// The parts of a handler's line.
 #[derive(Clone, Copy)]
 struct Line<'t> {
     number: &'t str,
@@ -19,8 +19,8 @@ struct Line<'t> {
     length: usize,
 }
 
-/// Writes a report: each handler with its status, the code of its failure, how many requests it refused, and its output; how
-/// the run has stopped; and what its audit says, where there is one.
+/// Writes a report: each handler with its status, the code of its failure, how many requests it refused, and its
+/// output; how the run has stopped; and the answer of its audit, if there is one.
 pub fn push_report(json: &mut Writer, name: &str, text: &[u8]) {
     let mut reader = Reader { rest: text };
     let mut handlers = Writer::new(json.alloc);
@@ -58,8 +58,8 @@ fn push_handler(json: &mut Writer, line: Line<'_>, output: &[u8]) {
     json.close("}")
 }
 
-/// What the line of a handler tells behind its first word: `NUMBER STATUS refused COUNT output BYTES`, where the status may have
-/// a code behind it.
+/// The parts of a handler's line after its first word: `NUMBER STATUS refused COUNT output BYTES`; the status may
+/// have a code after it.
 fn line_told(told: &str) -> Option<Line<'_>> {
     let (standing, counts) = told.split_once(" refused ")?;
     let (number, status) = standing.split_once(' ')?;
@@ -78,7 +78,7 @@ fn line_told(told: &str) -> Option<Line<'_>> {
 }
 
 impl<'t> Reader<'t> {
-    /// What the next line tells behind these words, or None where it doesn't begin so: then it is still the next one.
+    /// The rest of the next line after these words, or None if it doesn't begin so: then it is still the next one.
     fn told_behind(&mut self, words: &str) -> Option<&'t str> {
         let told = self.rest.strip_prefix(words.as_bytes())?;
         let length = told.iter().position(|byte| *byte == b'\n')?;
@@ -86,7 +86,7 @@ impl<'t> Reader<'t> {
         str::from_utf8(told.get(..length)?).ok()
     }
 
-    /// So many bytes, and the line feed behind them, which is left out.
+    /// Takes this number of bytes, without the line feed after them.
     fn take(&mut self, length: usize) -> &'t [u8] {
         let (taken, rest) = self
             .rest

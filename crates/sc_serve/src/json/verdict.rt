@@ -9,7 +9,7 @@ use sc_audit::RecordLine;
 use sc_search::{End, Finding, Length, Verdict};
 use std::alloc::{AllocError, Global};
 
-/// The object of a verdict, with its outcomes where they are to be listed.
+/// The object of a verdict, with its outcomes if they are to be listed.
 pub fn search_object(
     alloc: Global,
     options: &SearchOptions<'_>,
@@ -72,7 +72,8 @@ fn length_values(length: Length) -> (Option<bool>, Option<u64>) {
     }
 }
 
-/// Writes an order: the lines of its record, each as a list of a handler and how many turns it takes; null where there is none.
+/// Writes an order: the lines of its record, each as a list of a handler and its number of turns; null if there is
+/// none.
 fn push_order(json: &mut Writer, lines: Option<&[RecordLine]>) {
     let Some(lines) = lines else {
         return json.text("order", None);
@@ -87,7 +88,7 @@ fn push_order(json: &mut Writer, lines: Option<&[RecordLine]>) {
     json.close("]")
 }
 
-/// Writes the outcomes, each with an order and its report; null where they aren't to be listed.
+/// Writes the outcomes, each with an order and its report; null if they aren't to be listed.
 fn push_reports(json: &mut Writer, options: &SearchOptions<'_>, ends: &[End]) {
     if !options.lists_outcomes {
         return json.text("reports", None);

@@ -10,7 +10,7 @@ use std::alloc::{AllocError, Global};
 pub struct Writer {
     pub alloc: Global,
     lines: Lines,
-    /// Whether another part stands in front of the next one, in the same list or object.
+    /// Whether another part comes before the next one, in its list or object.
     is_behind: bool,
 }
 
@@ -90,7 +90,7 @@ impl Writer {
         self.lines.push_lines(&value.lines)
     }
 
-    /// The line, where all of it was written.
+    /// The line, if all of it was written.
     pub fn finish(self) -> Result<Vec<u8>, AllocError> {
         let Writer { mut lines, .. } = self;
         lines.push("\n");

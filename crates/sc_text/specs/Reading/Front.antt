@@ -1,4 +1,4 @@
--- Reading, as a function on lists: what stands at the front of a text.
+-- Reading, as a function on lists: what is at the front of a text.
 use Rattle.std.specs.Prelude.{ℕ, ℤ, ◌+◌, pos, nat_le, Bool, true, false, ◌&&◌, ◌==◌, if◌then◌else◌, List, [], ◌∷◌, ◌++◌, length, take, drop, map, slice_index, Option, Some, None, Result, Ok, Err}
 use Rattle.std.specs.Char.{to_ascii_lowercase}
 use Rattle.std.specs.List.{prefix_len}
@@ -11,7 +11,7 @@ use Rattle.sc_text.specs.Words.{reserved, long_symbol, short_symbol}
 use Rattle.sc_text.specs.Spelling.{span_at}
 use Rattle.sc_text.specs.Reading.Lengths.{integer_end, closing}
 
--- a gap or a token of so many bytes, or why there is neither
+-- a gap or a token of this length in bytes, or why there is neither
 pub data Front : Type 0 where
   Gap : ℕ → Front
   Lexed : Kind → ℕ → Front
@@ -44,7 +44,7 @@ integer_of place n (Some v) = Lexed (INTEGER v) n
 unfoldable pub integer : ℕ → List ℕ → Front
 integer place text = integer_of place (integer_end 0 0 text) (number (take (integer_end 0 0 text) text))
 
--- the character that the mark at the front stands for
+-- the character that the escape at the front means
 abbrev pub mark_ahead : List ℕ → Option ℕ
 mark_ahead [] = None
 mark_ahead (c ∷ []) = None
@@ -72,7 +72,7 @@ abbrev pub manifest_by : ℕ → List ℕ → Option ℕ → Front
 manifest_by place body None = Flaw (fault.UnclosedString (span_at place 1))
 manifest_by place body (Some n) = manifest_of (n + 2) (marks_read false [] (place + 1) (take n body))
 
--- a manifest string, whose opening quote stands at this place and has this text behind it
+-- a manifest string, whose opening quote is at this place and has this text after it
 unfoldable pub manifest_string : ℕ → List ℕ → Front
 manifest_string place body = manifest_by place body (closing 0 false body)
 
@@ -88,7 +88,7 @@ symbol place text =
     then Gap (2 + prefix_len is_comment_part (drop 2 text))
     else symbol_of place (long_symbol (slice_index text 0) (slice_index text 1)) (short_symbol (slice_index text 0))
 
--- what stands at the front of a text that isn't empty
+-- what is at the front of a text that isn't empty
 unfoldable pub front : ℕ → List ℕ → Front
 front place text =
     if is_white_space (slice_index text 0) then Gap 1

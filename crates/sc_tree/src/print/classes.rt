@@ -15,7 +15,7 @@ use crate::system::{Class, ClassMark, Feature, FeatureKind, Parent, Routine};
 use sc_text::Terminal;
 use std::alloc::AllocError;
 
-/// Whether two lists are of the same names.
+/// Whether two lists have equal names.
 fn same_names(names: &[Name], others: &[Name]) -> bool
     ensures { result ≡ same_names (map name_of names.now) (map name_of others.now) }
 {
@@ -81,7 +81,7 @@ impl Printer {
         self.declared_type(&declaration.declared_type)
     }
 
-    /// Formal arguments in parentheses, where there are some.
+    /// Writes the formal arguments in parentheses, if there are any.
     #[tactic(auto, using(crate::proofs::PrintingLines::putting))]
     fn formals(&mut self, formals: &[Declaration]) -> Result<(), AllocError>
         ensures { OnOk result (PutsParts self.old self.new (formals_parts (map declaration_of formals.now))) }
@@ -98,7 +98,7 @@ impl Printer {
         self.word(Terminal::CloseParenthesis)
     }
 
-    /// The type of a result behind its colon, where there is one.
+    /// Writes a result's colon and type, if there is one.
     fn result_type(&mut self, result_type: &Option<DeclaredType>) -> Result<(), AllocError>
         ensures { OnOk result (PutsParts self.old self.new (result_type_parts (type_if_any result_type.now))) }
     {
@@ -109,7 +109,7 @@ impl Printer {
         self.declared_type(declared)
     }
 
-    /// `local` and a line for each local, where there are some.
+    /// Writes `local` and a line for each local, if there are any.
     #[tactic(auto, using(crate::proofs::PrintingLines::putting))]
     fn locals(&mut self, locals: &[Declaration]) -> Result<(), AllocError>
         ensures { OnOk result (PutsLines self.old self.new (locals_lines (map declaration_of locals.now))) }
@@ -201,7 +201,7 @@ impl Printer {
         self.end_line()
     }
 
-    /// A feature behind one that is exported to these classes.
+    /// Writes a feature that shares its export list with the one before.
     #[tactic(auto, using(crate::proofs::PrintingLines::putting), unfolding(crate::specs::View::feature_of))]
     fn further_feature(&mut self, exports: &[Name], feature: &Feature) -> Result<(), AllocError>
         requires { IsTrue (shares_list exports.now feature.now) }
@@ -214,7 +214,7 @@ impl Printer {
         self.feature(feature)
     }
 
-    /// Features that follow each other with the same export list stand under one `feature`.
+    /// Writes features; those in a row with equal export lists share one `feature`.
     #[tactic(auto, using(crate::proofs::PrintingLines::putting), unfolding(crate::specs::View::feature_of))]
     fn features(&mut self, features: &[Feature]) -> Result<(), AllocError>
         requires { IsTrue (share_lists features.now) }
@@ -233,7 +233,7 @@ impl Printer {
         Ok(())
     }
 
-    /// The word before `class`, where there is one.
+    /// Writes the word before `class`, if there is one.
     fn mark(&mut self, mark: &Option<ClassMark>) -> Result<(), AllocError>
         ensures { OnOk result (PutsParts self.old self.new (mark_parts (mark_if_any mark.now))) }
     {
@@ -245,7 +245,7 @@ impl Printer {
         }
     }
 
-    /// `redefine` and the names behind it, where there are some.
+    /// Writes `redefine` and its names, if there are any.
     #[tactic(auto, using(crate::proofs::PrintingLines::putting))]
     fn redefined(&mut self, names: &[Name]) -> Result<(), AllocError>
         ensures { OnOk result (PutsParts self.old self.new (redefined_parts (map name_of names.now))) }
@@ -269,7 +269,7 @@ impl Printer {
         self.end_line()
     }
 
-    /// `inherit` and a line for each parent, where there are some.
+    /// Writes `inherit` and a line for each parent, if there are any.
     #[tactic(auto, using(crate::proofs::PrintingLines::putting))]
     fn parents(&mut self, parents: &[Parent]) -> Result<(), AllocError>
         ensures { OnOk result (PutsLines self.old self.new (parents_lines (map parent_of parents.now))) }
@@ -284,7 +284,7 @@ impl Printer {
         Ok(())
     }
 
-    /// `create` and the names of the procedures that create objects, where there are some.
+    /// Writes `create` and the names of the creation procedures, if there are any.
     #[tactic(auto, using(crate::proofs::PrintingLines::putting))]
     fn creators(&mut self, creators: &[Name]) -> Result<(), AllocError>
         ensures { OnOk result (PutsLines self.old self.new (creators_lines (map name_of creators.now))) }

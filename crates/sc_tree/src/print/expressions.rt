@@ -16,7 +16,7 @@ use sc_text::Terminal;
 use std::alloc::AllocError;
 
 impl Printer {
-    /// What a type says of the handler of its objects, where it says something.
+    /// Writes what a type says about its objects' handler, if it says anything.
     fn handler_tag(&mut self, tag: &HandlerTag) -> Result<(), AllocError>
         ensures { OnOk result (PutsParts self.old self.new (handler_tag_parts (handler_tag_of tag.now))) }
     {
@@ -51,7 +51,7 @@ impl Printer {
         self.class_name(&declared.class)
     }
 
-    /// The type of an object test in braces, where there is one.
+    /// Writes the type of an object test in braces, if it has one.
     #[tactic(auto, using(crate::proofs::PrintingLines::putting))]
     fn tested_type(&mut self, tested: &Option<DeclaredType>) -> Result<(), AllocError>
         ensures { OnOk result (PutsParts self.old self.new (tested_type_parts (type_if_any tested.now))) }
@@ -127,7 +127,7 @@ impl Printer {
         self.word(Terminal::CloseParenthesis)
     }
 
-    /// A call, behind its target where it has one.
+    /// Writes a call after its target, if it has one.
     #[cycle(printing)]
     #[tactic(auto, using(crate::proofs::PrintingLines::putting), unfolding(crate::specs::Canonical::Expressions::expr_parts))]
     pub fn call(&mut self, call: &Call) -> Result<(), AllocError>
@@ -142,7 +142,7 @@ impl Printer {
         self.actuals(&call.actuals)
     }
 
-    /// Actual arguments in parentheses, where there are some.
+    /// Writes the actual arguments in parentheses, if there are any.
     #[cycle(printing)]
     #[tactic(auto, using(crate::proofs::PrintingLines::putting), unfolding(crate::specs::Canonical::Expressions::expr_parts))]
     pub fn actuals(&mut self, actuals: &[Expr]) -> Result<(), AllocError>

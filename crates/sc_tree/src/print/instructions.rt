@@ -23,7 +23,7 @@ pub fn deeper(indent: usize) -> Result<usize, AllocError>
 }
 
 impl Printer {
-    /// A clause's tag and its colon, where there is one.
+    /// Writes a clause's tag and its colon, if it has one.
     fn tag(&mut self, tag: &Option<Name>) -> Result<(), AllocError>
         ensures { OnOk result (PutsParts self.old self.new (tag_parts (tag_of tag.now))) }
     {
@@ -34,7 +34,7 @@ impl Printer {
         self.word(Terminal::Colon)
     }
 
-    /// A clause on a line of its own, with a semicolon behind all but the last of a list.
+    /// Writes a clause on a line of its own, with a semicolon unless it is the last of its list.
     #[tactic(auto, using(crate::proofs::PrintingLines::putting), unfolding(crate::specs::Canonical::Instructions::clause_line, crate::specs::View::clause_of))]
     fn clause(&mut self, indent: usize, clause: &Clause, is_last: bool) -> Result<(), AllocError>
         ensures { OnOk result (PutsLine self.old self.new (clause_line indent (clause_of clause.now) is_last)) }
@@ -58,7 +58,7 @@ impl Printer {
         Ok(())
     }
 
-    /// The clauses under `require`, `ensure` or `invariant`, where there are some.
+    /// Writes the clauses under `require`, `ensure` or `invariant`, if there are any.
     pub fn assertion(
         &mut self,
         indent: usize,
@@ -85,7 +85,7 @@ impl Printer {
         }
     }
 
-    /// The call that an object is created by, behind its dot, where there is one.
+    /// Writes the creation's dot and call, if it has one.
     fn creation_call(&mut self, call: &Option<CreationCall>) -> Result<(), AllocError>
         ensures { OnOk result (PutsParts self.old self.new (creation_call_parts (creation_call_of call.now))) }
     {
@@ -212,7 +212,7 @@ impl Printer {
         self.end_line()
     }
 
-    /// `else`, where something stands under it.
+    /// Writes `else` and its instructions, if there are any.
     fn other(&mut self, indent: usize, other: &[Instr]) -> Result<(), AllocError>
         ensures { OnOk result (PutsLines self.old self.new (else_lines indent (instrs_of other.now))) }
     {
@@ -288,7 +288,7 @@ impl Printer {
         Ok(())
     }
 
-    /// Each `elseif`, with what stands under it.
+    /// Writes each `elseif` and its instructions.
     #[cycle(instructions)]
     #[tactic(auto, using(crate::proofs::PrintingLines::putting), unfolding(crate::specs::Canonical::Instructions::instr_lines))]
     fn branches(&mut self, indent: usize, branches: &[Branch]) -> Result<(), AllocError>

@@ -33,7 +33,7 @@ pub fn left_class(operator: BinaryOperator) -> u8
     if class == 2 { class } else { class + 1 }
 }
 
-/// The class of an expression: 0 where no operator stands between two operands.
+/// The precedence class of an expression: 0 unless an operator is between two operands.
 #[tactic(auto, unfolding(crate::specs::View::expr_of))]
 pub fn class_of(expr: &Expr) -> u8
     ensures { result ≡ class_of_expr (expr_of expr.now) }

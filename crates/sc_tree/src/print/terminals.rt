@@ -94,7 +94,7 @@ pub fn terminal_text(terminal: Terminal) -> &'static [u8]
     }
 }
 
-/// Whether the next token stands close behind it.
+/// Whether the next token follows with no space.
 pub fn opens(terminal: Terminal) -> bool
     ensures { result ≡ is_opening terminal }
 {
@@ -104,7 +104,7 @@ pub fn opens(terminal: Terminal) -> bool
     )
 }
 
-/// Whether it stands close behind the token before it.
+/// Whether the token follows the one before it with no space.
 pub fn closes(terminal: Terminal) -> bool
     ensures { result ≡ is_closing terminal }
 {

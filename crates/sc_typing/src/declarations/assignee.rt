@@ -13,7 +13,7 @@ use sc_rules::entity_types::EntityType;
 use sc_text::Span;
 use sc_tree::{FeatureKind, Variable};
 
-/// What a name on the left side stands for.
+/// What a name on the left side means.
 #[derive(Clone, Copy)]
 pub enum Assignee {
     /// Nothing.
@@ -26,7 +26,7 @@ pub enum Assignee {
     Attribute(Option<EntityType>),
 }
 
-/// Where the left side stands.
+/// The place of the left side.
 pub fn variable_span(variable: &Variable) -> Span
     ensures { result ≡ spec.variable_span (variable_of variable.now) }
 {
@@ -36,7 +36,7 @@ pub fn variable_span(variable: &Variable) -> Span
     }
 }
 
-/// What a name that is known stands for on the left side.
+/// What a name in scope means on the left side.
 fn assignee_of_entity(known: Entity) -> Assignee
     ensures { assignee_in result ≡ spec.assignee_of_entity (entity_of known.entry) }
 {
@@ -47,7 +47,7 @@ fn assignee_of_entity(known: Entity) -> Assignee
     }
 }
 
-/// What Result stands for on the left side, by the type that the routine gives.
+/// What Result means on the left side, by the routine's result type.
 fn assignee_of_result(result_type: Option<Option<EntityType>>) -> Assignee
     ensures { assignee_in result ≡ spec.assignee_of_result result_type }
 {
@@ -58,7 +58,7 @@ fn assignee_of_result(result_type: Option<Option<EntityType>>) -> Assignee
 }
 
 impl<'t, 's> RoutineContext<'t, 's> {
-    /// What a feature of the class stands for on the left side.
+    /// What a feature of the class means on the left side.
     #[tactic(auto, unfolding(sc_tree::specs::View::kind_of))]
     fn assignee_of_kind(&self, kind: &FeatureKind) -> Assignee
         ensures { assignee_in result ≡ spec.assignee_of_kind (routine_in self.now) (kind_of kind.now) }
@@ -71,7 +71,7 @@ impl<'t, 's> RoutineContext<'t, 's> {
         }
     }
 
-    /// What the feature that is found stands for on the left side.
+    /// What the feature that is found means on the left side.
     #[tactic(auto, unfolding(sc_tree::specs::View::feature_of))]
     fn assignee_of_feature(&self, entry: Option<FeatureEntry>) -> Assignee
         ensures { assignee_in result ≡ spec.assignee_of_feature (routine_in self.now) (entry_if_any entry.entry) }
@@ -82,7 +82,7 @@ impl<'t, 's> RoutineContext<'t, 's> {
         }
     }
 
-    /// What a name stands for on the left side: an entity, or else a feature of the class.
+    /// What a name means on the left side: an entity, or else a feature of the class.
     fn assignee_named(&self, names: &[Entity], name: &str) -> Assignee
         ensures { assignee_in result
             ≡ spec.assignee_or (routine_in self.now) name.now (spec.entity_named name.now (map entity_of names.now)) }
@@ -99,7 +99,7 @@ impl<'t, 's> RoutineContext<'t, 's> {
         }
     }
 
-    /// What the left side of an assignment, or the entity of a creation, stands for.
+    /// What the left side of an assignment, or the entity of a creation, means.
     pub fn assignee(&self, names: &[Entity], variable: &Variable) -> Assignee
         ensures { assignee_in result
             ≡ spec.assignee (routine_in self.now) (map entity_of names.now) (variable_of variable.now) }

@@ -159,7 +159,7 @@ pub fn blocks(names: &[Entity]) -> usize
     count
 }
 
-/// The type of a block's name, where so many are known around it and its head has this type.
+/// The type of a block's name, with this number of names in scope around the block and this type of its head.
 pub fn block_type(number: usize, head: Option<EntityType>) -> Option<EntityType>
     ensures { result ≡ spec.block_type number head }
 {

@@ -59,7 +59,7 @@ fn number_of_named(name: &str, formals: &[Declaration]) -> Option<usize>
     None
 }
 
-/// The tag that is declared, where it may name these formals; it is none where it names no such formal.
+/// The tag that is declared, if it may name these formals; none if it names no such formal.
 fn declared_tag(formals: &[Declaration], tag: &HandlerTag) -> Option<Tag>
     ensures { result ≡ types.declared_tag (map declaration_of formals.now) (handler_tag_of tag.now) }
 {
@@ -138,7 +138,7 @@ pub fn judge_type(
     required(typed.is_some(), Rule::TagName, declared.span)
 }
 
-/// The type that an attribute or a function gives behind a target of this type.
+/// The type that an attribute or a function has after a target of this type.
 pub fn given_type(
     tables: &Tables,
     target: EntityType,
@@ -152,7 +152,7 @@ pub fn given_type(
     }
 }
 
-/// The type that a routine gives behind a target of this type, if it is a function.
+/// The type that a routine has after a target of this type, if it is a function.
 pub fn given_type_if_any(
     tables: &Tables,
     target: EntityType,

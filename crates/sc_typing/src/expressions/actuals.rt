@@ -167,7 +167,7 @@ impl<'a> Passing<'a> {
         }
     }
 
-    /// Whether the actual at a number may be passed, of this type, where there is a formal for it.
+    /// Whether the actual at a number, of this type, may be passed to its formal, if there is one.
     fn is_taken(
         &self,
         tables: &Tables,
@@ -186,8 +186,8 @@ impl<'a> Passing<'a> {
 }
 
 impl<'t, 's> RoutineContext<'t, 's> {
-    /// Judges the actuals in order, each with its formal, and tells whether a separate call is made in one of them. The
-    /// first type is that of the target as it stands, the second that which the signature has.
+    /// Judges the actuals in order, each with its formal, and returns whether one of them makes a separate call. The
+    /// first type is the target's own, the second is that of the signature.
     pub(crate) fn judge_actuals(
         &self,
         context: Context,

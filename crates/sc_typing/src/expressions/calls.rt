@@ -73,7 +73,7 @@ fn judge_use(
     }
 }
 
-/// Whether something stands before the dot.
+/// Whether there is a target before a dot.
 fn is_qualified(target: &Option<Box<Expr>>) -> bool
     ensures { result ≡ names.is_qualified (target_of target.now) }
 {
@@ -90,14 +90,14 @@ fn is_exported_to(target: &Option<Box<Expr>>, is_secret: bool) -> bool
     !(is_qualified(target) && is_secret)
 }
 
-/// Where a call stands, and how it is used.
+/// The place of a call, and how it is used.
 #[derive(Drop)]
 pub struct CallContext<'a> {
     pub context: Context,
     pub usage: Use,
-    /// What is called on, if something stands before the dot.
+    /// The target, if there is one before a dot.
     pub target: &'a Option<Box<Expr>>,
-    /// Where its name stands.
+    /// The place of its name.
     pub span: Span,
 }
 
@@ -139,7 +139,7 @@ impl<'t, 's> RoutineContext<'t, 's> {
         }
     }
 
-    /// Judges the name of a call with so many actuals, where it stands for what has this signature.
+    /// Judges the name of a call with this number of actuals, if it has this signature.
     fn judge_signature(
         &self,
         site: &CallContext,
@@ -166,7 +166,7 @@ impl<'t, 's> RoutineContext<'t, 's> {
         Ok(given)
     }
 
-    /// Judges the name of a call with so many actuals.
+    /// Judges the name of a call with this number of actuals.
     fn judge_name(
         &self,
         site: &CallContext,

@@ -38,14 +38,14 @@ fn is_comparable(left: ClassId, right: ClassId) -> bool
     }
 }
 
-/// The type that an operator gives, where it takes its operands.
+/// The type of an operation, if the operator takes its operands.
 fn gives_if(holds: bool, given: EntityType) -> Option<EntityType>
     ensures { result ≡ types.gives_if holds given }
 {
     if holds { Some(given) } else { None }
 }
 
-/// What a unary operator gives where its operand has this type: nothing where it doesn't take it.
+/// The result of a unary operator with an operand of this type: none if it doesn't take it.
 fn unary_type(operator: UnaryOperator, operand: EntityType) -> Option<EntityType>
     ensures { result ≡ types.unary_type operator operand }
 {
@@ -98,7 +98,7 @@ fn equality(left: EntityType, right: EntityType) -> Option<EntityType>
     )
 }
 
-/// What a binary operator gives where its operands have these types: nothing where it doesn't take them.
+/// The result of a binary operator with operands of these types: none if it doesn't take them.
 fn binary_type(operator: BinaryOperator, left: EntityType, right: EntityType) -> Option<EntityType>
     ensures { result ≡ types.binary_type operator left right }
 {
@@ -126,7 +126,7 @@ pub fn test_result(tested: Option<EntityType>) -> Option<EntityType>
     }
 }
 
-/// What an operator gives where its operand has this type, if it has one: nothing where it doesn't take it.
+/// The result of an operator whose operand has this type, if it has one: none if the operator doesn't take it.
 pub fn unary_result(
     operator: UnaryOperator,
     operand: Option<EntityType>,
@@ -142,7 +142,8 @@ pub fn unary_result(
     }
 }
 
-/// What an operator gives where its operands have these types, if they have: nothing where it doesn't take them.
+/// The result of an operator whose operands have these types, if they have any: none if the operator doesn't take
+/// them.
 pub fn binary_result(
     operator: BinaryOperator,
     left: Option<EntityType>,

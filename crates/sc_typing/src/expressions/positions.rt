@@ -1,4 +1,4 @@
-//! Where an expression stands, and where its parts do.
+//! The position of an expression, and those of its parts.
 
 ghost use Rattle.std.specs.Prelude.{◌≡◌};
 ghost use Rattle.sc_rules.specs.Positions as positions;
@@ -6,7 +6,7 @@ ghost use Rattle.sc_rules.specs.Positions as positions;
 use sc_rules::{Context, Position};
 use sc_tree::{BinaryOperator, UnaryOperator};
 
-/// Whether `Void` may stand there.
+/// Whether `Void` is allowed in this position.
 pub fn takes_void(position: Position) -> bool
     ensures { result ≡ positions.takes_void position }
 {
@@ -40,7 +40,7 @@ pub fn is_ensure(context: Context) -> bool
     matches!(context, Context::Ensure)
 }
 
-/// Where the operand of `old` stands: in a precondition it stays in that.
+/// The context of the operand of `old`: in a precondition it stays that.
 fn below_old(context: Context) -> Context
     ensures { result ≡ positions.below_old context }
 {
@@ -51,7 +51,7 @@ fn below_old(context: Context) -> Context
     }
 }
 
-/// Where the operand of a unary operator stands.
+/// The context of the operand of a unary operator.
 pub fn operand_context(operator: UnaryOperator, context: Context) -> Context
     ensures { result ≡ positions.operand_context operator context }
 {
@@ -61,7 +61,7 @@ pub fn operand_context(operator: UnaryOperator, context: Context) -> Context
     }
 }
 
-/// Where the operands of a binary operator stand.
+/// The position of the operands of a binary operator.
 pub fn operand_position(operator: BinaryOperator) -> Position
     ensures { result ≡ positions.operand_position operator }
 {

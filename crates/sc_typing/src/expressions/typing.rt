@@ -19,7 +19,7 @@ use sc_tree::{BinaryOperator, UnaryOperator};
 /// What is found of an expression in which no rule fails.
 #[derive(Clone, Copy)]
 pub struct Typing {
-    /// Its type, or none where a declaration that it stands on is faulty.
+    /// Its type, or none if a declaration that it depends on is faulty.
     pub entity_type: Option<EntityType>,
     /// Whether a separate call is made in it.
     pub is_separate: bool,
@@ -28,7 +28,7 @@ pub struct Typing {
 /// An actual of a call.
 #[derive(Clone, Copy)]
 pub struct JudgedActual {
-    /// Where it stands.
+    /// Its place.
     pub span: Span,
     /// What is found of it, or the rule that fails in it.
     pub judged: Result<Typing, Fault>,
@@ -79,14 +79,14 @@ pub fn may_pass(context: Context, target: Option<EntityType>, actual: Option<Ent
     !(is_require(context) && is_foreign_type(target)) || is_value(actual)
 }
 
-/// Whether `old` stands in a postcondition, and makes no separate call.
+/// Whether `old` is in a postcondition and makes no separate call.
 fn old_stands(context: Context, operator: UnaryOperator, operand: Typing) -> bool
     ensures { result ≡ spec.old_stands context operator (typing_of operand) }
 {
     !operator.is_old() || (is_ensure(context) && !operand.is_separate)
 }
 
-/// What an operator gives, where it takes its operands.
+/// Judges an operation, if its operator takes its operands.
 fn judge_operation(
     span: Span,
     is_separate: bool,
@@ -103,7 +103,7 @@ fn judge_operation(
     }
 }
 
-/// What is found of a unary operator, behind its operand.
+/// Judges a unary operator, after its operand.
 pub fn judge_unary(
     context: Context,
     span: Span,
@@ -117,7 +117,7 @@ pub fn judge_unary(
     judge_operation(span, operand.is_separate, given)
 }
 
-/// What is found of a binary operator, behind its operands.
+/// Judges a binary operator, after its operands.
 pub fn judge_binary(
     span: Span,
     operator: BinaryOperator,

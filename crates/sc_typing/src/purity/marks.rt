@@ -6,7 +6,7 @@ ghost use Rattle.sc_class.specs.SystemIn.{system_in};
 
 use crate::purity::numbering::Numbering;
 
-/// The features of a system, of which those that aren't pure functions are marked.
+/// The features of a system, with a mark on each that is no pure function.
 #[derive(Drop)]
 pub struct Marks<'t, 's> {
     pub numbering: Numbering<'t, 's>,

@@ -16,12 +16,13 @@ served origin.Creation = 0
 served origin.Requested = 1
 served origin.RequestedCreation = 1
 
--- The frames serve so many requests: one that a request began serves that, and any other one of those below it.
+-- The frames serve this number of requests: one that a request began serves that, and any other one of those below
+-- it.
 abbrev pub Serve : List PlainFrame → ℕ → Type 0
 Serve [] n = n ≡ 0
 Serve (f ∷ below) n = (0 < n) × Serve below (n - served f.activation.origin)
 
--- The store hasn't failed, and its frames serve so many requests.
+-- The store hasn't failed, and its frames serve this number of requests.
 pub record Serves (n : ℕ) (x : PlainStore) : Type 0 where
   pub stands : x.failure ≡ None
   pub serve : Serve x.frames n
@@ -33,7 +34,7 @@ abbrev pub HasFrames : HandlerStage → List Service → Type 0
 HasFrames stage [] = Unit {0}
 HasFrames stage (v ∷ vs) = (has_frames stage ≡ true) × HasFrames v.over vs
 
--- The handler serves so many requests, if it hasn't failed.
+-- The handler serves this number of requests, if it hasn't failed.
 pub record HasServices (n : ℕ) (x : Handler) : Type 0 where
   pub count : length x.services ≡ n
   pub frames : HasFrames x.stage x.services

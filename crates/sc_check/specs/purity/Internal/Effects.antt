@@ -30,7 +30,7 @@ abbrev pub effect_of : Effect → judging.Effect
 effect_of SideEffect = judging.side_effect
 effect_of (RoutineCall e) = judging.routine_call (routine_of (entry_of e))
 
--- these effects were put behind the others, unless memory ran out
+-- these effects were added after the others, unless memory ran out
 abbrev pub Adds : {A : Type 0} → List Effect → List Effect → List judging.Effect → Result A CheckFault → Type 0
 Adds old new effects (Ok x) = map effect_of new ≡ map effect_of old ++ effects
 Adds old new effects (Err e) = e ≡ OutOfMemory
@@ -42,7 +42,7 @@ IsFound j (Err e) = e ≡ OutOfMemory
 
 -- ---- parts of what is found, as the code is divided
 
--- of a target, as it stands
+-- of a target
 abbrev pub target_found : RoutineContext → Context → Entities → Target → Judged typing.Typing
 target_found h c n no_target = Ok (simple_typing (current h))
 target_found h c n (target a) = judge h c Plain n a
@@ -52,7 +52,7 @@ abbrev pub received : Target → typing.Typing → Judged typing.Typing
 received no_target t = Ok t
 received (target a) t = judge_received (span_of a) t
 
--- of a call, behind its target and its actuals
+-- of a call, after its target and its actuals
 abbrev pub judge_met : RoutineContext → Context → Target → Meaning → Span → List JudgedActual → Judged typing.Typing →
     Judged typing.Typing
 judge_met h c a m p rs j = do
@@ -60,7 +60,7 @@ judge_met h c a m p rs j = do
   r ← received a t
   judge_actuals_and_name h c Value a m p rs r
 
--- of operators, behind their operands
+-- of operators, after their operands
 abbrev pub judge_behind_operand : Context → Span → UnaryOperator → Judged typing.Typing → Judged typing.Typing
 judge_behind_operand c p op j = do
   t ← j
@@ -73,7 +73,7 @@ judge_behind_operands p op i j = do
   u ← j
   judge_binary p op t u
 
--- of an object test that stands in no condition, behind what is tested
+-- of an object test outside a condition, after what is tested
 abbrev pub judge_misplaced : RoutineContext → Span → Option DeclaredType → Judged typing.Typing → Judged typing.Typing
 judge_misplaced h p d j = do
   _ ← judge_tested h d
@@ -87,7 +87,7 @@ abbrev pub effects_in_call : RoutineContext → Context → Entities → Target 
 effects_in_call h c n a x es =
     judging.effects_of_target h c n a ++ (judging.effects_of_actuals h c n es ++ judging.effects_of_call h c n a x)
 
--- in a condition and what stands under it
+-- in a condition and the instructions under it
 abbrev pub effects_of_branch : RoutineContext → Entities → Expr → Instrs → List judging.Effect
 effects_of_branch h n e is =
     judging.effects h context.Body Condition n e

@@ -37,7 +37,8 @@ IsNamedIn s classes x k = Any (λ i. feature_number s (record { class = i; name 
 abbrev pub IsCallOf : System → Effect → ℕ → Type 0
 IsCallOf s d j = (g : RoutineName) × (d ≡ routine_call g) × (feature_number s g ≡ Some j)
 
--- What a feature does was held: it is found where no pure function does that, and is a caller of what it calls.
+-- An effect of a feature was recorded: the feature is found if no pure function has that effect, and is a caller of
+-- what it calls.
 pub record IsRecorded (s : System) (impure : List Bool) (todo : List ℕ) (lists : List (Vec ℕ Global))
     (impure' : List Bool) (todo' : List ℕ) (lists' : List (Vec ℕ Global)) (n : ℕ) (d : Effect) : Type 0 where
   pub grows : Grows (λ k. (k ≡ n) × (d ≡ side_effect)) impure todo impure' todo'

@@ -38,7 +38,7 @@ pub fn in_expression(features: &Features, known: &NameIndex, e: &Expr) -> Option
     }
 }
 
-/// In what stands before the dot of a call.
+/// Looks at what is before the dot of a call.
 #[cycle(expressions)]
 #[tactic(auto, unfolding(crate::specs::Internal::ScopeSearch::expr_clash))]
 pub fn in_target(features: &Features, known: &NameIndex, target: &Option<Box<Expr>>) -> Option<Span>
@@ -85,8 +85,8 @@ pub fn in_values(features: &Features, known: &NameIndex, heads: &[Head]) -> Opti
     found
 }
 
-/// In the condition of an `if`, whose object tests are known behind it, and behind the left operand of
-/// an `and then` those of that operand.
+/// Looks at the condition of an `if`. Its object tests are in scope after it, and those of the left operand of an
+/// `and then` after that operand.
 #[tactic(auto, unfolding(crate::specs::Internal::ScopeSearch::condition_clash, sc_tree::specs::View::expr_of))]
 pub fn in_condition<'s>(
     features: &Features,

@@ -52,7 +52,7 @@ impl<'t, 's> Features<'t, 's> {
         }
     }
 
-    /// The first place at which a feature of this name stands.
+    /// The first place of a feature of this name.
     pub fn place(&self, name: &str) -> Option<Span>
         ensures { result ≡ place_among name.now self.now }
     {

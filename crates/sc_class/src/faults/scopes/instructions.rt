@@ -1,5 +1,5 @@
-//! Instructions: where the name of an object test or of a block's head clashes. What they make known is
-//! known no more behind them.
+//! Instructions: where the name of an object test or of a block's head clashes. Names that they bring into scope
+//! leave it after them.
 
 ghost use Rattle.std.specs.Prelude.{◌≡◌, ◌++◌, IfOk, OnOk, map};
 ghost use Rattle.sc_tree.specs.View.{expr_of, creation_call_of, head_of, instr_of, instrs_of, branches_of};
@@ -66,7 +66,7 @@ pub fn in_instruction<'s>(
     }
 }
 
-/// In a block: in what its heads reserve, in their names, and in what stands under them.
+/// Looks at a block: what its heads reserve, their names, and its instructions.
 #[cycle(instructions)]
 fn in_block<'s>(
     features: &Features,
@@ -88,7 +88,7 @@ fn in_block<'s>(
     Ok(first_place(values, first_place(names, body)))
 }
 
-/// In what stands under a condition, and in that condition.
+/// Looks at a condition and the instructions under it.
 #[cycle(instructions)]
 fn in_branch<'s>(
     features: &Features,

@@ -1,4 +1,4 @@
-//! Names that can't stand behind those that are known.
+//! Names that can't follow those in scope.
 
 ghost use Rattle.std.specs.Prelude.{◌≡◌, ◌++◌, ◌∷◌, [], IfOk, OnOk, map};
 ghost use Rattle.std.specs.Option.{option_map};
@@ -14,7 +14,7 @@ use sc_text::Span;
 use sc_tree::{Declaration, Feature, Head, Name};
 use std::alloc::AllocError;
 
-/// The later of a place, where there is one, and another.
+/// The later of a place, if there is one, and another.
 fn last_place_if_any(one: Option<Span>, other: Span) -> Option<Span>
     ensures { result ≡ option_map (λ p. names.last_place p other) one }
 {
@@ -37,7 +37,7 @@ pub fn name_clash(features: &Features, known: &NameIndex, name: &Name) -> Option
     first_place(feature, entity)
 }
 
-/// Makes a name known, and tells where it clashes.
+/// Brings a name into scope, and returns where it clashes.
 pub fn declare<'s>(
     features: &Features,
     known: &mut NameIndex<'s>,
@@ -51,7 +51,7 @@ pub fn declare<'s>(
     Ok(place)
 }
 
-/// Makes the names of a block's heads known, and tells where one clashes.
+/// Brings the names of a block's heads into scope, and returns where one clashes.
 pub fn declare_heads<'s>(
     features: &Features,
     known: &mut NameIndex<'s>,
@@ -69,7 +69,7 @@ pub fn declare_heads<'s>(
     Ok(found)
 }
 
-/// Makes formals or locals known, and tells where one clashes.
+/// Brings formals or locals into scope, and returns where one clashes.
 pub fn declare_entities<'s>(
     features: &Features,
     known: &mut NameIndex<'s>,
@@ -87,7 +87,7 @@ pub fn declare_entities<'s>(
     Ok(found)
 }
 
-/// Makes features known, and tells where one clashes.
+/// Brings features into scope, and returns where one clashes.
 pub fn declare_features<'s>(
     features: &Features,
     known: &mut NameIndex<'s>,

@@ -44,7 +44,7 @@ fn in_routine(
     in_parts(features, &mut known, routine)
 }
 
-/// In a routine, where no names but those of its class's features are known yet.
+/// Looks at a routine. Only the names of its class's features are in scope yet.
 #[tactic(auto, unfolding(crate::specs::Internal::ScopeSearch::kind_clash, sc_tree::specs::View::kind_of))]
 fn in_parts<'s>(
     features: &Features,
