@@ -84,15 +84,15 @@ EvaluationsMayAskMore = (s : System) (may more : ℕ → Bool) (O : ℕ → List
     ((k : ℕ) → may k ≡ true → more k ≡ true) →
     (me : Reference) (p : Point) → EndsTrue s (Told may) O me p → EndsTrue s (Told more) O me p
 
--- ---- what stands behind
+-- ---- what follows
 
--- A step of a task without `old` is the same whatever stands behind it, and whatever the `old`s are.
+-- A step of a task without `old` doesn't depend on what follows it, nor on the `old`s.
 abbrev pub StepExtends : Type 0
 StepExtends = (s : System) (me : Reference) (os : List Operand) (ts : List Task) (p : Point) (t : Task)
     (rest : List Task) → p.tasks ≡ t ∷ rest → TaskHasNoOld t →
     step s me (extended os ts p) ≡ extended_step os ts (step s me p)
 
--- where a step comes to
+-- the end of a step
 abbrev pub point_after : Step → Point
 point_after (Goes p) = p
 point_after (Does a p) = p
@@ -102,7 +102,7 @@ abbrev pub StepKeepsNoOld : Type 0
 StepKeepsNoOld = (s : System) (me : Reference) (p : Point) → Each TaskHasNoOld p.tasks →
     Each TaskHasNoOld (point_after (step s me p)).tasks
 
--- In an accepted system no `old` stands in the body of a routine, nor in its precondition.
+-- In an accepted system neither the body of a routine nor its precondition has an `old`.
 pub record IsWithoutOld (r : Routine) : Type 0 where
   pub body : InstrsHaveNoOld r.body
   pub require : (k : Clause) → Contains r.require k → HasNoOld k.condition
@@ -114,7 +114,7 @@ TextsAreWithoutOld = WhereAccepted λ s root. (k : ℕ) (x : List ℕ) (r : Rout
 
 -- ---- contracts
 
--- Tasks of a contract stand before these, and nothing else has changed but the `old`s.
+-- Tasks of a contract come before these, and nothing else has changed but the `old`s.
 pub record StaysInContract (rest : List Task) (p q : Point) : Type 0 where
   pub tasks : List Task
   pub tasks_are : q.tasks ≡ tasks ++ rest
@@ -139,7 +139,7 @@ abbrev pub StepOfContract : Type 0
 StepOfContract = (s : System) (me : Reference) (t : Task) (ts rest : List Task) (p : Point) → p.tasks ≡ t ∷ ts ++ rest →
     IsOfContract t → Each IsOfContract ts → StepsInContract rest p (step s me p)
 
--- In an accepted system no object test stands in a precondition, in a postcondition or in what its `old`s keep: each
+-- In an accepted system no object test is in a precondition, in a postcondition or in what its `old`s keep: each
 -- task of a contract is one.
 pub record IsWithoutTests (r : Routine) : Type 0 where
   pub require : Each ClauseHasNoTest r.require

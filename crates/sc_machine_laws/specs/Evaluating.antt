@@ -1,6 +1,6 @@
--- What an evaluation comes to, by its parts: within one text it goes from a point to another, and a call gives a value.
--- It is over the objects of all handlers at once, with the bodies of functions and without their contracts, as a clause
--- is evaluated; but each routine stands by itself.
+-- The result of an evaluation, by its parts: within one text it goes from a point to another, and a call has a
+-- value. It is over the objects of all handlers at once, with the bodies of functions and without their contracts,
+-- as a clause is evaluated; but each routine is by itself.
 use Rattle.std.specs.Prelude.{ℕ, ◌≡◌, Bool, true, false, List, [], ◌∷◌, ◌++◌, Option, Some}
 use Rattle.sc_tree.specs.Plain as tree
 use Rattle.sc_tree.specs.Plain.{System, Clause, DeclaredType, RoutineDeclaration}
@@ -61,7 +61,7 @@ clause_point objects t bs result k = record {
   values = [];
 }
 
--- From this point the evaluation comes to its end, and gives true.
+-- From this point the evaluation ends with true.
 pub record EndsTrue (s : System) (M : ℕ → Type 0) (O : ℕ → List Object) (me : Reference) (p : Point) : Type 0 where
   pub end : Point
   pub type : EntityType
@@ -70,9 +70,9 @@ pub record EndsTrue (s : System) (M : ℕ → Type 0) (O : ℕ → List Object) 
   pub tasks_are : end.tasks ≡ []
   pub values_are : end.values ≡ operand (Boolean true) type ∷ others
 
--- ---- what stands behind
+-- ---- what follows
 
--- the point with these tasks behind its own, and other `old`s
+-- the point with these tasks after its own, and other `old`s
 abbrev pub extended : List Operand → List Task → Point → Point
 extended os ts p = record p { tasks = p.tasks ++ ts; olds = os }
 

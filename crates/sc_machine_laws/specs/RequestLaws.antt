@@ -33,7 +33,7 @@ pub record TopAwaits (fs : List Frame) (k : ℕ) : Type 0 where
   pub stack_is : fs ≡ frame ∷ below
   pub stage_is : frame.stage ≡ Awaits k gives is_creation
 
--- It awaits an answer of somebody, and neither a callback nor a reply has come.
+-- It awaits an answer of some handler, and neither a callback nor a reply has come.
 pub record IsAway (x : Handler) : Type 0 where
   pub supplier : ℕ
   pub awaits : TopAwaits x.stack supplier
@@ -49,7 +49,7 @@ pub record IsUnlent (w : World) (h k : ℕ) (q : Request) : Type 0 where
 
 -- ---- of a state that is reached
 
--- Nobody may push on the waiting stack of a handler that has no frames.
+-- No handler may push on the waiting stack of one that has no frames.
 abbrev pub IdleHasNoTop : Type 0
 IdleHasNoTop = InEachReached (λ (w : World). (k : ℕ) → (w.handlers k).failure ≡ None → (w.handlers k).stack ≡ []
     → w.rights.top k ≡ None)
@@ -62,29 +62,29 @@ CalledBackWaits = InEachReached (λ (w : World). (k h : ℕ) → w.rights.top k 
     → (has_reply (w.handlers h).answer ≡ true) ⊎ (TopAwaits (w.handlers h).stack k → ⊥)
     → IsAway (w.handlers k))
 
--- A callback stands at a handler whose topmost frame waits.
+-- A handler with a callback has a topmost frame that waits.
 abbrev pub CallbacksMeetWaiters : Type 0
 CallbacksMeetWaiters = InEachReached (λ (w : World). (k : ℕ) (r : Request) → (w.handlers k).callback ≡ Some r
     → (j : ℕ) × TopAwaits (w.handlers k).stack j)
 
--- Who doesn't wait on top has neither a callback nor a reply.
+-- A handler that doesn't wait on top has neither a callback nor a reply.
 abbrev pub RunningIsClear : Type 0
 RunningIsClear = InEachReached (λ (w : World). (h : ℕ) → (w.handlers h).failure ≡ None
     → ((j : ℕ) → TopAwaits (w.handlers h).stack j → ⊥)
     → (has_reply (w.handlers h).answer ≡ false) × ((w.handlers h).callback ≡ None))
 
--- Whoever waits and has lent nothing has its request on top, with no callback and no reply.
+-- A handler that waits and has lent nothing has its request on top, with no callback and no reply.
 abbrev pub NoCallback : Type 0
 NoCallback = InEachReached (λ (w : World). (h k : ℕ) (q : Request) → (w.handlers h).failure ≡ None → IsUnlent w h k q
     → TopAwaits (w.handlers h).stack k × ((w.handlers h).callback ≡ None) × (has_reply (w.handlers h).answer ≡ false))
 
--- Where it has no answer yet, it waits for no other request that may end.
+-- If it has no answer yet, it waits for no other request that may end.
 abbrev pub EndsTheOne : Type 0
 EndsTheOne = InEachReached (λ (w : World). (h k g : ℕ) (q r : Request) → (w.handlers h).failure ≡ None
     → (w.handlers h).answer ≡ None → IsUnlent w h k q
     → MayEnd (w.handlers g) r → r.poster ≡ Some h → r.is_waited ≡ true → (g ≡ k) × (r ≡ q))
 
--- Its request stands once, and no other stands anywhere with which it has lent nothing.
+-- Its request is there once, and no other with which it has lent nothing is anywhere.
 abbrev pub StandsOnce : Type 0
 StandsOnce = InEachReached (λ (w : World). (h k : ℕ) (q r : Request) (before behind : List Request)
     → (w.handlers h).failure ≡ None
@@ -92,7 +92,7 @@ StandsOnce = InEachReached (λ (w : World). (h k : ℕ) (q r : Request) (before 
     → r.poster ≡ Some h → r.is_waited ≡ true → r.passed ≡ None
     → (Contains (before ++ behind) r → ⊥) × ((j : ℕ) → j ≢ k → Contains (requests_at (w.handlers j)) r → ⊥))
 
--- The handler has nothing, and nobody has a right over it.
+-- The handler has nothing, and no handler has a right over it.
 pub record IsUnused (w : World) (k : ℕ) : Type 0 where
   pub stack_is : (w.handlers k).stack ≡ []
   pub queue_is : (w.handlers k).queue ≡ []
@@ -138,7 +138,7 @@ abbrev pub OthersStay : Type 0
 OthersStay = (most : ℕ) (s : System) (w : World) (g k : ℕ) → k < w.count → k ≢ g
     → Stays w g k ((turn most s g w).handlers k)
 
--- The queue of the handler of the turn stays, or gives its first where nothing runs, or falls with its handler.
+-- The queue of the turn's handler stays, or gives its first request if nothing runs, or is lost with its handler.
 pub data OwnQueueMoves (x y : Handler) : Type 0 where
   stays : y.queue ≡ x.queue → OwnQueueMoves x y
   takes : (r : Request) → x.stack ≡ [] → x.queue ≡ r ∷ y.queue → OwnQueueMoves x y
@@ -191,8 +191,8 @@ pub record IsAttribute (s : System) (w : World) (g : ℕ) (r : Request) (v : Val
   pub is_set : is_unset_value binding.value type ≡ false
   pub value_is : binding.value ≡ v
 
--- How the answer of k comes in a turn of g: it stays; or g has failed, and k is told; or what k waits for ends: a
--- routine exits, or is refused; an attribute has its value; or an object is made by no procedure.
+-- How the answer of k comes in a turn of g: it stays; or g has failed, and k learns of it; or what k waits for ends:
+-- a routine exits, or is refused; an attribute has its value; or an object is made by no procedure.
 pub data AnswerComes (s : System) (w : World) (g k : ℕ) (after : World) : Type 0 where
   stays : (after.handlers k).answer ≡ (w.handlers k).answer
       → AnswerComes s w g k after

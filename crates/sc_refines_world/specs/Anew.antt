@@ -23,7 +23,7 @@ RunsAnew p v [] x y = IsPlayed p v y × (kept y ≡ kept x)
 RunsAnew p v (h ∷ hs) x y =
     (u z : PlainWorld) × IsPlayed p v u × (kept u ≡ kept x) × IsTurn h u z × RunsAnew p v hs z y
 
--- Such turns lead a program's world to one that stands for the state to which they lead the machine.
+-- Such turns lead a program's world to one that represents the state to which they lead the machine.
 abbrev pub AnewRunsAsMachine : Type 0
 AnewRunsAsMachine = WhereAccepted λ s root.
     (p : Image) (v : Version) (hs : List ℕ) (y : PlainWorld) → IsProgramOf s root p → FitsRequests p →

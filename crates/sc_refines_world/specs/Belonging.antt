@@ -1,5 +1,5 @@
--- Whose is what stands in a state: on which handler objects, frames and requests lie, and that all have what their
--- class says.
+-- Whose is what is in a state: the handlers of objects, frames and requests, and that all have what their class
+-- says.
 use Rattle.std.specs.Prelude.{◌≡◌, ◌⊎◌, ◌<◌, ℕ, Bool, false, true, List, Option, Some, Contains, is_some, length, map}
 use Rattle.sc_tree.specs.Plain.{System}
 use Rattle.sc_rules.specs.declared.entity_types.entity_type.EntityType.{EntityType}
@@ -28,8 +28,8 @@ pub record IsOfClass (s : System) (o : Object) : Type 0 where
 abbrev pub ObjectsAreOfClasses : System → World → Type 0
 ObjectsAreOfClasses s w = (h : ℕ) (o : Object) → h < w.count → Contains (w.handlers h).objects o → IsOfClass s o
 
--- A reference that stands somewhere leads to an object that is there, of the class that it says, or to the first one of
--- a handler whose creation waits to be taken.
+-- A reference leads to an object that exists, of the class that it says, or to the first one of a handler whose
+-- creation waits to be taken.
 abbrev pub ReferencesLead : System → World → Type 0
 ReferencesLead s w = (h : ℕ) (of : Reserved → Option ℕ) (r : Reference) (t : EntityType) (may_be_unset : Bool) →
     StandsAs s w h of (Attached r) t may_be_unset → IsThere w r
@@ -50,7 +50,7 @@ FramesRunOnOwn s w = (h : ℕ) (f : Frame) → h < w.count → Contains (w.handl
 
 -- ---- requests
 
--- A request that stands at the handler has its target there, an object whose class has what the request calls.
+-- A request at the handler has its target there, an object whose class has what the request calls.
 pub record StandsAtTarget (s : System) (w : World) (h : ℕ) (r : Request) : Type 0 where
   pub target_is_here : r.target.handler ≡ h
   pub target_is_there : IsThere w r.target

@@ -34,7 +34,7 @@ AreExact p (o ∷ os) = IsExact p o × AreExact p os
 
 -- ---- one turn
 
--- A sound store whose objects are exact, which stands for a half that fits the job.
+-- A sound store whose objects are exact, which represents a half that fits the job.
 pub record IsGiven (h : ℕ) (is_told : Bool) (j : Job) (y : PlainStore) (s : System) (x : Half) : Type 0 where
   pub sound : IsSound y
   pub exact : AreExact y.program y.objects

@@ -66,8 +66,8 @@ pub data GoesOn (s : System) (w : World) (h : ℕ) (f g : Frame) : Type 0 where
   again : {k : Clause} {p : Point} → Acts s w h f (Refuses k) p → verdict_on (frame_at f p) k ≡ verdict.Wait →
       g.text ≡ p.text → g.environment ≡ p.environment → g.tasks ≡ tasks_of f.routine → GoesOn s w h f g
 
--- In a turn of the handler its topmost frame, which stands on these, comes to this one: the same call of the same
--- routine on the same object. Where it has a precondition its body starts by the verdict on that, and in no other way.
+-- In a turn of the handler its topmost frame, on these, becomes this one: the same call of the same routine on the
+-- same object. If it has a precondition, its body starts by the verdict on that, and in no other way.
 pub record ComesTo (s : System) (w : World) (h : ℕ) (f : Frame) (below : List Frame) (g : Frame) : Type 0 where
   pub current_stays : g.current ≡ f.current
   pub routine_stays : g.routine ≡ f.routine
@@ -84,8 +84,8 @@ pub data AsksForNone (s : System) (r : Request) : Type 0 where
   attribute : {x : List ℕ} {f : DeclaredFeature} {d : DeclaredType} → r.errand ≡ Calls x →
       version_of s r.target.class x ≡ Some f → f.feature.kind ≡ Attribute d → AsksForNone s r
 
--- The request that is taken is done at once, where it asks for no routine; or it begins a frame on these, of which it
--- is the origin, of what it calls on its target with its actuals.
+-- The request that is taken is done at once, if it asks for no routine; or it begins a frame on these, whose origin
+-- it is, of what it calls on its target with its actuals.
 pub data IsTaken (s : System) (r : Request) (below stack : List Frame) : Type 0 where
   done : AsksForNone s r → stack ≡ below → IsTaken s r below stack
   begun : {f : Frame} {x : List ℕ} → stack ≡ f ∷ below → Begins (Requested r) f → called_name r.errand ≡ Some x →
@@ -111,10 +111,10 @@ pub record Falls (x y : Handler) : Type 0 where
 abbrev pub given_at : Point → Option Value
 given_at p = option_map (λ (u : Operand). u.value) p.result
 
--- How the frames and the requests of a handler change in its turn. The frames stay; the topmost goes on, or calls; it
--- ends, and what a call gave comes to the frame below, or the precondition of what was requested is refused. Or the
--- handler takes the first request of its queue where it has no frames, or its callback, which then no longer stands
--- there. Or it fails. Nothing else drops a request.
+-- How the frames and the requests of a handler change in its turn. The frames stay; the topmost goes on, or calls;
+-- it ends, and a call's result comes to the frame below, or the precondition of what was requested is refused. Or
+-- the handler takes the first request of its queue if it has no frames, or its callback, which then is gone. Or it
+-- fails. Nothing else drops a request.
 pub data FramesMove (s : System) (w : World) (h : ℕ) (x y : Handler) : Type 0 where
   stay : y.stack ≡ x.stack → RequestsStay x y → FramesMove s w h x y
   go_on : {f g : Frame} {below : List Frame} → x.stack ≡ f ∷ below → y.stack ≡ g ∷ below → ComesTo s w h f below g →
@@ -176,14 +176,14 @@ CreatedBeginWithOne most s w = (h k : ℕ) → w.count ≤ k → k < (turn most 
 
 -- ---- who waits
 
--- the request of p, which waits for it, stands at k
+-- the request of p, which waits for it, is at k
 pub record HasRequestAt (w : World) (p k : ℕ) : Type 0 where
   pub request : Request
   pub stands : Contains (requests_at (w.handlers k)) request
   pub poster_is : request.poster ≡ Some p
   pub is_waited : request.is_waited ≡ true
 
--- Whoever awaits an answer of another handler has its request there, unless it has been told of a failure.
+-- A handler that awaits an answer of another handler has its request there, unless it has learned of a failure.
 abbrev pub WaitersHaveRequests : World → Type 0
 WaitersHaveRequests w = (p k : ℕ) → AwaitsAnswer (w.handlers p) k → (w.handlers k).failure ≡ None →
     ((w.handlers p).answer ≡ Some Failed) ⊎ HasRequestAt w p k

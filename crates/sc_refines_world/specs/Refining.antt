@@ -42,10 +42,10 @@ use Rattle.sc_refines_world.specs.Moving.{CreatedBeginWithOne, TurnsMoveRequests
 use Rattle.sc_refines_world.specs.Standing.{IsRegionFor, StandsFor, StandsNear}
 use Rattle.sc_refines_world.specs.Texts.{FramesAreTyped, FramesKnowTheirTexts}
 
--- ---- the state that a world stands for
+-- ---- the state that a world represents
 
--- From the first state to the second one in a turn of h: a request that comes to stand at a handler was posted by h,
--- which held that one then, or created it in this turn.
+-- From the first state to the second one in a turn of h: a request that is added to a handler was posted by h, which
+-- held that one then, or created it in this turn.
 abbrev pub ComeUnderRight : ℕ → World → World → Type 0
 ComeUnderRight h w v = (k : ℕ) (r : Request) → Contains (requests_at (v.handlers k)) r →
     Contains (requests_at (w.handlers k)) r ⊎ ((r.poster ≡ Some h) × ((held w.rights h k ≡ true) ⊎ (k ≡ w.count)))
@@ -54,15 +54,15 @@ ComeUnderRight h w v = (k : ℕ) (r : Request) → Contains (requests_at (v.hand
 abbrev pub PostsUnderRight : ℕ → System → World → Type 0
 PostsUnderRight most s w = (h : ℕ) → ComeUnderRight h w (turn most s h w)
 
--- In a turn of g each other handler is answered by the end of what it waits for there, or told of a failure.
+-- In a turn of g each other handler is answered by the end of what it waits for there, or learns of a failure.
 abbrev pub TurnsAnswer : ℕ → System → World → Type 0
 TurnsAnswer most s w = (g k : ℕ) → k < w.count → k ≢ g → AnswerComes s w g k (turn most s g w)
 
--- What the headline claims of a state, where there may be so many handlers: what is posted under which right, how
--- frames, requests and answers come and go, how handlers begin, who holds and waits for whom, whose is what stands
--- there, that names and operands are of the types of the text, which values stand where, that settled objects meet
--- their class invariants, that in the next turn a body starts only where the clauses of its precondition hold, and that
--- none of the failures that are excluded comes.
+-- What the headline claims of a state, with this limit on handlers: what is posted under which right, how frames,
+-- requests and answers come and go, how handlers begin, which handler holds and waits for which, whose everything in
+-- it is, that names and operands are of the types of the text, which values are where, that settled objects meet
+-- their class invariants, that in the next turn a body starts only if the clauses of its precondition hold, and that
+-- none of the failures that are excluded occurs.
 pub record HasHeadline (most : ℕ) (s : System) (w : World) : Type 0 where
   pub posts_under_right : PostsUnderRight most s w
   pub turns_move_requests : TurnsMoveRequests most s w
@@ -100,13 +100,13 @@ MachineHasHeadline = WhereAccepted λ s root. (most : ℕ) (w : World) → IsRea
 
 -- ---- turns one after the other
 
--- The turns of any handlers lead a program's world to one that stands for the state to which they lead the machine.
+-- The turns of any handlers lead a program's world to one that represents the state to which they lead the machine.
 abbrev pub WorldRunsAsMachine : Type 0
 WorldRunsAsMachine = WhereAccepted λ s root.
     (p : Image) (v : Version) (hs : List ℕ) (y : PlainWorld) → IsProgramOf s root p → FitsRequests p →
     Runs hs (opened p v) y → StandsFor s p (run (most_handlers v) s hs (opening s root)) y
 
--- So each world that turns lead to stands for a state that is reached, of which the headline holds.
+-- So each world that turns lead to represents a state that is reached, and the headline holds of that state.
 abbrev pub WorldHasHeadline : Type 0
 WorldHasHeadline = WhereAccepted λ s root.
     (p : Image) (v : Version) (hs : List ℕ) (y : PlainWorld) → IsProgramOf s root p → FitsRequests p →
@@ -115,24 +115,25 @@ WorldHasHeadline = WhereAccepted λ s root.
 
 -- ---- where memory was refused
 
--- A world that stands for a state is near it.
+-- A world that represents a state is near it.
 abbrev pub StandingWorldIsNear : Type 0
 StandingWorldIsNear = (s : System) (p : Image) (w : World) (x : PlainWorld) → StandsFor s p w x → StandsNear s p w x
 
--- So is one where memory was refused to the turn of a handler of a world that stands for it.
+-- So is one in which memory was refused to the turn of a handler of a world that represents it.
 abbrev pub RefusedTurnStaysNear : Type 0
 RefusedTurnStaysNear =
     (s : System) (p : Image) (h : ℕ) (w : World) (x y : PlainWorld) → StandsFor s p w x → IsRefusedTurn h x y →
     StandsNear s p w y
 
--- Where memory was refused to the turn behind so many, a program's world is near the state to which these turns lead
--- the machine.
+-- If memory was refused to the turn after these, a program's world is near the state to which these turns lead the
+-- machine.
 abbrev pub StoppedWorldStaysNear : Type 0
 StoppedWorldStaysNear = WhereAccepted λ s root.
     (p : Image) (v : Version) (n : ℕ) (hs : List ℕ) (y : PlainWorld) → IsProgramOf s root p → FitsRequests p →
     StopsBehind n hs (opened p v) y → StandsNear s p (run (most_handlers v) s (take n hs) (opening s root)) y
 
--- A world that is near a state reports what the machine reports of it, and each handler stands as it does there.
+-- A world that is near a state reports what the machine reports of it, and each handler has the status that it has
+-- there.
 abbrev pub WorldReportsAsMachine : Type 0
 WorldReportsAsMachine =
     (s : System) (p : Image) (w : World) (x : PlainWorld) → StandsNear s p w x →
@@ -140,21 +141,21 @@ WorldReportsAsMachine =
 
 -- ---- turns that were made or refused
 
--- Any turns of which some were made, and memory was refused to the others, lead a program's world near the state to
--- which those that were made lead the machine.
+-- Any turns, some made and others refused memory, lead a program's world near the state to which those that were
+-- made lead the machine.
 abbrev pub AttemptsRunAsMachine : Type 0
 AttemptsRunAsMachine = WhereAccepted λ s root.
     (p : Image) (v : Version) (ts : List Attempt) (y : PlainWorld) → IsProgramOf s root p → FitsRequests p →
     Attempts ts (opened p v) y → StandsNear s p (run (most_handlers v) s (made_by ts) (opening s root)) y
 
--- So each world that they lead to is near a state that is reached, of which the headline holds.
+-- So each world that they lead to is near a state that is reached, and the headline holds of that state.
 abbrev pub AttemptsHaveHeadline : Type 0
 AttemptsHaveHeadline = WhereAccepted λ s root.
     (p : Image) (v : Version) (ts : List Attempt) (y : PlainWorld) → IsProgramOf s root p → FitsRequests p →
     Attempts ts (opened p v) y →
     (w : World) × IsReached (most_handlers v) s root w × StandsNear s p w y × HasHeadline (most_handlers v) s w
 
--- A handler that makes a turn behind them stands exactly again, whatever was refused to it before.
+-- After a handler makes a turn, its part represents the state exactly again, whatever was refused to it before.
 abbrev pub TurnsStandExactly : Type 0
 TurnsStandExactly = WhereAccepted λ s root.
     (p : Image) (v : Version) (ts : List Attempt) (h : ℕ) (j : Job) (x y : PlainWorld) → IsProgramOf s root p →
@@ -163,7 +164,7 @@ TurnsStandExactly = WhereAccepted λ s root.
     × IsRegionFor s p h ((run (most_handlers v) s (made_by ts ++ h ∷ []) (opening s root)).handlers h)
     (y.center.state.handlers h).stage r
 
--- Where memory was refused behind so many turns of a list, and the rest of the list follows then, the world is near the
+-- If memory was refused after some turns of a list, and the rest of the list follows then, the world is near the
 -- state to which the whole list leads the machine.
 abbrev pub RestRunsAsMachine : Type 0
 RestRunsAsMachine = WhereAccepted λ s root.
@@ -187,7 +188,7 @@ HandlersComeAgain =
     goes_on j ≡ true → comes_again j (picked h j c) ≡ true →
     next (settles most h j (suc n) want.Continue (picked h j c)) ≡ Some (h, job.Go)
 
--- Where no handler of the world has anything to do, none has a turn in the machine.
+-- If no handler of the world has a job, none has a turn in the machine.
 abbrev pub IdleWorldIsIdle : Type 0
 IdleWorldIsIdle =
     (s : System) (p : Image) (w : World) (x : PlainWorld) → StandsFor s p w x → next x.center ≡ None →
@@ -198,22 +199,22 @@ abbrev pub first_with_turn : List ℕ → World → Option ℕ
 first_with_turn [] w = None
 first_with_turn (h ∷ hs) w = if has_turn h w then Some h else first_with_turn hs w
 
--- From the state on each of these handlers has a turn when it comes to it: it is the first that has one behind the
--- handler of the turn before, round the numbers.
+-- From the state on each of these handlers has a turn when its number is reached: it is the first that has one after
+-- the handler of the turn before, round the numbers.
 abbrev pub GoRound : ℕ → System → ℕ → List ℕ → World → Type 0
 GoRound most s before [] w = Unit {0}
 GoRound most s before (h ∷ hs) w =
     (first_with_turn (round w.count before) w ≡ Some h) × GoRound most s h hs (turn most s h w)
 
--- From the opening on each of these handlers has a turn in the machine, in the order of rounds. They are so many at
--- most, and fewer only where no handler has a turn any more.
+-- From the opening on each of these handlers has a turn in the machine, in the order of rounds. There are at most
+-- this number of them, and fewer only if no handler has a turn any more.
 pub record IsRunWithin (most : ℕ) (s : System) (root : Root) (limit : ℕ) (hs : List ℕ) : Type 0 where
   pub few : length hs ≤ limit
   pub go_round : GoRound most s (most - 1) hs (opening s root)
   pub ends : let w : World = run most s hs (opening s root) in
       (length hs ≡ limit) ⊎ (machine.some_has_turn w.count w ≡ false)
 
--- Rounds that end lead a program's world to one that stands for a state to which such turns lead the machine.
+-- Rounds that end lead a program's world to one that represents a state to which such turns lead the machine.
 abbrev pub RoundsRunAsMachine : Type 0
 RoundsRunAsMachine = WhereAccepted λ s root.
     (p : Image) (v : Version) (limit : ℕ) (y : PlainWorld) → IsProgramOf s root p → FitsRequests p →

@@ -17,7 +17,8 @@ pub record IsBehindFormals (s : System) (r : Routine) (e : Entity) : Type 0 wher
   pub is_no_formal : is_formal e.role ≡ false
   pub local_is_declared : is_local e.role ≡ true → Contains (locals_known s r.text.formals r.locals) e
 
--- The frame knows the formals of its routine, in order, of the types that the text gives them, and others behind them.
+-- The frame knows the formals of its routine, in order, of the types that the text gives them, and others after
+-- them.
 pub record KnowsItsText (s : System) (f : Frame) : Type 0 where
   pub others : Entities
   pub names_are : scope_of f.environment ≡ formals_known s f.routine.text.formals ++ others

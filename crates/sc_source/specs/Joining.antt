@@ -94,7 +94,7 @@ pub record IsJoinFault (files : List (List ℕ)) (why : JoinFault) : Type 0 wher
 
 -- ---- what is told of them
 
--- the fault of a file, told with the file's number where the caller is to know it
+-- the fault of a file, with the file's number if the caller is to know it
 abbrev pub told_of : ℕ → FileFault → SourceFault
 told_of file (fault.Unreadable error) = told.Unreadable file
 told_of file (fault.NotUtf8 offset) = told.NotUtf8 file

@@ -11,7 +11,7 @@ pub record File : Type 0 where
   pub name : List ℕ
   pub text : List ℕ
 
--- Where something stands: a file's name, and the line and the column, both from 1. A column is a byte.
+-- A place: a file's name, and the line and the column, both from 1. A column is a byte.
 pub record Place : Type 0 where
   pub file : List ℕ
   pub line : ℕ
@@ -64,12 +64,12 @@ line_after text = 1 + count_by is_line_feed text
 abbrev pub column_after : List ℕ → ℕ
 column_after text = 1 + suffix_len (λ c. not (is_line_feed c)) text
 
--- where the byte at an offset of a file's text stands
+-- the place of the byte at an offset of a file's text
 abbrev pub place_in : File → ℕ → Place
 place_in f offset =
     record { file = f.name; line = line_after (take offset f.text); column = column_after (take offset f.text) }
 
--- Where the byte at an offset of the source text of files stands. The line feed after a file's text stands in that
+-- The place of the byte at an offset of the source text of files. The line feed after a file's text belongs to that
 -- file.
 abbrev pub place_of : List File → ℕ → Option Place
 place_of [] offset = None

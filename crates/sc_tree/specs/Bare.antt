@@ -7,7 +7,7 @@ use Rattle.sc_tree.specs.Plain.{Name, HandlerTag, Own, Separate, HandlerOf, Decl
 abbrev pub nowhere : Span
 nowhere = record { start = 0; end = 0 }
 
--- a name that stands nowhere
+-- a name without a place
 abbrev pub named : List ℕ → Name
 named x = record { text = x; span = nowhere }
 

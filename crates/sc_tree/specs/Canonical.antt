@@ -1,4 +1,4 @@
--- The canonical text of a tree: the one text that stands for all that spell it.
+-- The canonical text of a tree: one text for all that spell it.
 use Rattle.std.specs.Prelude.{ℕ, List}
 use Rattle.sc_text.specs.Kind.{Kind}
 use Rattle.sc_tree.specs.Plain.{System}

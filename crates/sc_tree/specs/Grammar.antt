@@ -1,8 +1,7 @@
--- The grammar: which kinds of tokens spell which tree (ECMA-367, clause 8). A tree stands here with every
--- span at nought. The number beside it is the greatest nesting of a token: how many constructs stand around
--- it, from the routine's body or the clause on. The constructs are pairs of parentheses, lists of actuals,
--- operators around their operands, dots around their targets, `if`s, loops, `check`s and separate blocks; a
--- construct's own tokens don't stand inside it.
+-- The grammar: which kinds of tokens spell which tree (ECMA-367, clause 8). Every span of a tree is nought here. The
+-- number beside it is the greatest nesting of a token: how many constructs are around it, from the routine's body or
+-- the clause on. The constructs are pairs of parentheses, lists of actuals, operators around their operands, dots
+-- around their targets, `if`s, loops, `check`s and separate blocks; a construct's own tokens aren't inside it.
 pub mod Operators
 pub mod Types
 pub mod Expressions

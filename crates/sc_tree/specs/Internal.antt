@@ -1,5 +1,5 @@
 -- What the printer's code holds, and reading as a function, by which the laws of the grammar are proved. No public
--- contract speaks of these: what the rules are stands in the files beside this folder, and the proofs show that this
--- is what they say.
+-- contract mentions these: the rules are in the files beside this folder, and the proofs show that this is what they
+-- say.
 pub mod Printer
 pub mod Reading

@@ -1,6 +1,6 @@
--- How deep each token stands, by the constructs around it: a construct's own tokens stand where the
--- construct does, and what it holds stands one deeper. This looks at how the tokens were put together and
--- at none of the numbers of the grammar.
+-- How deep each token is, by the constructs around it: a construct's own tokens are as deep as the construct, and
+-- what it holds is one deeper. This looks at how the tokens were put together and at none of the numbers of the
+-- grammar.
 use Rattle.std.specs.Prelude.{ℕ, suc, max, List, [], ◌∷◌, ◌++◌, map}
 use Rattle.sc_text.specs.Kind.{Kind}
 use Rattle.sc_text.specs.declared.token.Terminal.{Terminal}
@@ -16,7 +16,7 @@ inside depths = map suc depths
 abbrev pub outside : List Kind → List ℕ
 outside c = map (λ _. 0) c
 
--- the greatest of some depths, and 0 where there is none
+-- the greatest of some depths, or 0 if there is none
 abbrev pub greatest : List ℕ → ℕ
 greatest [] = 0
 greatest (n ∷ ns) = max n (greatest ns)

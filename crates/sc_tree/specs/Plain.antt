@@ -4,7 +4,7 @@ use Rattle.sc_text.specs.declared.token.Span.{Span}
 use Rattle.sc_tree.specs.declared.expression.UnaryOperator.{UnaryOperator}
 use Rattle.sc_tree.specs.declared.expression.BinaryOperator.{BinaryOperator}
 
--- A name, in lower case, and where it stands.
+-- A name, in lower case, and its place.
 pub record Name : Type 0 where
   pub text : List ℕ
   pub span : Span
@@ -38,7 +38,7 @@ mutual
     Binary : Span → BinaryOperator → Expr → Expr → Expr
     ObjectTest : Span → Option DeclaredType → Expr → Name → Expr
 
-  -- what stands before the dot of a call, where there is one
+  -- what is before the dot of a call, if there is one
   pub data Target : Type 0 where
     no_target : Target
     target : Expr → Target
@@ -58,7 +58,7 @@ pub record CreationCall : Type 0 where
   pub name : Name
   pub actuals : Exprs
 
--- what a creation changes, and by which call the object is created, where there is one
+-- what a creation changes, and the call that the object is created by, if there is one
 pub record Creation : Type 0 where
   pub variable : Variable
   pub call : Option CreationCall
@@ -91,7 +91,7 @@ mutual
     no_instrs : Instrs
     instr_then : Instr → Instrs → Instrs
 
-  -- each `elseif` with what stands under it
+  -- each `elseif` with the instructions under it
   pub data Branches : Type 0 where
     no_branches : Branches
     branch_then : Expr → Instrs → Branches → Branches

@@ -28,7 +28,7 @@ is_equality binary.Equal = true
 is_equality binary.NotEqual = true
 is_equality _ = false
 
--- where the text of an expression stands
+-- the place of the text of an expression
 abbrev pub span_of : Expr → Span
 span_of (Integer s n) = s
 span_of (Boolean s b) = s

@@ -1,17 +1,17 @@
--- Features that stand under one `feature` have one export list.
+-- Features under one `feature` have one export list.
 use Rattle.std.specs.Prelude.{◌&&◌, ◌||◌, not, Bool, true, false, List, [], ◌∷◌, string_bytes}
 use Rattle.std.specs.Str.{bytes_eq}
 use Rattle.sc_tree.specs.declared.expression.Name.{Name}
 use Rattle.sc_tree.specs.declared.system.Feature.{Feature}
 
--- whether two lists are of the same names
+-- whether two lists have equal names
 abbrev pub same_list : List Name → List Name → Bool
 same_list [] [] = true
 same_list [] (y ∷ ys) = false
 same_list (x ∷ xs) [] = false
 same_list (x ∷ xs) (y ∷ ys) = bytes_eq (string_bytes x.text.value) (string_bytes y.text.value) && same_list xs ys
 
--- A feature that stands under the same `feature` as the one before it has its export list.
+-- A feature under the same `feature` as the one before it has its export list.
 abbrev pub shares_list : List Name → Feature → Bool
 shares_list exports f = not f.is_further || same_list exports f.exports.value.items
 

@@ -9,12 +9,12 @@ use Rattle.sc_play.specs.Regions.{PlainRegion}
 use Rattle.sc_world.specs.Turning.{Makes, IsHeldUp, Settles}
 use Rattle.sc_world.specs.Worlds.{PlainWorld}
 
--- how many turns the handler that is out with the job may make at once, of so many that are left: all of them where it
--- is the next one again as long as they ask nothing
+-- how many turns the handler that is out with the job may make at once, of those that are left: all of them if it is
+-- the next one again as long as they want nothing
 abbrev pub turns_at_once : ℕ → Job → Center → ℕ
 turns_at_once left j c = if comes_again j c then left else 1
 
--- the same, where the handler is picked
+-- how many it may make, if the handler is picked
 abbrev pub turns_of_picked : ℕ → ℕ → Job → PlainWorld → ℕ
 turns_of_picked left h j x = turns_at_once left j (picked h j x.center)
 
@@ -23,39 +23,39 @@ turns_of_picked left h j x = turns_at_once left j (picked h j x.center)
 abbrev pub AreCutShort : ℕ → ℕ → Want → Type 0
 AreCutShort limit turns asked = (turns < limit) × (asked ≡ want.Continue)
 
--- The handler, which is out with the job, plays so many turns under it, and is settled. It is told whether they were
--- cut short.
+-- The handler, which is out with the job, plays this number of turns under it, and is settled. It is known whether
+-- they were cut short.
 pub record Played (limit h : ℕ) (j : Job) (turns most : ℕ) (c d : Center) (x y : PlainRegion)
     (told : Bool) : Type 0 where
   pub settles : Settles limit h j turns most c d x y
   pub tells : IsTrue told ↔ AreCutShort limit turns settles.outcome.want
 
--- The same under the job with which the handler is out, whatever that is.
+-- as `Played`, under the job with which the handler is out, whatever that is
 abbrev pub PlaysOut : ℕ → ℕ → ℕ → ℕ → Center → Center → PlainRegion → PlainRegion → Bool → Type 0
 PlaysOut limit h turns most c d x y told = (j : Job) → c.out h ≡ Some j → Played limit h j turns most c d x y told
 
--- The same where the limit is what it may make at once, of so many turns that are left.
+-- as `PlaysOut`, with a limit of what it may make at once, of the turns that are left
 abbrev pub PlaysAtOnce : ℕ → ℕ → ℕ → ℕ → Center → Center → PlainRegion → PlainRegion → Bool → Type 0
 PlaysAtOnce left h turns most c d x y told =
     (j : Job) → c.out h ≡ Some j → Played (turns_at_once left j c) h j turns most c d x y told
 
--- The handler makes so many turns under its job, and memory is refused to none of them: where the last asks nothing,
--- they are all that it might make.
+-- The handler makes this number of turns under its job, and memory is refused to none of them: if the last wants
+-- nothing, they are all that it might make.
 pub record MakesAll (limit h : ℕ) (j : Job) (turns : ℕ) (x y : PlainWorld) : Type 0 where
   pub makes : Makes limit h j turns x y
   pub all : makes.settles.outcome.want ≡ want.Continue → turns ≡ limit
 
--- The handler makes so many turns under its job, and memory is refused to the next.
+-- The handler makes this number of turns under its job, and memory is refused to the next.
 pub record MakesSome (limit h : ℕ) (j : Job) (turns : ℕ) (x y : PlainWorld) : Type 0 where
   pub makes : Makes limit h j turns x y
   pub cut_short : AreCutShort limit turns makes.settles.outcome.want
 
--- Of the turns that are left the handler makes so many under its job. Where none has something to do, none are made.
+-- Of the turns that are left the handler makes this number under its job. If none has a job, none are made.
 abbrev pub TurnsOfNext : Option (ℕ × Job) → ℕ → ℕ → PlainWorld → PlainWorld → Type 0
 TurnsOfNext None left turns x y = (turns ≡ 0) × (y ≡ x)
 TurnsOfNext (Some p) left turns x y = MakesAll (turns_of_picked left p.0 p.1 x) p.0 p.1 turns x y
 
--- Memory is refused to the first turn of the handler under its job, or behind some of them.
+-- Memory is refused to the first turn of the handler under its job, or after some of them.
 abbrev pub StopsNext : Option (ℕ × Job) → ℕ → PlainWorld → PlainWorld → Type 0
 StopsNext None left x y = y ≡ x
 StopsNext (Some p) left x y =

@@ -1,5 +1,5 @@
--- Names that are found by hash: of each text, what a map keeps is the number of the first name that is it, and the
--- first place in the text at which such a name stands.
+-- Names that are found by hash: for each text a map keeps the number of the first name that equals it, and the first
+-- place in the text of such a name.
 use Rattle.std.specs.Prelude.{◌≡◌, ℕ, List, [], ◌∷◌, Option, Some, None, map, take, bytes_eq, nat_lt, slice_get, if◌then◌else◌}
 use Rattle.std.specs.Option.{option_map}
 use Rattle.std.specs.Borrow.{Bor}

@@ -20,7 +20,7 @@ abbrev pub AllStarted : List machine.Frame → Type 0
 AllStarted [] = Unit {0}
 AllStarted (f ∷ below) = HasStarted f.tasks × AllStarted below
 
--- Whoever reserves stands on routines that have started: it wasn't called for a clause of a precondition.
+-- The routines below one that reserves have started: none was called for a clause of a precondition.
 abbrev pub ReservesOnStarted : machine.World → Type 0
 ReservesOnStarted w = (h : ℕ) (f : machine.Frame) (below : List machine.Frame) → (w.handlers h).stack ≡ f ∷ below →
     reserves_next f.stage ≡ true → AllStarted below

@@ -44,9 +44,8 @@ pub record Asks (h : Handler) (k lo hi : ℕ) : Type 0 where
 abbrev pub HasPassed : List Frame → Type 0
 HasPassed fs = (v : Wait) × (waits_for fs ≡ Some v) × (v.passing ≡ true)
 
--- A routine that a request began stands alone, or on a frame that has passed its rights and waits for an older
--- request; any other frame stands
--- on one that doesn't wait.
+-- A routine that a request began is alone, or on a frame that has passed its rights and waits for an older request;
+-- any other frame is on one that doesn't wait.
 abbrev pub IsBegun : Option Request → List Frame → Type 0
 IsBegun None fs = waits_for fs ≡ None
 IsBegun (Some r) fs = ((m : ℕ) → HasWait m fs → m < r.number) × ((fs ≡ []) ⊎ HasPassed fs)
@@ -98,9 +97,8 @@ IsBased fs (e ∷ d ∷ t) = IsBased fs (d ∷ t)
 
 -- ---- what a failure leaves behind
 
--- No reply will come to k's wait for the request m: k has been told of a failure, or the wait's target itself has
--- such a wait, newer than m, and
--- so must get an answer before it ends the request m.
+-- No reply will come to k's wait for the request m: k has learned of a failure, or the wait's target itself has such
+-- a wait, newer than m, and so must get an answer before it ends the request m.
 pub data Stuck (w : World) : ℕ → ℕ → Type 0 where
   Told : {k m : ℕ} → IsTold (w.handlers k) → Stuck w k m
   On : {k m : ℕ} (v : Wait) (j : ℕ) → IsOpen v (w.handlers k) → v.number ≡ m → HasWait j (w.handlers v.target).stack
@@ -125,7 +123,7 @@ abbrev pub AreNumbered : ℕ → List Request → Type 0
 AreNumbered n [] = Unit {0}
 AreNumbered n (q ∷ qs) = (q.number < n) × (HasNumber q.number qs → ⊥) × AreNumbered n qs
 
--- nobody waits for the request of the number
+-- no handler waits for the request of the number
 abbrev pub IsNobodys : World → ℕ → Type 0
 IsNobodys w n = (q : ℕ) → HasWait n (w.handlers q).stack → ⊥
 
@@ -140,14 +138,14 @@ HasClient w k r =
     ⊎ ((v : Wait) × IsOpen v (w.handlers r.poster) × (v.number ≡ r.number) × (v.target ≡ k) × (v.passing ≡ passes r)
     × (v.asked ≡ r.asked))
 
--- why k's wait v may have no grant of k's waiting stack: k is told of a failure, or v is stuck and the right was lost
+-- why k's wait v may have no grant of k's waiting stack: k learns of a failure, or v is stuck and the right was lost
 -- since
 abbrev pub HasLost : World → ℕ → Wait → Type 0
 HasLost w k v = IsTold (w.handlers k) ⊎ (Stuck w k v.number × ((x m : ℕ) → HasGrant x m (w.top k) → v.number < m))
 
 -- ---- all of it
 
--- Whoever else may push on k's waiting stack: k waits for it, or it for k, or it has failed.
+-- For any other handler that may push on k's waiting stack: k waits for it, or it for k, or it has failed.
 abbrev pub TopsAreAway : World → Type 0
 TopsAreAway w =
     (k x i : ℕ) → IsFirst x i (w.top k) → x ≢ k → (w.handlers k).failed ≡ false
@@ -158,7 +156,7 @@ abbrev pub ActiveAreClear : World → Type 0
 ActiveAreClear w =
     (k : ℕ) → IsActive (w.handlers k) → (answered (w.handlers k).answer ≡ false) × ((w.handlers k).callback ≡ None)
 
--- a callback is newer than all that its handler waits for, stands on one that has passed its rights, and comes before
+-- a callback is newer than all that its handler waits for, is on one that has passed its rights, and comes before
 -- the answer
 abbrev pub CallbackStands : Handler → Type 0
 CallbackStands g = (r : Request) → g.callback ≡ Some r
@@ -176,15 +174,16 @@ pub record IsConsistent (w : World) : Type 0 where
   pub queue_trails : (k : ℕ) → IsTrail w Nobody (w.queue k)
   pub top_trails : (k : ℕ) → IsTrail w (Lends w k) (w.top k)
   pub based : (k : ℕ) → (w.handlers k).failed ≡ false → IsBased (w.handlers k).stack (w.top k)
-  -- who waits after passing its rights has granted its waiting stack to its target, as far as that isn't lost
+  -- a handler that waits after passing its rights has granted its waiting stack to its target, as far as that isn't
+  -- lost
   pub own_top : (k : ℕ) (v : Wait) → IsOpen v (w.handlers k) → v.passing ≡ true
       → HasGrant v.target v.number (w.top k) ⊎ HasLost w k v
-  -- what was passed with a request that somebody waits for was granted to its target
+  -- what was passed with a request that is waited for was granted to its target
   pub queue_grants : (k p x : ℕ) (v : Wait) → StackWaits v (w.handlers p).stack → HasGrant x v.number (w.queue k)
       → x ≡ v.target
   pub top_grants : (k p x : ℕ) (v : Wait) → StackWaits v (w.handlers p).stack → HasGrant x v.number (w.top k)
       → x ≡ v.target
-  -- whoever waits had a right over its target as it asked, and gets it back, unless it is stuck
+  -- a handler that waits had a right over its target as it posted, and gets it back, unless it is stuck
   pub held : (p : ℕ) (v : Wait) → StackWaits v (w.handlers p).stack
       → HadBefore p v.number (w.queue v.target) ⊎ (HadBefore p v.number (w.top v.target) ⊎ IsStuckFrom w p v.number)
   pub one_poster : (a b n : ℕ) → HasWait n (w.handlers a).stack → HasWait n (w.handlers b).stack → a ≡ b
@@ -196,11 +195,11 @@ pub record IsConsistent (w : World) : Type 0 where
       → HasNoGrant w v.number
   -- without passing nothing goes
   pub plain : (p : ℕ) (v : Wait) → StackWaits v (w.handlers p).stack → v.passing ≡ false → HasNoGrant w v.number
-  -- who waits for one that has failed is told
+  -- a handler that waits for one that has failed learns of it
   pub dead : (k : ℕ) (v : Wait) → IsOpen v (w.handlers k) → (w.handlers v.target).failed ≡ true
       → IsTold (w.handlers k)
   pub failures : (k : ℕ) → (w.handlers k).failed ≡ true → (w.handlers k).stack ≡ []
-  -- nobody else is told
+  -- no other handler does
   pub why_told : (k : ℕ) → IsTold (w.handlers k)
       → (v : Wait) × StackWaits v (w.handlers k).stack × ((w.handlers v.target).failed ≡ true)
   pub clients : (k : ℕ) (r : Request) → IsOne r (requests_of (w.handlers k)) → r.waited ≡ true → HasClient w k r

@@ -31,7 +31,7 @@ pub data IsThere (w : World) (r : Reference) : Type 0 where
 abbrev pub ValueIsThere : World → Value → Type 0
 ValueIsThere w v = (r : Reference) → v ≡ Attached r → IsThere w r
 
--- Its attributes fit, and lie where there are objects.
+-- Its attributes fit, and are references to objects that exist.
 pub record ObjectFits (s : System) (w : World) (h : ℕ) (o : Object) : Type 0 where
   pub attributes_fit : AttributesFit s h o
   pub are_there : Each (λ (b : Binding). ValueIsThere w b.value) o.attributes
@@ -46,8 +46,8 @@ pub data ActualsFit (s : System) (h : ℕ) (all : List Declaration) (of : Reserv
       declared_type s all d.declared_type ≡ Some t →
       Fits s h of v t → ActualsFit s h all of ds vs → ActualsFit s h all of (d ∷ ds) (v ∷ vs)
 
--- The class of the target has a version of what is called, a routine if it makes the object; its actuals fit, and lie
--- where there are objects.
+-- The class of the target has a version of what is called, a routine if it makes the object; its actuals fit, and
+-- are references to objects that exist.
 pub record RequestFits (s : System) (w : World) (h : ℕ) (r : Request) : Type 0 where
   pub is_here : r.target.handler ≡ h
   pub is_of_class : r.target.class < length s.classes
@@ -70,8 +70,8 @@ coming_to ReservesBlock = []
 coming_to (InCall gives) = listed gives
 coming_to (Awaits k gives is_creation) = listed gives
 
--- Its routine is a version of its object's class, what is left to do is typed, and its values fit and lie where there
--- are objects.
+-- Its routine is a version of its object's class, what is left to do is typed, and its values fit and are references
+-- to objects that exist.
 pub record FrameFits (s : System) (pure : RoutineName → Bool) (w : World) (h : ℕ) (f : Frame) : Type 0 where
   pub is_own : f.current.handler ≡ h
   pub is_there : IsAmong (w.handlers h).objects f.current
@@ -82,7 +82,7 @@ pub record FrameFits (s : System) (pure : RoutineName → Bool) (w : World) (h :
 
 -- ---- what a frame gives to whom
 
--- What the routine gives, where it fits its type at the supplier, fits the type that the caller waits for.
+-- The routine's result, if it fits its type at the supplier, fits the type that the caller waits for.
 abbrev pub Gives : System → ℕ → Option (Option EntityType) → ℕ → List Binding → Option EntityType → Type 0
 Gives s h (Some (Some t)) k cs (Some u) = (v : Value) → Fits s h no_names v t → Fits s k (handler_named cs) v u
 Gives s h None k cs None = Unit {0}
@@ -110,9 +110,9 @@ pub record ReplyFits (s : System) (w : World) (h : ℕ) (v : Option Value) : Typ
   pub fits : (t : EntityType) → takes ≡ Some t →
       (x : Value) × (v ≡ Some x) × Fits s h (handler_named frame.environment) x t × ValueIsThere w x
 
--- A reply stands only where it is waited for. The link from a request to the frame that waits is by the poster, whose
--- topmost frame that waits for this handler is that of the request (the law on rights: each open wait has its request
--- at its target).
+-- A reply comes only if it is waited for. The link from a request to the frame that waits is by the poster, whose
+-- topmost frame that waits for this handler is that of the request (the law on rights: each open wait has its
+-- request at its target).
 abbrev pub AnswerFits : System → World → ℕ → Type 0
 AnswerFits s w h = (v : Option Value) → (w.handlers h).answer ≡ Some (Reply v) → ReplyFits s w h v
 
@@ -127,7 +127,7 @@ pub record TakesResult (s : System) (w : World) (p : ℕ) (h : ℕ) (result : Op
   pub stage_is : frame.stage ≡ Awaits supplier takes is_creation
   pub gives : Gives s h result p frame.environment takes
 
--- Whoever waits for the request, and has neither failed nor an answer yet, takes such a result.
+-- A handler that waits for the request, and has neither failed nor an answer yet, takes such a result.
 abbrev pub IsAwaited : System → World → ℕ → Request → Option (Option EntityType) → Type 0
 IsAwaited s w h r result = (p : ℕ) → p < w.count → r.is_waited ≡ true → r.poster ≡ Some p →
     (w.handlers p).failure ≡ None → (w.handlers p).answer ≡ None → TakesResult s w p h result
@@ -139,12 +139,12 @@ pub data MayEnd (x : Handler) (r : Request) : Type 0 where
   next : {rs : List Request} → x.stack ≡ [] → x.queue ≡ r ∷ rs → MayEnd x r
   called_back : {f : Frame} {below : List Frame} → x.stack ≡ f ∷ below → x.callback ≡ Some r → MayEnd x r
 
--- Whoever waits for what may end takes what it asks for.
+-- A handler that waits for a request that may end takes what it asks for.
 abbrev pub EndsAreAwaited : System → World → Type 0
 EndsAreAwaited s w = (h : ℕ) (r : Request) → h < w.count → MayEnd (w.handlers h) r →
     IsAwaited s w h r (result_of_request s r)
 
--- No callback stands beside a reply.
+-- No handler has both a callback and a reply.
 abbrev pub CallbacksStandAlone : World → Type 0
 CallbacksStandAlone w = (h : ℕ) (r : Request) (v : Option Value) → h < w.count → (w.handlers h).callback ≡ Some r →
     (w.handlers h).answer ≡ Some (Reply v) → ⊥

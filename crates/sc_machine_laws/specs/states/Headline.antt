@@ -17,8 +17,8 @@ use Rattle.sc_machine_laws.specs.states.Stands.{Stands}
 
 -- ---- posted under a right
 
--- A request that comes to stand at a handler in a turn was posted by the handler of the turn, which then held that
--- one, or created it in this turn.
+-- A request that a turn adds to a handler was posted by the turn's handler, which then held that one, or created it
+-- in this turn.
 abbrev pub PostedUnderRight : Type 0
 PostedUnderRight =
     (most : ℕ) (s : System) (h : ℕ) (w : World) (k : ℕ) (r : Request)
@@ -27,8 +27,8 @@ PostedUnderRight =
 
 -- ---- taken in order
 
--- How the queue of k changes in a turn of h: it stays; k takes its first; a request of h comes behind its last; or
--- all fall with the failure of k.
+-- How the queue of k changes in a turn of h: it stays; k takes its first; a request of h comes after its last; or
+-- all are lost with the failure of k.
 pub data QueueMoves (h k : ℕ) (x y : Handler) : Type 0 where
   stays : y.queue ≡ x.queue → QueueMoves h k x y
   takes : (r : Request) → k ≡ h → x.queue ≡ r ∷ y.queue → QueueMoves h k x y
@@ -42,7 +42,7 @@ QueuesAreInOrder = (most : ℕ) (s : System) (h : ℕ) (w : World) (k : ℕ) →
 
 -- ---- kept for the request
 
--- As long as a request stands at a handler, in its queue, as its callback or on its stack, that handler may not be
+-- As long as a handler has a request, in its queue, as its callback or on its stack, that handler may not be
 -- reserved.
 abbrev pub TargetsAreKept : World → Type 0
 TargetsAreKept w = (k : ℕ) (r : Request) → Contains (requests_at (w.handlers k)) r
@@ -74,7 +74,7 @@ ReservedAreHeld w =
     → (w.handlers h).stack ≡ f ∷ below
     → is_awaiting f.stage ≡ false → Contains (f.reserved ∷ f.blocks) ks → Contains ks k → w.rights.queue k ≡ Some h
 
--- ---- told
+-- ---- learning of failures
 
 -- an answer that isn't a failure has come
 abbrev pub has_reply : Option Answer → Bool
@@ -90,19 +90,19 @@ pub data AwaitsAnswer (x : Handler) (k : ℕ) : Type 0 where
   lower : {f g : Frame} {below : List Frame} {gives : Option EntityType} {is_creation : Bool}
       → x.stack ≡ g ∷ below → Contains below f → f.stage ≡ Awaits k gives is_creation → AwaitsAnswer x k
 
--- Whoever awaits an answer of a handler that has failed is told.
+-- A handler that awaits an answer of one that has failed learns of the failure.
 abbrev pub WaitersAreTold : World → Type 0
 WaitersAreTold w = (p k : ℕ) → AwaitsAnswer (w.handlers p) k → is_some (w.handlers k).failure ≡ true
     → (w.handlers p).answer ≡ Some Failed
 
--- Nobody else is: who is told waits for one that has failed.
+-- No other handler does: one that learns of a failure waits for one that has failed.
 abbrev pub OnlyWaitersAreTold : World → Type 0
 OnlyWaitersAreTold w = (p : ℕ) → (w.handlers p).answer ≡ Some Failed
     → (k : ℕ) × WaitsFor w p k × (is_some (w.handlers k).failure ≡ true)
 
 -- ---- one answer
 
--- No callback stands beside a reply.
+-- No handler has both a callback and a reply.
 abbrev pub CallbacksComeFirst : World → Type 0
 CallbacksComeFirst w = (k : ℕ) (r : Request) → (w.handlers k).callback ≡ Some r
     → has_reply (w.handlers k).answer ≡ false
@@ -118,7 +118,7 @@ RepliesMeetNone w =
 
 -- ---- of each state that is reached
 
--- A lawful world of rights stands for the state: all of the above follows from it.
+-- The state has a lawful world of rights: all of the above follows from it.
 abbrev pub HasTrails : World → Type 0
 HasTrails w = (t : rights.World) × IsLawful t × Stands t w
 

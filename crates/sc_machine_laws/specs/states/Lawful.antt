@@ -20,7 +20,7 @@ resting rs = record { stack = []; requests = rs; callback = None; answer = None;
 abbrev pub root : Request
 root = record { number = 0; poster = 0; waited = false; passed = None; asked = None }
 
--- The root request stands at handler 0. All rights are nobody's.
+-- Handler 0 has the root request. No handler holds a right.
 abbrev pub opening : World
 opening =
     record {

@@ -17,7 +17,7 @@ ReachedAreLawful = (w : World) → IsReached w → IsLawful w
 
 -- ---- posted under a right, and taken in order
 
--- A request that comes to stand at a handler is new, and its poster then holds that handler.
+-- A request that is added to a handler is new, and its poster then holds that handler.
 abbrev pub PostedUnderRight : Type 0
 PostedUnderRight =
     (w v : World) → IsLawful w → Step w v → (k : ℕ) (r : Request) → IsOne r (requests_of (v.handlers k))
@@ -48,7 +48,7 @@ ChainHolds =
 
 -- ---- held while it runs
 
--- The frame is the topmost, or it stands under frames that no request began: its own calls and its open blocks.
+-- The frame is the topmost, or it is below frames that no request began: its own calls and its open blocks.
 abbrev pub RunsIn : Frame → List Frame → Type 0
 RunsIn f [] = ⊥
 RunsIn f (g ∷ fs) = (g ≡ f) ⊎ ((g.origin ≡ None) × RunsIn f fs)
@@ -69,16 +69,16 @@ ReservedWhileItRuns =
     (w : World) → IsLawful w → (p : ℕ) (f : Frame) → IsActive (w.handlers p) → RunsIn f (w.handlers p).stack
     → EachGranted w p f.reserved
 
--- ---- told
+-- ---- learning of failures
 
--- A handler is told where it has an open wait for one that has failed, and only where it waits for one.
+-- A handler learns of a failure if it has an open wait for one that has failed, and only if it waits for one.
 abbrev pub Told : Type 0
 Told =
     (w : World) → IsLawful w → (p : ℕ)
     → ((v : Wait) → IsOpen v (w.handlers p) → (w.handlers v.target).failed ≡ true → IsTold (w.handlers p))
     × (IsTold (w.handlers p) → (v : Wait) × StackWaits v (w.handlers p).stack × ((w.handlers v.target).failed ≡ true))
 
--- A failure tells those who wait for the handler, and nobody else.
+-- A handler's failure reaches those who wait for it, and no other handler.
 abbrev pub FailureTells : Type 0
 FailureTells =
     (w : World) → IsLawful w → (h : ℕ) → MayFail h w → (p : ℕ) → p ≢ h
@@ -86,14 +86,14 @@ FailureTells =
 
 -- ---- one answer
 
--- No reply meets a reply: a poster that hasn't failed has no answer yet as its request ends, unless a failure was
--- told to it.
+-- No reply meets a reply: a poster that hasn't failed has no answer yet as its request ends, unless it has learned
+-- of a failure.
 abbrev pub OneAnswer : Type 0
 OneAnswer =
     (w : World) → IsLawful w → (h : ℕ) (r : Request) → Ends h r w → (w.handlers r.poster).failed ≡ false
     → ((w.handlers r.poster).answer ≡ None) ⊎ IsTold (w.handlers r.poster)
 
--- No callback stands beside a reply.
+-- No handler has both a callback and a reply.
 abbrev pub CallbackFirst : Type 0
 CallbackFirst = (w : World) → IsLawful w → (k : ℕ) (r : Request) → (w.handlers k).callback ≡ Some r
     → answered (w.handlers k).answer ≡ false

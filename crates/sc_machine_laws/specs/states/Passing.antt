@@ -27,8 +27,8 @@ FitWhereGiven = (s : System) (me k : ℕ) (of : Reserved → Option ℕ) (v : Va
     declared_type s [] d ≡ Some g → Lies t.tag me of k →
     Fits s k no_names v g → Fits s me of v (combined_result t g)
 
--- Values that fit their types, which the rules let pass as actuals behind a target of this type, fit the formals on the
--- target's handler.
+-- Values that fit their types, which the rules let pass as actuals after a target of this type, fit the formals on
+-- the target's handler.
 abbrev pub FitWherePassed : Type 0
 FitWherePassed = (s : System) (me k : ℕ) (bs : List Binding) (t : EntityType) (formals : List Declaration)
     (us : List Operand) → Lies t.tag me (handler_named bs) k →

@@ -1,4 +1,4 @@
--- Features and classes in canonical text. Each part is left out where it is empty.
+-- Features and classes in canonical text. Each part is left out if it is empty.
 use Rattle.std.specs.Prelude.{◌&&◌, Bool, true, false, if◌then◌else◌, List, [], ◌∷◌, ◌++◌, Option, None, Some, map}
 use Rattle.std.specs.Str.{bytes_eq}
 use Rattle.sc_text.specs.declared.token.Terminal.TheVariants as terminal
@@ -62,7 +62,7 @@ exports_parts (x ∷ xs) = word terminal.OpenBrace ∷ (class_names_parts (x ∷
 unfoldable pub section_line : List Name → Line
 section_line exports = line 0 (word terminal.Feature ∷ exports_parts exports)
 
--- a feature behind one that is exported to these classes
+-- a feature that shares its export list with the one before
 abbrev pub further_feature_lines : List Name → Feature → List Line
 further_feature_lines exports f =
     if same_names exports f.exports then feature_lines f else section_line f.exports ∷ feature_lines f
@@ -71,7 +71,7 @@ abbrev pub further_features_lines : List Name → List Feature → List Line
 further_features_lines exports [] = []
 further_features_lines exports (f ∷ fs) = further_feature_lines exports f ++ further_features_lines f.exports fs
 
--- Features that follow each other with the same export list stand under one `feature`.
+-- Features in a row with equal export lists share one `feature`.
 abbrev pub sections_lines : List Feature → List Line
 sections_lines [] = []
 sections_lines (f ∷ fs) = section_line f.exports ∷ (feature_lines f ++ further_features_lines f.exports fs)
@@ -108,7 +108,7 @@ class_lines c =
     ++ (assertion_lines 0 terminal.Invariant c.invariant
     ++ line 0 (word terminal.End ∷ []) ∷ []))))
 
--- each behind an empty line
+-- each after an empty line
 abbrev pub further_classes_lines : List Class → List Line
 further_classes_lines [] = []
 further_classes_lines (c ∷ cs) = line 0 [] ∷ (class_lines c ++ further_classes_lines cs)

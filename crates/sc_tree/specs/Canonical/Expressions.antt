@@ -42,7 +42,7 @@ tested_type_parts (Some t) = word terminal.OpenBrace ∷ (type_parts t ++ word t
 
 -- ---- expressions
 
--- the class of the operators that an expression belongs to: 0 where no operator stands between two operands
+-- the class of an expression's operators: 0 unless an operator is between two operands
 abbrev pub class_of_expr : Expr → ℕ
 class_of_expr (Binary s op a b) = suc (class_below op)
 class_of_expr _ = 0
@@ -51,7 +51,7 @@ class_of_expr _ = 0
 abbrev pub left_class : BinaryOperator → ℕ
 left_class op = if groups (class_below op) then suc (class_below op) else class_below op
 
--- An expression stands in parentheses only where its class is too great.
+-- An expression is in parentheses only if its class is too great.
 abbrev pub in_class : ℕ → ℕ → List Part → List Part
 in_class class allowed ps =
     if nat_le class allowed then ps else word terminal.OpenParenthesis ∷ (ps ++ word terminal.CloseParenthesis ∷ [])

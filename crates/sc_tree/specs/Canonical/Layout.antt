@@ -1,4 +1,4 @@
--- How canonical text is laid out: lines of tokens, each line behind its tabs.
+-- The layout of canonical text: lines of tokens, each line after its tabs.
 use Rattle.std.specs.Prelude.{ℕ, ◌==◌, ◌||◌, ◌&&◌, Bool, true, false, not, if◌then◌else◌, List, [], ◌∷◌, ◌++◌, map, replicate, codes}
 use Rattle.std.specs.Fmt.{signed_decimal}
 use Rattle.std.specs.Char.{to_ascii_uppercase}
@@ -80,14 +80,14 @@ text_of_part (Token k) = text_of_kind k
 text_of_part (ClassName x) = map to_ascii_uppercase x
 text_of_part (HandlerOfName x) = codes "<" ++ (x ++ codes ".handler>")
 
--- whether the next token stands close behind it
+-- whether the next token follows with no space
 abbrev pub is_opening : Terminal → Bool
 is_opening terminal.OpenParenthesis = true
 is_opening terminal.OpenBrace = true
 is_opening terminal.Dot = true
 is_opening _ = false
 
--- whether it stands close behind the token before it
+-- whether it follows the token before it with no space
 abbrev pub is_closing : Terminal → Bool
 is_closing terminal.CloseParenthesis = true
 is_closing terminal.CloseBrace = true
@@ -105,8 +105,8 @@ unfoldable pub closes : Part → Bool
 closes (Token (TERMINAL t)) = is_closing t
 closes _ = false
 
--- One space stands between two tokens that don't stand close. The test says whether a token that wants a space
--- before the next stands in front.
+-- One space is between two tokens unless one is written close to the other. The test says whether a token that wants
+-- a space before the next one comes before.
 abbrev pub row : Bool → List Part → List ℕ
 row apart [] = []
 row apart (p ∷ ps) = (if apart && not (closes p) then space ∷ [] else []) ++ (text_of_part p ++ row (not (opens p)) ps)

@@ -25,7 +25,7 @@ abbrev pub goes_on : List Kind → Bool
 goes_on (TERMINAL m ∷ r) = goes_on_by m
 goes_on _ = false
 
--- Right behind a clause no other begins with `(`, `+` or `-`.
+-- Right after a clause no other begins with `(`, `+` or `-`.
 pub data IsClauses : List Clause → List Kind → ℕ → Type 0 where
   no_clause : IsClauses [] [] 0
   semicolon_clauses : {xs : List Clause} {c : List Kind} {h : ℕ} → IsClauses xs c h →

@@ -31,7 +31,7 @@ pub data IsFormals : List Declaration → List Kind → Type 0 where
   formals : {ds : List Declaration} {c : List Kind} → IsDeclarations ds c →
       IsFormals ds (TERMINAL terminal.OpenParenthesis ∷ (c ++ TERMINAL terminal.CloseParenthesis ∷ []))
 
--- any number, with or without a semicolon behind each
+-- any number, with or without a semicolon after each
 pub data IsLocalList : List Declaration → List Kind → Type 0 where
   no_local : IsLocalList [] []
   another_local : {ds es : List Declaration} {c s cs : List Kind} →
@@ -95,7 +95,7 @@ pub data IsExports : List Name → List Kind → Type 0 where
   exports : {xs : List Name} {c : List Kind} → IsNames xs c →
       IsExports (exported_to xs) (TERMINAL terminal.OpenBrace ∷ (c ++ TERMINAL terminal.CloseBrace ∷ []))
 
--- each `feature` and what stands under it
+-- each `feature` and the features under it
 pub data IsSections : List Feature → List Kind → ℕ → Type 0 where
   no_section : IsSections [] [] 0
   section : {es : List Name} {fs gs : List Feature} {ce c cs : List Kind} {h hs : ℕ} →
@@ -140,7 +140,7 @@ pub data IsParent : Parent → List Kind → Type 0 where
       IsParent (record { name = named x; redefined = ns })
       (NAME x ∷ TERMINAL terminal.Redefine ∷ (c ++ TERMINAL terminal.End ∷ []))
 
--- at least one, with or without a semicolon behind each
+-- at least one, with or without a semicolon after each
 pub data IsParentList : List Parent → List Kind → Type 0 where
   one_parent : {p : Parent} {c s : List Kind} → IsParent p c → IsOptional terminal.Semicolon s →
       IsParentList (p ∷ []) (c ++ s)

@@ -25,7 +25,7 @@ mutual
         IsPrimary (ObjectTest nowhere o t (named x))
         (TERMINAL terminal.Attached ∷ (co ++ (c ++ TERMINAL terminal.As ∷ NAME x ∷ []))) h
 
-  -- a name with actuals, `Current` or `Result`, and a call for each dot behind it
+  -- a name with actuals, `Current` or `Result`, and a call for each dot after it
   pub data IsChain : Expr → List Kind → ℕ → Type 0 where
     current : IsChain (Current nowhere) (TERMINAL terminal.Current ∷ []) 0
     result : IsChain (plain.Result nowhere) (TERMINAL terminal.Result ∷ []) 0

@@ -17,7 +17,7 @@ pub data IsVariable : Variable → List Kind → Type 0 where
   named_variable : (x : List ℕ) → IsVariable (Named (named x)) (NAME x ∷ [])
   result_variable : IsVariable (ResultVariable nowhere) (TERMINAL terminal.Result ∷ [])
 
--- the nesting of what stands in a construct, if anything does, with the construct around it
+-- the nesting of what is in a construct, if anything is, with the construct around it
 abbrev pub around : List Kind → ℕ → ℕ
 around [] h = 0
 around (t ∷ c) h = suc h
@@ -74,7 +74,7 @@ mutual
     instr : {i : Instr} {is : Instrs} {c cs : List Kind} {h hs : ℕ} → IsInstr i c h → IsInstrs is cs hs →
         IsInstrs (instr_then i is) (c ++ cs) (max h hs)
 
-  -- each `elseif` and what stands under it
+  -- each `elseif` and the instructions under it
   pub data IsBranches : Branches → List Kind → ℕ → Type 0 where
     no_branch : IsBranches no_branches [] 0
     branch : {t : Expr} {body : Instrs} {bs : Branches} {c cb cs : List Kind} {h hb hs : ℕ} →

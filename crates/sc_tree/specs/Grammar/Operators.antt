@@ -33,7 +33,7 @@ class_below binary.Implies = 5
 abbrev pub top : ℕ
 top = 6
 
--- whether the operators above this class group to the left; the relations stand alone
+-- whether the operators above this class group to the left; relations don't group
 abbrev pub groups : ℕ → Bool
 groups class = if class == 2 then false else true
 

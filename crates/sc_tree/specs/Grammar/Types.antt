@@ -12,7 +12,7 @@ pub data IsNames : List Name → List Kind → Type 0 where
   more_names : (x : List ℕ) {xs : List Name} {c : List Kind} → IsNames xs c →
       IsNames (named x ∷ xs) (NAME x ∷ TERMINAL terminal.Comma ∷ c)
 
--- a token that may stand or not
+-- a token that may be left out
 pub data IsOptional (m : Terminal) : List Kind → Type 0 where
   absent : IsOptional m []
   present : IsOptional m (TERMINAL m ∷ [])

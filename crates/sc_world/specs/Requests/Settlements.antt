@@ -8,7 +8,7 @@ use Rattle.sc_request.specs.Settling.{settled}
 use Rattle.sc_world.specs.Requests.Serving.{HasFrames, HasServices}
 use Rattle.sc_world.specs.Requests.Turns.{is_failure, left_after, served_under}
 
--- the handler of the number, which is a new one where there is none yet
+-- the handler of the number, a new one if there is none yet
 abbrev pub known : ℕ → State → Handler
 known h s = if nat_lt h s.count then s.handlers h else new_handler
 
@@ -20,8 +20,8 @@ KeepsServices x y =
     (x.failure ≡ None) × (length y.services ≡ length x.services)
     × (HasFrames x.stage x.services → HasFrames y.stage y.services)
 
--- A handler was picked with a job. After the settlement of its turns it serves one request more where it took one, and
--- one less where one is done, unless it fails; and it fails where a failure is asked.
+-- A handler was picked with a job. After the settlement of its turns it serves one request more if it took one, and
+-- one less if one is done, unless it fails; and it fails if a failure is wanted.
 abbrev pub SettlementsServe : Type 0
 SettlementsServe =
     (most h turns : ℕ) (j : Job) (w : Want) (c : Center) → pick_for h c ≡ Some j →

@@ -10,7 +10,7 @@ use Rattle.sc_play.specs.Regions.{PlainRegion, Plays, IsRefused}
 use Rattle.sc_play.specs.Turns.{FirstTurn, TurnOf}
 use Rattle.sc_world.specs.Requests.Serving.{Serves}
 
--- how many requests a handler serves under the job that served so many before
+-- how many requests a handler serves under the job, after serving this number before
 abbrev pub served_under : Job → ℕ → ℕ
 served_under (job.Take r) n = n + 1
 served_under (job.Reply v) n = n
@@ -20,7 +20,7 @@ served_under (job.Granted ks) n = n
 served_under (job.Made k) n = n
 served_under job.Go n = n
 
--- how many are left of so many, where a turn asks this
+-- how many are left of this number, if a turn wants this
 abbrev pub left_after : Want → ℕ → ℕ
 left_after want.Continue n = n
 left_after (want.Reserve ks) n = n
@@ -43,11 +43,11 @@ is_failure (want.Wait ks) = false
 is_failure (want.Done v ks refused) = false
 is_failure (want.Fail why) = true
 
--- Of so many requests the store serves those that are left where a turn asks this, unless that is a failure.
+-- Of this number of requests the store serves those that are left if a turn wants this, unless that is a failure.
 abbrev pub ServesAfter : Want → ℕ → PlainStore → Type 0
 ServesAfter w n y = is_failure w ≡ false → Serves (left_after w n) y
 
--- The first turn under a job serves one request more where that is taken, and one less where it is done.
+-- The first turn under a job serves one request more if that is taken, and one less if it is done.
 abbrev pub FirstTurnsServe : Type 0
 FirstTurnsServe =
     (h : ℕ) (is_told : Bool) (j : Job) (x y : PlainStore) (w : Want) (n : ℕ) → Serves n x →
