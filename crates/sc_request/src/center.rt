@@ -180,8 +180,9 @@ fn places(alloc: Global, root: Request, others: usize) -> Result<Vec<Handler>, A
 {
     let mut handlers = Vec::new(alloc);
     handlers.push(Handler::asked(alloc, root)?)?;
+    handlers.reserve(others)?;
     for _k in 0..others {
-        handlers.push(Handler::new(alloc))?;
+        handlers.push_reserved(Handler::new(alloc));
     }
     Ok(handlers)
 }
