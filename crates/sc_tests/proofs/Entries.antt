@@ -1,7 +1,9 @@
 -- Entries of a buffer of size 1 with a consumer and a producer: what they reserve, which clauses are waited for, and when they
--- may be tried again.
+-- may be tried again; and which reserve steps fail.
 use Rattle.std.proofs.Common.{ℕ, ◌≡◌, Bool, true, false, List, [], ◌∷◌, Option, Some, None, refl}
-use Rattle.std.specs.Prelude.{◌==◌, ◌||◌, length, replicate, if◌then◌else◌}
+use Rattle.std.specs.Prelude.{◌==◌, ◌||◌, length, map, replicate, if◌then◌else◌}
+use Rattle.std.specs.List.{Any}
+use Rattle.std.proofs.lemmas.List.Folds.{list_any-from_Any}
 use Rattle.sc_lockpass.specs.Rights.{Rights, unreserved, held, reserve, release}
 use Rattle.sc_lockpass.specs.declared.wait_conditions.condition.ClauseKind.{ClauseKind}
 use Rattle.sc_lockpass.specs.declared.wait_conditions.condition.ClauseKind.TheVariants.{WaitCondition, CorrectnessCondition}
@@ -12,7 +14,7 @@ use Rattle.sc_lockpass.specs.declared.wait_conditions.mark.Marked.{Marked}
 use Rattle.sc_lockpass.specs.declared.wait_conditions.session.Release.TheVariants.{Exit, FalseWaitCondition}
 use Rattle.sc_lockpass.specs.wait_conditions.Entries.{needed}
 use Rattle.sc_lockpass.specs.wait_conditions.Conditions.{clause_kind, verdict}
-use Rattle.sc_lockpass.specs.wait_conditions.Reservations.{mark_of, mark_allows, ends_session}
+use Rattle.sc_lockpass.specs.wait_conditions.Reservations.{Standing, is_lost, reserve_fails, mark_of, mark_allows, ends_session}
 
 abbrev clause : ClauseKind → Bool → ClauseResult
 clause k b = record { kind = k; holds = b }
@@ -72,8 +74,37 @@ pub consumer_is_tried_again :
     ≡ false ∷ false ∷ true ∷ true ∷ []
 consumer_is_tried_again = refl
 
+-- an entry over two handlers, of which a session of one has ended
+abbrev two_marked : List Marked
+two_marked = mark_of at_first (1 ∷ 3 ∷ [])
+
+pub one_session_is_enough : mark_allows at_first two_marked ∷ mark_allows behind_another two_marked ∷ [] ≡ false ∷ true ∷ []
+one_session_is_enough = refl
+
 pub waiting_ends_no_session : ends_session Exit ∷ ends_session FalseWaitCondition ∷ [] ≡ true ∷ false ∷ []
 waiting_ends_no_session = refl
+
+-- ---- a reserve step fails where one of the handlers that it needs is lost
+
+-- 1 has failed, 2 is idle, 3 isn't
+abbrev standing : ℕ → Standing
+standing k = record { has_frames = k == 3; has_failed = k == 1; has_requests = false; sessions = 1 }
+
+abbrev do_fail : Rights → List (List ℕ) → List Bool
+do_fail r needs = map (reserve_fails standing r) needs
+
+pub one_lost_is_enough :
+    do_fail unreserved ((1 ∷ []) ∷ (1 ∷ 2 ∷ []) ∷ (2 ∷ 1 ∷ []) ∷ (3 ∷ 1 ∷ []) ∷ (2 ∷ 3 ∷ []) ∷ []) ≡ true ∷ true ∷ true ∷ true ∷ false ∷ []
+one_lost_is_enough = refl
+
+-- it has failed, and is another's still
+pub reserved_is_not_lost : do_fail (reserve 4 (1 ∷ []) unreserved) ((1 ∷ []) ∷ (1 ∷ 2 ∷ []) ∷ []) ≡ false ∷ false ∷ []
+reserved_is_not_lost = refl
+
+-- whatever the others are
+pub fails_by_one : (stands : ℕ → Standing) (r : Rights) (ks : List ℕ) →
+    Any (λ k. is_lost (stands k) (r.queue k) ≡ true) ks → reserve_fails stands r ks ≡ true
+fails_by_one stands r ks some = list_any-from_Any (λ k. is_lost (stands k) (r.queue k)) ks some
 
 -- ---- the first false clause decides
 

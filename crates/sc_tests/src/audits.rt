@@ -388,3 +388,132 @@ fn altered_records_of_a_failure_in_a_chain(rt: HostRuntime) -> Result<(), Fail> 
     let tables = [(Says::Text, RELAY_RECORD), (Says::Altered, RELAY_ALTERED)];
     expect(&rt, RELAY, &tables)
 }
+
+// ---- other orders of turns that leave the same report
+
+/// Two that set one cell.
+const WRITERS: &str = "class APPLICATION create make
+feature
+    c: separate CELL
+    a, b: separate WRITER
+    make do create c create a.make (c, 1) create b.make (c, 2) end
+end
+class CELL
+feature
+    item: INTEGER
+    set (v: INTEGER) do item := v end
+end
+class WRITER create make
+feature
+    make (x: separate CELL; v: INTEGER) do x.set (v) end
+end";
+
+/// The cell, handler 1, holds what was set last: an attribute is another.
+const WRITERS_ROWS: &str = "0 9, 1 9, 2 9, 1 9, 3 9, 1 9|yes
+0 9, 1 9, 3 9, 1 9, 2 9, 1 9|differs 1";
+
+/// Two that draw a number each and keep it in a local, as they wait for what never comes.
+const DRAWERS: &str = "class APPLICATION create make
+feature
+    c: separate CELL
+    a, b: separate DRAWER
+    make do create c create a.make (c) create b.make (c) end
+end
+class CELL
+feature
+    count: INTEGER
+    next: INTEGER do count := count + 1 Result := count end
+end
+class DRAWER create make
+feature
+    make (x: detachable separate CELL)
+        local v: INTEGER
+        do if attached x as c then v := draw (c) wait (c) end end
+    draw (c: separate CELL): INTEGER do Result := c.next end
+    wait (c: separate CELL) require c.count = 9 do end
+end";
+
+/// One waits, the other draws and waits, and the first tries again: a local in a frame is another, of handler 2 first.
+const DRAWERS_ROWS: &str =
+    "0 9, 1 9, 2 9, 1 9, 2 9, 1 9, 2 9, 3 9, 1 9, 3 9, 1 9, 3 9, 2 9, 1 9, 2 9|yes
+0 9, 1 9, 3 9, 1 9, 3 9, 1 9, 3 9, 2 9, 1 9, 2 9, 1 9, 2 9, 3 9, 1 9, 3 9|differs 2";
+
+/// Two that draw a number each. One posts its own to a handler that waits for what never comes.
+const POSTER: &str = "class APPLICATION create make
+feature
+    c: separate CELL
+    d: separate STALLED
+    p: separate POSTER
+    o: separate OTHER
+    make do create c create d.make (c) create p.make (c, d) create o.make (c) end
+end
+class CELL
+feature
+    count: INTEGER
+    next: INTEGER do count := count + 1 Result := count end
+end
+class STALLED create make
+feature
+    item: INTEGER
+    c: detachable separate CELL
+    make (x: detachable separate CELL) do c := x end
+    stall do if attached c as x then wait (x) end end
+    wait (x: separate CELL) require x.count = 9 do end
+    set (v: INTEGER) do item := v end
+end
+class POSTER create make
+feature
+    make (x: separate CELL; y: separate STALLED) do y.stall y.set (x.next) end
+end
+class OTHER create make
+feature
+    make (x: separate CELL) local v: INTEGER do v := x.next end
+end";
+
+/// The one that posts comes first, and then the other, so that who waits tries again; or the other way round. An actual in the
+/// queue of handler 2 is another.
+const POSTER_ROWS: &str =
+    "0 9, 1 9, 2 9, 3 9, 1 9, 3 9, 2 9, 1 9, 2 9, 4 9, 1 9, 4 9, 2 9, 1 9, 2 9|yes
+0 9, 1 9, 2 9, 4 9, 1 9, 4 9, 3 9, 1 9, 3 9, 2 9, 1 9, 2 9|differs 2";
+
+/// Two that reserve one handler, and ask it for what never comes.
+const HOLDERS: &str = "class APPLICATION create make
+feature
+    c: separate CELL
+    d: separate STALLED
+    a, b: separate HOLDER
+    make do create c create d.make (c) create a.make (d) create b.make (d) end
+end
+class CELL feature count: INTEGER end
+class STALLED create make
+feature
+    c: detachable separate CELL
+    make (x: detachable separate CELL) do c := x end
+    answer: INTEGER do if attached c as x then wait (x) end end
+    wait (x: separate CELL) require x.count = 9 do end
+end
+class HOLDER create make
+feature
+    make (y: separate STALLED) local v: INTEGER do v := y.answer end
+end";
+
+/// One asks and waits for the answer, the other to reserve: handler 2 is another's.
+const HOLDERS_ROWS: &str = "0 9, 1 9, 2 9, 3 9, 2 9, 1 9, 2 9, 4 9|yes
+0 9, 1 9, 2 9, 4 9, 2 9, 1 9, 2 9, 3 9|differs 2";
+
+/// In the run each of these systems is played in the first order, in which the lower number comes first. In the other order each
+/// handler has as many objects, frames, requests and rights, and has printed and refused the same.
+const ORDERS: [(&str, &str); 4] = [
+    (WRITERS, WRITERS_ROWS),
+    (DRAWERS, DRAWERS_ROWS),
+    (POSTER, POSTER_ROWS),
+    (HOLDERS, HOLDERS_ROWS),
+];
+
+#[test]
+fn other_orders_with_the_same_report(rt: HostRuntime) -> Result<(), Fail> {
+    for (source, rows) in &ORDERS {
+        expect(&rt, source, &[(Says::Lines(Version::Two), rows)])?;
+    }
+    Ok(())
+}

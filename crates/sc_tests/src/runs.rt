@@ -23,13 +23,13 @@ const LIMIT: u32 = 1_000_000;
 /// looks in vain.
 const LOOKS: u32 = 3_000;
 
-/// A handler that waits, as a worker begins to play it, until others were played.
+/// Which handlers wait, as a worker begins to play them, and for what.
 #[derive(Clone, Copy)]
 pub enum Waits {
     /// None does.
     Never,
-    /// Handler 1, until these handlers have begun: a bit for each, by its number.
-    UntilBegun(u64),
+    /// Each of these handlers, until all of them are played at once: a bit for each, by its number.
+    ForEachOther(u64),
     /// Handler 4, until handler 3 has ended twice.
     UntilEndedTwice,
 }
@@ -40,10 +40,21 @@ struct Seen {
     waits: Waits,
     /// A bit for each handler that has begun, by its number.
     begun: AtomicU64,
+    /// A bit for each handler that is being played, by its number.
+    playing: AtomicU64,
+    /// 1 once all handlers that wait for each other were played at once.
+    met: AtomicU64,
+    /// How many tasks have ended.
+    tasks: AtomicU64,
     /// How often handler 3 has ended.
     ended: AtomicU64,
-    /// 1 where a wait ran out.
+    /// 1 once a wait has run out. Then none waits any more.
     late: AtomicU64,
+}
+
+/// The bit of a handler, if it has one.
+fn bit_of(handler: HandlerNumber) -> u64 {
+    1_u64.checked_shl(handler as u32).unwrap_or(0)
 }
 
 impl Seen {
@@ -51,33 +62,73 @@ impl Seen {
         Seen {
             waits,
             begun: AtomicU64::new(0),
+            playing: AtomicU64::new(0),
+            met: AtomicU64::new(0),
+            tasks: AtomicU64::new(0),
             ended: AtomicU64::new(0),
             late: AtomicU64::new(0),
         }
     }
 
-    /// A handler begins: whether it waits.
-    fn begins(&self, handler: HandlerNumber) -> bool {
-        let bit = 1_u64.checked_shl(handler as u32).unwrap_or(0);
-        self.begun.fetch_or(bit, Ordering::SeqCst);
+    /// The handlers that wait: a bit for each.
+    fn waiting(&self) -> u64 {
         match self.waits {
-            Waits::Never => false,
-            Waits::UntilBegun(_) => handler == 1,
-            Waits::UntilEndedTwice => handler == 4,
+            Waits::Never => 0,
+            Waits::ForEachOther(handlers) => handlers,
+            Waits::UntilEndedTwice => bit_of(4),
         }
     }
 
-    /// Whether the handler that waits may go on.
+    /// A handler begins: whether it waits.
+    fn begins(&self, handler: HandlerNumber) -> bool {
+        let bit = bit_of(handler);
+        let waiting = self.waiting();
+        self.begun.fetch_or(bit, Ordering::SeqCst);
+        let playing = self.playing.fetch_or(bit, Ordering::SeqCst) | bit;
+        if playing & waiting == waiting {
+            self.met.store(1, Ordering::SeqCst);
+        }
+        bit & waiting != 0
+    }
+
+    /// Whether a handler that waits may go on.
     fn may_go_on(&self) -> bool {
         match self.waits {
             Waits::Never => true,
-            Waits::UntilBegun(others) => self.begun.load(Ordering::SeqCst) & others == others,
+            Waits::ForEachOther(_) => self.met.load(Ordering::SeqCst) == 1,
             Waits::UntilEndedTwice => self.ended.load(Ordering::SeqCst) >= 2,
         }
     }
+
+    /// A handler ends.
+    fn ends(&self, handler: HandlerNumber) {
+        self.playing.fetch_and(!bit_of(handler), Ordering::SeqCst);
+        self.tasks.fetch_add(1, Ordering::SeqCst);
+        if handler == 3 {
+            self.ended.fetch_add(1, Ordering::SeqCst);
+        }
+    }
+
+    /// Each handler that waits was played, and no wait ran out: a run on one thread that calls the gate waits in vain, and one
+    /// that doesn't call it lets none begin. What began has ended.
+    fn expect_waited<R: Abort>(&self, rt: &R) {
+        let waiting = self.waiting();
+        assert_eq!(rt; self.late.load(Ordering::SeqCst), 0, "waits that ran out");
+        assert_eq!(rt;
+            self.begun.load(Ordering::SeqCst) & waiting,
+            waiting,
+            "handlers that wait"
+        );
+        assert!(rt; self.may_go_on(), "what they wait for");
+        assert_eq!(rt;
+            self.playing.load(Ordering::SeqCst),
+            0,
+            "handlers that have not ended"
+        );
+    }
 }
 
-/// A gate at which a handler waits.
+/// A gate at which handlers wait.
 #[derive(Drop)]
 struct Waiting<'a, C: Clock + Sync> {
     clock: &'a C,
@@ -90,7 +141,7 @@ impl<'a, C: Clock + Sync> Gate for Waiting<'a, C> {
             return;
         }
         for _ in 0..LOOKS {
-            if self.seen.may_go_on() {
+            if self.seen.may_go_on() || self.seen.late.load(Ordering::SeqCst) == 1 {
                 return;
             }
             thread::sleep(self.clock, Duration::from_millis(1));
@@ -99,14 +150,12 @@ impl<'a, C: Clock + Sync> Gate for Waiting<'a, C> {
     }
 
     fn ended(&self, handler: HandlerNumber) {
-        if handler == 3 {
-            self.seen.ended.fetch_add(1, Ordering::SeqCst);
-        }
+        self.seen.ends(handler);
     }
 }
 
-/// What a run of a program by one worker leaves.
-pub fn left_by_one<'p, R: Threads + Wait + Clock + Sync>(
+/// What a run of a program by one worker leaves, whose gate saw each task of its record.
+pub fn left_by_one<'p, R: Abort + Threads + Wait + Clock + Sync>(
     rt: &R,
     alloc: Global,
     program: &'p Program,
@@ -116,12 +165,17 @@ pub fn left_by_one<'p, R: Threads + Wait + Clock + Sync>(
         seen: Seen::new(Waits::Never),
     };
     match run(rt, alloc, program, 1, LIMIT, &gate) {
-        Ok(left) => Ok(left),
+        Ok(left) => {
+            gate.seen.expect_waited(rt);
+            let tasks = gate.seen.tasks.load(Ordering::SeqCst);
+            assert_eq!(rt; tasks, left.lines.len() as u64, "tasks");
+            Ok(left)
+        }
         Err(_) => Err(Fail::from(AllocError)),
     }
 }
 
-/// Plays a system with handlers that wait: no wait runs out, and this is the report.
+/// Plays a system with handlers that wait: each of them waits, none in vain, and this is the report.
 pub fn expect_report<R: Abort + AllocGlobal + Threads + Wait + Clock + Sync>(
     rt: &R,
     text: &str,
@@ -136,7 +190,7 @@ pub fn expect_report<R: Abort + AllocGlobal + Threads + Wait + Clock + Sync>(
     };
     let program = program_of(alloc, text, "application", "make")?;
     let told = reported(rt, alloc, &program, workers, &gate)?;
-    assert_eq!(rt; gate.seen.late.load(Ordering::SeqCst), 0);
+    gate.seen.expect_waited(rt);
     expect_text(rt, &told, report, text);
     Ok(())
 }

@@ -27,7 +27,7 @@ stopped idle
 
 #[test]
 fn two_at_once(rt: HostRuntime) -> Result<(), Fail> {
-    expect_report(&rt, TWO, 2, Waits::UntilBegun(0x4), TWO_REPORT)
+    expect_report(&rt, TWO, 2, Waits::ForEachOther(0x6), TWO_REPORT)
 }
 
 /// Eight handlers that a ninth one makes.
@@ -70,7 +70,7 @@ stopped idle
 
 #[test]
 fn eight_at_once(rt: HostRuntime) -> Result<(), Fail> {
-    expect_report(&rt, EIGHT, 8, Waits::UntilBegun(0x1fc), EIGHT_REPORT)
+    expect_report(&rt, EIGHT, 8, Waits::ForEachOther(0x1fe), EIGHT_REPORT)
 }
 
 /// Locks that are passed twice, then a failure; and a handler that comes late.
