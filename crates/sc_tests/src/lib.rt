@@ -4,7 +4,8 @@
 //! ([`stores`]) and its log ([`worklogs`]). Runs by several workers ([`together`]), audits with records that aren't a run's own
 //! ([`audits`]), and worlds that one thread plays ([`worlds`]).
 //!
-//! `proofs/` has rows of definitions: of rights, entries, conformance, of what is seen through a call, and of how long code is.
+//! `proofs/` has rows of definitions: of rights, entries, passed locks, references, full stacks, conformance, of what is seen
+//! through a call, and of how long code is.
 #![tactic(auto)]
 
 #[cfg(test)]
