@@ -310,7 +310,7 @@ fn regions<'p>(alloc: Global, program: &'p Program) -> Result<Vec<Region<'p>>, A
 {
     let mut regions = Vec::with_capacity(alloc, MAX_HANDLERS as usize)?;
     for handler in 0..MAX_HANDLERS {
-        regions.push(Region::new(alloc, program, handler))?;
+        regions.push_reserved(Region::new(alloc, program, handler));
     }
     Ok(regions)
 }
