@@ -502,7 +502,8 @@ const HOLDERS_ROWS: &str = "0 9, 1 9, 2 9, 3 9, 2 9, 1 9, 2 9, 4 9|yes
 0 9, 1 9, 2 9, 4 9, 2 9, 1 9, 2 9, 3 9|differs 2";
 
 /// In the run each of these systems is played in the first order, in which the lower number comes first. In the other order each
-/// handler has as many objects, frames, requests and rights, and has printed and refused the same.
+/// handler has as many objects, frames, requests and rights, and has printed and refused the same: an audit says yes to both if it
+/// compares these numbers, or outputs, alone.
 const ORDERS: [(&str, &str); 4] = [
     (WRITERS, WRITERS_ROWS),
     (DRAWERS, DRAWERS_ROWS),
