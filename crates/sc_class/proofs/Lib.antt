@@ -29,3 +29,4 @@ pub mod Origins
 mod InheritedFeatures
 pub mod Apart
 pub mod KnownLemmas
+pub mod ClassFeatures

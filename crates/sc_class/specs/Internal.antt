@@ -5,6 +5,7 @@ pub mod FaultAt
 pub mod NameIndex
 pub mod DeclaredNames
 pub mod KnownFeatures
+pub mod FoundFeatures
 pub mod Lines
 pub mod FeatureFaults
 pub mod AncestorLists

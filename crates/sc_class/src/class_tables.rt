@@ -12,6 +12,7 @@ pub mod ancestry;
 pub mod conformance;
 pub mod declared_names;
 pub mod feature_entry;
+pub mod found_features;
 pub mod hierarchy;
 pub mod known_features;
 pub mod line;

@@ -9,6 +9,7 @@ ghost use Rattle.sc_class.specs.Internal.AncestorLists.{ancestors_in};
 ghost use Rattle.sc_class.specs.Internal.KnownFeatures.{declarer, declarer_known};
 
 use crate::class_tables::feature_entry::FeatureEntry;
+use crate::class_tables::found_features::found_features;
 use crate::class_tables::hierarchy::Hierarchy;
 use crate::class_tables::known_features::KnownFeatures;
 use crate::class_tables::outline::Outline;
@@ -79,10 +80,11 @@ pub fn known_features<'s>(
     ensures declarers { IfOk result (λ known. (k : ℕ) → k < length known.items → (x : List ℕ) →
         declarer_known known.items k x ≡ declarer (system_of outline.now.hierarchy.system.now) k x) }
 {
+    let found = found_features(alloc, outline)?;
     let count = outline.hierarchy.classes().len();
     let mut known = Vec::new(alloc);
     for number in 0..count {
-        known.push(KnownFeatures::of(alloc, outline, number)?)?;
+        known.push(KnownFeatures::of_found(alloc, outline, &found, number)?)?;
     }
     Ok(known)
 }

@@ -62,7 +62,7 @@ impl<'s> Outline<'s> {
     }
 
     /// The number of the first feature of this name that the class declares itself. It looks once by hash.
-    fn number(&self, class: usize, name: &str) -> Option<usize>
+    pub fn number(&self, class: usize, name: &str) -> Option<usize>
         ensures { result
             ≡ number_among name.now (declared_feature_names_at (system_of self.now.hierarchy.system.now) class) }
     {

@@ -6,11 +6,11 @@ ghost use Rattle.sc_tree.specs.View.{clause_of, class_of, name_of};
 ghost use Rattle.sc_class.specs.Tables.Ancestors.{parent_number};
 ghost use Rattle.sc_class.specs.ClassNames as class_names;
 ghost use Rattle.sc_class.specs.Faults.ClassRules.{IsFaultless};
-ghost use Rattle.sc_class.specs.Tables.Declared.{creators_of};
+ghost use Rattle.sc_class.specs.Tables.Declared.{creators_of, declared_feature_names_at};
 ghost use Rattle.sc_class.specs.Tables.Conformance as conformance_specs;
 ghost use Rattle.sc_class.specs.Tables.Features as class_features;
 ghost use Rattle.sc_class.specs.View.{entry_of, root_of};
-ghost use Rattle.sc_class.specs.Names.{is_listed};
+ghost use Rattle.sc_class.specs.Names.{is_listed, number_among};
 ghost use Rattle.sc_class.specs.Tables.ByClass as by_class;
 ghost use Rattle.sc_class.specs.Internal.Systems.{in_outline};
 ghost use Rattle.sc_class.specs.SystemIn.{root_in, system_in};
@@ -150,6 +150,14 @@ impl<'s> Tables<'s> {
             ≡ class_features.named_among name.now (class_features.declared_features (system_in self.now) number) }
     {
         self.outline.declared(number, name)
+    }
+
+    /// How many of the features that the class at a number declares itself come before the first one of this name, if
+    /// one has it. It looks once by hash.
+    pub fn declared_number(&self, number: usize, name: &str) -> Option<usize>
+        ensures { result ≡ number_among name.now (declared_feature_names_at (system_in self.now) number) }
+    {
+        self.outline.number(number, name)
     }
 
     /// The features of a class, each with the class that declares it (ECMA-367, 8.6.6 and 8.10): its own in the

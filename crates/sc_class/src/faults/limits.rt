@@ -4,7 +4,7 @@ ghost use Rattle.std.specs.Prelude.{◌≡◌, ◌↔◌, IfOk, IsTrue};
 ghost use Rattle.sc_class.specs.Faults.Limits as limits;
 ghost use Rattle.sc_class.specs.Internal.Systems.{in_outline};
 
-use crate::class_tables::ancestry::features_of;
+use crate::class_tables::found_features::{features_at, found_features};
 use crate::class_tables::outline::Outline;
 use crate::faults::routine_limits::has_large_routine;
 use std::alloc::{AllocError, Global};
@@ -18,8 +18,9 @@ const MAX_FEATURES: usize = 256;
 fn has_large_class(alloc: Global, outline: &Outline, count: usize) -> Result<bool, AllocError>
     ensures { IfOk result (λ large. limits.TellsLargeClass (in_outline outline.now) count large) }
 {
+    let found = found_features(alloc, outline)?;
     for number in 0..count {
-        let features = features_of(alloc, outline, number)?;
+        let features = features_at(alloc, outline, &found, number)?;
         if features.len() > MAX_FEATURES {
             return Ok(true);
         }
