@@ -233,6 +233,13 @@ impl<'p> Region<'p> {
         self.store.output()
     }
 
+    /// The output alone: the rest of the region is dropped. It takes no memory.
+    pub fn into_output(self) -> Vec<u8>
+        ensures { result.items ≡ self.entry.store.output }
+    {
+        self.store.into_output()
+    }
+
     /// Where the handler was as it failed, or else is now, to be shown to people. It has no contract: no turn depends
     /// on it.
     pub fn breakdown(&self) -> Breakdown {

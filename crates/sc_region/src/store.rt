@@ -345,6 +345,13 @@ impl<'p> Store<'p> {
         self.state.output.as_slice()
     }
 
+    /// The output alone: the rest of the store is dropped. It takes no memory.
+    pub fn into_output(self) -> Vec<u8>
+        ensures { result.items ≡ self.entry.output }
+    {
+        self.state.output
+    }
+
     /// The failure that the store has ended in.
     #[inline(always)]
     pub fn failure(&self) -> Option<Cause>
