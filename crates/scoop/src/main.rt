@@ -6,15 +6,24 @@
 
 use sc_serve::serve::{self, Fault};
 use sc_source::files::SystemFiles;
-use std::io::{ErrorKind, IsTerminal};
+use sc_source::reading::FileFault;
+use std::fs::{File, OpenOptions};
+use std::io::{self, ErrorKind, IsTerminal};
 use std::process::ExitCode;
+
+/// A file that is always empty and takes anything.
+const NOTHING: &str = "/dev/null";
+
+/// What `fpathconf` is asked for the most links of a file, which it answers of each that is open.
+const MOST_LINKS: i32 = 0;
 
 fn main(rt: HostRuntime) -> ExitCode {
     let files = SystemFiles::new(&rt);
     let mut err = rt.stderr();
     let is_terminal = err.is_terminal();
-    let status = match command_line(&rt) {
-        Ok(arguments) => serve::serve(
+    let status = match begin(&rt) {
+        // What fills closed streams is held to the end.
+        Ok((arguments, _fillers)) => serve::serve(
             &rt,
             arguments.as_slice(),
             &files,
@@ -25,6 +34,37 @@ fn main(rt: HostRuntime) -> ExitCode {
         Err(fault) => serve::end_with(&fault, &mut err),
     };
     ExitCode::from(status)
+}
+
+/// The arguments of the command line, and what is open in place of standard streams that were closed.
+fn begin(rt: &HostRuntime) -> Result<(Vec<String>, [Option<File>; 3]), Fault<'static>> {
+    match fill_closed(rt) {
+        Ok(fillers) => Ok((command_line(rt)?, fillers)),
+        Err(error) => Err(Fault::CannotRead(NOTHING, FileFault::Unreadable(error))),
+    }
+}
+
+/// Opens a file in place of each of standard input, output and error that is closed, in this order, so that no file that is
+/// opened later gets its number.
+///
+/// # Errors
+/// Where one is closed, and none can be opened in its place.
+fn fill_closed(rt: &HostRuntime) -> io::Result<[Option<File>; 3]> {
+    Ok([fill(rt, 0)?, fill(rt, 1)?, fill(rt, 2)?])
+}
+
+/// Opens a file in place of this one, if that is closed; those of lower numbers are open. As before it can't be read, if it
+/// is standard input, and can't be written otherwise.
+fn fill(rt: &HostRuntime, number: i32) -> io::Result<Option<File>> {
+    if libc::fpathconf(number, MOST_LINKS) != -1 {
+        return Ok(None);
+    }
+    let is_input = number == 0;
+    let file = OpenOptions::new()
+        .read(!is_input)
+        .write(is_input)
+        .open(rt, NOTHING)?;
+    Ok(Some(file))
 }
 
 /// The arguments of the command line, the program's name first.
