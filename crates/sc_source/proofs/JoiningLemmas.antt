@@ -8,7 +8,7 @@ use Rattle.sc_source.specs.declared.join.SourceFault.{SourceFault}
 use Rattle.sc_source.specs.declared.reading.FileFault.{FileFault}
 use Rattle.sc_source.specs.declared.source.JoinFault.{JoinFault}
 use Rattle.sc_source.specs.declared.reading.FileFault.TheVariants as file_fault
-use Rattle.std.proofs.lemmas.List.{take_all, take_more, take_more_set, drop-drop, drop-set-lt, get_or-drop, map_more, length-map, get_or-map, map-append, length-append}
+use Rattle.std.proofs.lemmas.List.{take-append-le, take_all, take_more, take_more_set, drop-drop, drop-set-lt, get_or-drop, map_more, length-map, get_or-map, map-append, length-append}
 use Rattle.std.proofs.lemmas.List.Elements.{All-get_or, All-push}
 use Rattle.sc_text.specs.Spelling.{max_source_bytes}
 use Rattle.sc_source.specs.Source.{File, joined_texts, line_feed, room_after, texts_of, names_of, unmarked}
@@ -283,3 +283,19 @@ not-short room (Some file) long = λ short. omega (arith, long, short)
 pub of-known : (P : List ℕ → Type 0) (known : Option (List ℕ)) → ((told : List ℕ) → P told) → IfSome known P
 of-known P None all = tt
 of-known P (Some file) all = all file
+
+-- ---- the beginning of a file
+
+-- so many bytes as were given are its beginning
+pub beginning-taken : (most : ℕ) (old new : Option (List ℕ)) (bytes : List ℕ) → Consumes old new bytes →
+    length bytes ≤ most → most ≤ length bytes → IfSome old (λ told. bytes ≡ take most told)
+beginning-taken most None new bytes given short long = tt
+beginning-taken most (Some os) None bytes given short long = absurd given
+beginning-taken most (Some os) (Some left) bytes given short long =
+    rw given (sym (take-append-le most bytes left long ∙ take_all most bytes short))
+
+-- a file that has no more bytes is its own beginning
+pub beginning-whole : (most : ℕ) (old : Option (List ℕ)) (bytes : List ℕ) → IfSome old (λ told. bytes ≡ told) →
+    length bytes ≤ most → IfSome old (λ told. bytes ≡ take most told)
+beginning-whole most None bytes same short = tt
+beginning-whole most (Some os) bytes same short = same ∙ sym (take_all most os (rw (← same) short))

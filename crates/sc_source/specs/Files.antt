@@ -1,5 +1,5 @@
 -- What is read of a file by name.
-use Rattle.std.specs.Prelude.{ℕ, Bool, true, false, List, [], Option, Some}
+use Rattle.std.specs.Prelude.{ℕ, ◌≡◌, Bool, true, false, List, [], Option, Some, None}
 use Rattle.sc_source.specs.declared.files.SystemReader.{SystemReader}
 use Rattle.sc_source.specs.declared.files.SystemReader.TheVariants as system
 use Rattle.sc_source.specs.declared.files.FileState.{FileState}
@@ -15,3 +15,8 @@ left_of of_reader text state.AtEnd = Some []
 abbrev pub is_input : {F I : Type 0} → SystemReader F I → Bool
 is_input (system.File file) = false
 is_input (system.Input input) = true
+
+-- A reader has these bytes left, or there is none, and no byte.
+abbrev pub IsLeftIn : {R : Type 0} → (R → Option (List ℕ)) → Option R → List ℕ → Type 0
+IsLeftIn of_reader None bytes = bytes ≡ []
+IsLeftIn of_reader (Some reader) bytes = of_reader reader ≡ Some bytes

@@ -3,13 +3,14 @@
 ghost use Rattle.std.specs.Prelude.{◌≡◌, ◌<◌, ◌⊎◌, ◌↔◌, ℕ, List, Option, None, Some, IfErr, IfOk, IfSome, IsErr, IsTrue, MatchResult, codes, length, map};
 ghost use Rattle.sc_text.specs.Spelling.{max_source_bytes};
 ghost use Rattle.sc_source.specs.Joining.{AreJoined, AreSound, AreTold, FailsForGood, IsJoinFault, IsReaderFault, no_memory, source_text};
-ghost use Rattle.sc_source.specs.Files.{is_input};
+ghost use Rattle.sc_source.specs.Files.{IsLeftIn, is_input};
 ghost use Rattle.sc_source.specs.Source.{names_of};
 
 use crate::source::{JoinFault, Source};
 use crate::writing::{Remains, SystemWriter};
 use std::alloc::Global;
-use std::io::{self, Input, Read, Write};
+use std::io::{self, ErrorKind, Input, Read, Write};
+use std::os::unix::fs::MetadataExt;
 use std::{fs, rt};
 
 /// Files that are opened by name.
@@ -22,12 +23,30 @@ pub trait Files {
     // The bytes of the file of a name, where they are known.
     ghost bytes_of: { Self → List ℕ → Option (List ℕ) } = { λ _ _. None };
 
-    /// Opens a file to be read. Fails if there is none, if it can't be opened, and if memory runs out.
+    // The bytes that are replaced by writing the file of a name, where they are known.
+    ghost replaced_by: { Self → List ℕ → Option (List ℕ) } = { λ _ _. None };
+
+    /// Opens a file to be read. Fails where there is none, where it can't be opened and where memory
+    /// runs out.
     fn reader(&self, name: &str) -> io::Result<Self::Reader>
         ensures { IfOk result (λ reader. IfSome (bytes_of self.now name.now)
             (λ bytes. Self.Reader.remaining reader ≡ Some bytes)) };
 
-    /// Opens a file to be written, empty at first. Fails if it can't be opened or made, and if memory runs out.
+    /// What a file of this name holds that would be replaced by writing it, to be read; none where there is no such file, or
+    /// an empty one, and of a device or a pipe, which isn't replaced. Fails where that can't be known, where the file can't be
+    /// opened and where memory runs out.
+    fn replaced(&self, name: &str) -> io::Result<Option<Self::Reader>>
+        ensures { IfOk result (λ replaced. IfSome (replaced_by self.now name.now) (IsLeftIn Self.Reader.remaining replaced)) };
+
+    /// Whether writing a file of the name `written` would replace that which is read by the name `read`.
+    fn is_replaced(&self, written: &str, read: &str) -> bool;
+
+    /// Tries whether a file of this name can be written, of a device or a pipe only whether it is there. What is there
+    /// stays, and nothing else does. Fails where it can't be written, with what is left, and where memory runs out.
+    fn probe(&self, name: &str) -> Result<(), (io::Error, Remains)>;
+
+    /// A writer of a file, empty at first, which is opened or made with the first byte. Memory is taken before. Fails where it
+    /// can't be written, as far as that is seen so, and where memory runs out.
     fn writer(&self, name: &str) -> io::Result<Self::Writer>;
 
     /// Puts what was written in the place of what stood in the file. Fails where that can't be done, and says what is left.
@@ -54,7 +73,7 @@ impl<'r, R: rt::Files> SystemFiles<'r, R> {
 impl<'r, R: rt::Files + Input + AllocGlobal> Files for SystemFiles<'r, R> {
     type Reader = SystemReader<R::File, R::Reader>;
 
-    type Writer = SystemWriter<R::File>;
+    type Writer = SystemWriter<'r, R>;
 
     fn reader(&self, name: &str) -> io::Result<SystemReader<R::File, R::Reader>>
         ensures source { IfOk result (λ reader. IsTrue (is_input reader) ↔ name.now ≡ codes "-") }
@@ -66,16 +85,46 @@ impl<'r, R: rt::Files + Input + AllocGlobal> Files for SystemFiles<'r, R> {
         Ok(SystemReader::File(fs::open(self.rt, name)?))
     }
 
-    fn writer(&self, name: &str) -> io::Result<SystemWriter<R::File>> {
-        SystemWriter::open(self.rt, name)
+    fn replaced(&self, name: &str) -> io::Result<Option<SystemReader<R::File, R::Reader>>> {
+        match fs::metadata(self.rt, name) {
+            Ok(metadata) if metadata.is_file() && metadata.len() > 0 => {
+                Ok(Some(SystemReader::File(fs::open(self.rt, name)?)))
+            }
+            Ok(_) => Ok(None),
+            Err(error) if error.kind() == ErrorKind::NotFound => Ok(None),
+            Err(error) => Err(error),
+        }
     }
 
-    fn commit(&self, writer: SystemWriter<R::File>) -> Result<(), (io::Error, Remains)> {
-        writer.commit(self.rt)
+    fn is_replaced(&self, written: &str, read: &str) -> bool {
+        if read == "-" {
+            return false;
+        }
+        match (fs::metadata(self.rt, written), fs::metadata(self.rt, read)) {
+            (Ok(one), Ok(other)) => {
+                one.is_file() && one.dev() == other.dev() && one.ino() == other.ino()
+            }
+            _ => false,
+        }
     }
 
-    fn discard(&self, writer: SystemWriter<R::File>) -> Remains {
-        writer.discard(self.rt)
+    fn probe(&self, name: &str) -> Result<(), (io::Error, Remains)> {
+        match SystemWriter::new(self.rt, name) {
+            Ok(writer) => writer.probe(),
+            Err(error) => Err((error, Remains::Unchanged)),
+        }
+    }
+
+    fn writer(&self, name: &str) -> io::Result<SystemWriter<'r, R>> {
+        SystemWriter::new(self.rt, name)
+    }
+
+    fn commit(&self, writer: SystemWriter<'r, R>) -> Result<(), (io::Error, Remains)> {
+        writer.commit()
+    }
+
+    fn discard(&self, writer: SystemWriter<'r, R>) -> Remains {
+        writer.discard()
     }
 }
 

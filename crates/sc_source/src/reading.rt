@@ -75,6 +75,29 @@ pub fn read_bytes<R: Read>(alloc: Global, reader: &mut R, room: usize) -> Result
     Err(FileFault::Unreadable(io::Error::from(ErrorKind::TimedOut)))
 }
 
+/// The first `most` bytes of a file, or all where there are fewer.
+pub fn read_beginning<R: Read>(
+    alloc: Global,
+    reader: &mut R,
+    most: usize,
+) -> Result<Vec<u8>, FileFault>
+    ensures ok { IfOk result (λ beginning. IfSome (R.remaining reader.old) (λ told. beginning.items ≡ take most told)) }
+    ensures fault { IfErr result IsReaderFault }
+{
+    let mut bytes = Vec::new(alloc);
+    for _ in 0..u64::MAX {
+        if bytes.len() >= most {
+            return Ok(bytes);
+        }
+        let more = most - bytes.len();
+        match read_block(reader, &mut bytes, more)? {
+            Progress::More => {}
+            Progress::End => return Ok(bytes),
+        }
+    }
+    Err(FileFault::Unreadable(io::Error::from(ErrorKind::TimedOut)))
+}
+
 /// How far a file is read.
 enum Progress {
     /// There may be more.

@@ -1,10 +1,11 @@
 //! Files that are written whole or not at all.
 //!
-//! What a file is to hold is written to a new one beside it, which takes its name at the end. A device or a pipe
-//! can't be replaced so: it is written to at once.
+//! What is to stand in a file is written to a new one beside it, which takes its name at the end. A device or a pipe can't
+//! be replaced so: it is written to at once. Nothing is opened before the first byte, so that a program that is ended on
+//! its way to that leaves nothing.
 
-use std::alloc::Global;
-use std::fs::{self, Metadata, OpenFile, OpenOptions};
+use libc::types::rlimit;
+use std::fs::{self, Metadata, OpenFile, OpenOptions, Permissions};
 use std::io::{self, ErrorKind, Write};
 use std::rt::Files;
 
@@ -22,84 +23,153 @@ pub enum Remains {
 /// How many names are tried for the new file.
 const NAMES: u32 = 100;
 
-/// Writes a file of the host.
+/// How many bytes are behind the name of the file in that of the new one, at most.
+const ENDING: usize = ".99.part".len();
+
+/// What `getrlimit` is asked for the most bytes of a file.
+const FILE_SIZE: i32 = 1;
+
+/// Writes a file of the host. All memory that this takes is taken when it is made.
 #[derive(Drop)]
-pub struct SystemWriter<F> {
-    file: F,
+pub struct SystemWriter<'r, R: Files> {
+    rt: &'r R,
+    name: String,
+    /// How the file is replaced, unless it is a device or a pipe.
     replacing: Option<Replacing>,
+    /// What is written to, from the first byte on.
+    file: Option<R::File>,
+    /// How many more bytes it takes.
+    room: u64,
 }
 
-/// The name of a new file, and the name that it takes.
+/// The name of the new file, which has room for each that is tried, and the permissions of the file that is replaced.
 #[derive(Drop)]
 struct Replacing {
     new: String,
-    name: String,
+    permissions: Option<Permissions>,
 }
 
-impl<F: Write> Write for SystemWriter<F> {
+impl<'r, R: Files> Write for SystemWriter<'r, R> {
+    /// Fails where the file can't be opened or made too. A file that may not be so large fails by `FileTooLarge`, for
+    /// which the system would end the program.
     fn write(&mut self, buf: &[u8]) -> io::Result<usize> {
-        self.file.write(buf)
+        if self.file.is_none() {
+            self.file = Some(self.begin()?);
+        }
+        let most = self.room.min(buf.len() as u64) as usize;
+        if most == 0 && !buf.is_empty() {
+            return Err(io::Error::from(ErrorKind::FileTooLarge));
+        }
+        let Some(file) = &mut self.file else {
+            return Ok(0);
+        };
+        let count = file.write(&buf[..most])?;
+        self.room -= count as u64;
+        Ok(count)
     }
 
     fn flush(&mut self) -> io::Result<()> {
-        self.file.flush()
+        match &mut self.file {
+            Some(file) => file.flush(),
+            None => Ok(()),
+        }
     }
 }
 
-impl<F: OpenFile + Drop> SystemWriter<F> {
-    /// Begins a file of this name. If there is one that can be replaced, it stays until `commit`.
+impl<'r, R: Files + AllocGlobal> SystemWriter<'r, R> {
+    /// A writer of the file of this name. Where there is one that can be replaced, it stays until `commit`.
     ///
-    /// # Errors It can't be opened to be written, no new file can be made beside it, or memory runs out.
-    pub fn open<R: Files<File = F> + AllocGlobal>(rt: &R, name: &str) -> io::Result<Self> {
+    /// # Errors
+    /// Where it is a folder or can't be opened to be written, and where memory runs out.
+    pub fn new(rt: &'r R, name: &str) -> io::Result<Self> {
         match fs::metadata(rt, name) {
-            Ok(metadata) if metadata.is_file() => Self::open_over(rt, name, metadata),
+            Ok(metadata) if metadata.is_file() => Self::over(rt, name, metadata),
+            Ok(metadata) if metadata.is_dir() => Err(io::Error::from(ErrorKind::IsADirectory)),
             Ok(_) => Ok(SystemWriter {
-                file: fs::create(rt, name)?,
+                rt,
+                name: String::from_str(rt.alloc(), name)?,
                 replacing: None,
+                file: None,
+                room: u64::MAX,
             }),
-            Err(error) if error.kind() == ErrorKind::NotFound => Self::open_beside(rt, name),
+            Err(error) if error.kind() == ErrorKind::NotFound => Self::beside(rt, name, None),
             Err(error) => Err(error),
         }
     }
 
-    /// Begins a file over one that exists: links stay, and so do its permissions.
-    fn open_over<R: Files<File = F> + AllocGlobal>(
-        rt: &R,
-        name: &str,
-        metadata: Metadata,
-    ) -> io::Result<Self> {
+    /// The same, of a file that is there: links stay, and so do its permissions.
+    fn over(rt: &'r R, name: &str, metadata: Metadata) -> io::Result<Self> {
         OpenOptions::new().write(true).open(rt, name)?;
         let path = fs::canonicalize(rt, name)?;
         let Some(path) = path.to_str() else {
             return Err(io::Error::from(ErrorKind::InvalidFilename));
         };
-        let writer = Self::open_beside(rt, path)?;
-        match writer.file.set_permissions(metadata.permissions()) {
-            Ok(()) => Ok(writer),
-            Err(error) => {
-                writer.discard(rt);
-                Err(error)
-            }
+        Self::beside(rt, path, Some(metadata.permissions()))
+    }
+
+    /// The same, by a new file beside that of the name.
+    fn beside(rt: &'r R, name: &str, permissions: Option<Permissions>) -> io::Result<Self> {
+        let mut new = String::from_str(rt.alloc(), name)?;
+        new.reserve(ENDING)?;
+        Ok(SystemWriter {
+            rt,
+            name: String::from_str(rt.alloc(), name)?,
+            replacing: Some(Replacing { new, permissions }),
+            file: None,
+            room: longest_file(),
+        })
+    }
+}
+
+impl<'r, R: Files> SystemWriter<'r, R> {
+    /// Opens or makes what is written to.
+    fn begin(&mut self) -> io::Result<R::File> {
+        match &mut self.replacing {
+            Some(replacing) => replacing.make(self.rt, self.name.as_str()),
+            None => fs::create(self.rt, self.name.as_str()),
         }
     }
 
-    /// A new file beside that of the name. The last that takes memory is to make it.
-    fn open_beside<R: Files<File = F> + AllocGlobal>(rt: &R, name: &str) -> io::Result<Self> {
-        let taken = String::from_str(rt.alloc(), name)?;
-        let (file, new) = create_part(rt, name)?;
-        Ok(SystemWriter {
-            file,
-            replacing: Some(Replacing { new, name: taken }),
-        })
+    /// Tries whether the file can be written, as far as that is seen without writing: whether a new one can be made beside it.
+    /// It is removed at once.
+    ///
+    /// # Errors
+    /// Where it can't be made or removed, and what is left then.
+    pub fn probe(mut self) -> Result<(), (io::Error, Remains)> {
+        if self.replacing.is_none() {
+            return Ok(());
+        }
+        if let Err(error) = self.begin() {
+            return Err((error, Remains::Unchanged));
+        }
+        let SystemWriter { rt, replacing, .. } = self;
+        let Some(Replacing { new, .. }) = replacing else {
+            return Ok(());
+        };
+        match fs::remove_file(rt, new.as_str()) {
+            Ok(()) => Ok(()),
+            Err(error) => Err((error, Remains::Beside(new))),
+        }
     }
 
     /// Puts what was written in the place of the file.
     ///
     /// # Errors
     /// Where the new file can't take the name: then it is as if nothing was written.
-    pub fn commit<R: Files>(self, rt: &R) -> Result<(), (io::Error, Remains)> {
-        let SystemWriter { file: _, replacing } = self;
-        let Some(Replacing { new, name }) = replacing else {
+    pub fn commit(mut self) -> Result<(), (io::Error, Remains)> {
+        if self.file.is_none() {
+            match self.begin() {
+                Ok(file) => self.file = Some(file),
+                Err(error) => return Err((error, Remains::Unchanged)),
+            }
+        }
+        let SystemWriter {
+            rt,
+            name,
+            replacing,
+            ..
+        } = self;
+        let Some(Replacing { new, .. }) = replacing else {
             return Ok(());
         };
         match fs::rename(rt, new.as_str(), name.as_str()) {
@@ -109,27 +179,50 @@ impl<F: OpenFile + Drop> SystemWriter<F> {
     }
 
     /// Gives up what was written, and answers what is left of it.
-    pub fn discard<R: Files>(self, rt: &R) -> Remains {
-        let SystemWriter { file: _, replacing } = self;
-        match replacing {
-            None => Remains::Beginning,
-            Some(Replacing { new, .. }) => remove(rt, new),
+    pub fn discard(self) -> Remains {
+        let SystemWriter {
+            rt,
+            replacing,
+            file,
+            ..
+        } = self;
+        match (replacing, file) {
+            (_, None) => Remains::Unchanged,
+            (None, Some(_)) => Remains::Beginning,
+            (Some(Replacing { new, .. }), Some(_)) => remove(rt, new),
         }
     }
 }
 
-/// A new file, with its name, beside that of the name.
-fn create_part<R: Files + AllocGlobal>(rt: &R, name: &str) -> io::Result<(R::File, String)> {
+impl Replacing {
+    /// Makes a new file beside that of the name, with the permissions of that.
+    fn make<R: Files>(&mut self, rt: &R, name: &str) -> io::Result<R::File> {
+        let file = create_part(rt, name, &mut self.new)?;
+        let Some(permissions) = self.permissions.take() else {
+            return Ok(file);
+        };
+        match file.set_permissions(permissions) {
+            Ok(()) => Ok(file),
+            Err(error) => {
+                let _ = fs::remove_file(rt, self.new.as_str());
+                Err(error)
+            }
+        }
+    }
+}
+
+/// A new file beside that of the name, and its own name in `new`.
+fn create_part<R: Files>(rt: &R, name: &str, new: &mut String) -> io::Result<R::File> {
     for number in 0..NAMES {
-        let new = format!(in rt.alloc(); "{name}.{number}.part")?;
+        new.clear();
+        write!(new, "{name}.{number}.part")?;
         match OpenOptions::new()
             .write(true)
             .create_new(true)
             .open(rt, new.as_str())
         {
-            Ok(file) => return Ok((file, new)),
             Err(error) if error.kind() == ErrorKind::AlreadyExists => {}
-            Err(error) => return Err(error),
+            made => return made,
         }
     }
     Err(io::Error::from(ErrorKind::AlreadyExists))
@@ -140,5 +233,18 @@ fn remove<R: Files>(rt: &R, new: String) -> Remains {
     match fs::remove_file(rt, new.as_str()) {
         Ok(()) => Remains::Unchanged,
         Err(_) => Remains::Beside(new),
+    }
+}
+
+/// How many bytes a file may have that this program writes.
+fn longest_file() -> u64 {
+    let mut limit = rlimit {
+        rlim_cur: u64::MAX,
+        rlim_max: u64::MAX,
+    };
+    if libc::getrlimit(FILE_SIZE, &mut limit) == 0 {
+        limit.rlim_cur
+    } else {
+        u64::MAX
     }
 }

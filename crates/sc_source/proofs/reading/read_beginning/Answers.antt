@@ -1,0 +1,18 @@
+use Rattle.std.proofs.Common.{rules, ◌≤◌, length}
+use Rattle.sc_source.proofs.JoiningLemmas.{beginning-taken, beginning-whole, whole-told}
+use Rattle.sc_source.proofs.reading.read_beginning.Goals as goal
+
+-- as many were given as are asked for
+pub returns-then-len-most-clause-ok : goal.returns-then-len-most-clause-ok
+returns-then-len-most-clause-ok g c =
+    let long : c.args.most ≤ length c.loop.bytes.items = search rules in
+    beginning-taken c.args.most _ _ c.loop.bytes.items c.loop.invariant.taken c.loop.invariant.within long
+
+-- or the file has no more
+pub returns-in-End-clause-ok : goal.returns-in-End-clause-ok
+returns-in-End-clause-ok g c =
+    let at_end = c.in_ok-read_block.ensures.end c.in-End.is in
+    let short : length c.read_block.new.bytes.items ≤ c.args.most = rw at_end.0 c.loop.invariant.within in
+    beginning-whole c.args.most _ c.read_block.new.bytes.items
+    (whole-told _ _ _ _ c.loop.bytes.items c.read_block.new.bytes.items c.loop.invariant.taken c.read_block.ensures.taken at_end.1)
+    short
