@@ -74,6 +74,7 @@ unread names held why (fault.CannotRead name reading) w good a u =
     }
 unread names held why fault.CannotWrite w good a u = u
 unread names held why (fault.CannotRecord name error remains) w good a u = u
+unread names held why (fault.NoRecord name) w good a u = u
 unread names held why fault.NoThread w good a u = u
 unread names held why fault.LogsDiffer w good a u = u
 unread names held why fault.NotText w good a u = u
@@ -137,6 +138,7 @@ unplayed_record name held now why (fault.Usage usage) is u = u
 unplayed_record name held now why (fault.NoCode word) is u = u
 unplayed_record name held now why fault.CannotWrite is u = u
 unplayed_record name held now why (fault.CannotRecord named error remains) is u = u
+unplayed_record name held now why (fault.NoRecord named) is u = u
 unplayed_record name held now why fault.NoThread is u = u
 unplayed_record name held now why fault.LogsDiffer is u = u
 unplayed_record name held now why fault.NotText is u = u

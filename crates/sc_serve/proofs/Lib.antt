@@ -1,3 +1,4 @@
 pub mod AnswerLemmas
+pub mod Headings
 pub mod SearchLemmas
 pub mod ServedLemmas

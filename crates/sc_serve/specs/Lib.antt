@@ -1,4 +1,5 @@
 pub mod Answer
 pub mod Refusal
+pub mod Replaced
 pub mod Search
 pub mod Served

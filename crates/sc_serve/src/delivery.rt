@@ -44,7 +44,7 @@ pub fn status_of(exit: Exit) -> u8
     exit as u8
 }
 
-/// Prints an answer, and writes its record to the file. The file is opened first, since only that takes memory.
+/// Prints an answer, and writes its record to the file. Memory is taken first, and the file is opened last.
 #[tactic(auto, using(crate::proofs::ServedLemmas::all_begins, crate::proofs::ServedLemmas::none_begins))]
 fn print_and_record<'a, F: Files, O: Write, E: Write>(
     answer: &Answer<'_>,

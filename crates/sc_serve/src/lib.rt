@@ -14,6 +14,7 @@ mod replaying;
 mod running;
 mod searching;
 pub mod serve;
+mod target;
 mod tracing;
 mod verdict;
 mod watching;

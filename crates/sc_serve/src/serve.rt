@@ -14,6 +14,7 @@ use crate::refusal::Refusal;
 use crate::replaying::answer_replay;
 use crate::running::answer_run;
 use crate::searching::answer_search;
+use crate::target::check_target;
 use sc_arguments::{Command, Format, Invocation, UsageFault, ask_for_help, read_arguments};
 use sc_audit::RecordLine;
 use sc_class::Root;
@@ -103,6 +104,8 @@ pub enum Fault<'a> {
     CannotWrite,
     /// A file that the record can't be written to, why, and what it is left with, if it was opened.
     CannotRecord(&'a str, io::Error, Option<Remains>),
+    /// A file that the record isn't written to: it is there and is none, or one of the files that are read.
+    NoRecord(&'a str),
     /// A thread is refused.
     NoThread,
     /// The threads of a run have logs that differ, which never comes.
@@ -122,9 +125,9 @@ impl<'a> From<AllocError> for Fault<'a> {
 
 /// Does what `arguments` ask for, the program's name first, and returns the status that the program ends with. The
 /// answer is written to `out`, and the reason for having none to `err`. The record of a run goes to its file after
-/// that. If `err` is a terminal, a search shows there how far it is, and so does a run of a second or more, and
-/// answers are explained there unless an argument says otherwise. Turns that are to be reported as they are made are
-/// reported there.
+/// that; whether the file may be written is looked at before anything is done. If `err` is a terminal, a search shows
+/// there how far it is, and so does a run of a second or more, and answers are explained there unless an argument says
+/// otherwise. Turns that are to be reported as they are made are reported there.
 ///
 /// With any status but 2 and 5 all of the answer is written. With these a beginning of it is, and nothing if there is
 /// none.
@@ -167,6 +170,10 @@ fn say<E: Write>(fault: &Fault<'_>, err: &mut E) -> io::Result<()> {
         Fault::NoCode(word) => writeln!(err, "no code {word}\n`scoop explain` lists the codes"),
         Fault::CannotRead(name, fault) => say_unread(name, fault, err),
         Fault::CannotRecord(name, error, remains) => say_unwritten(name, error, remains, err),
+        Fault::NoRecord(name) => writeln!(
+            err,
+            "{name} is there and is no record: name another file"
+        ),
         _ => writeln!(err, "{}", words_of(fault)),
     }?;
     err.flush()
@@ -246,6 +253,7 @@ fn why_unwritten(kind: ErrorKind) -> &'static str {
         ErrorKind::IsADirectory => "it is a folder",
         ErrorKind::PermissionDenied => "there is no right to write it",
         ErrorKind::StorageFull => "there is no room for it",
+        ErrorKind::FileTooLarge => "it would be larger than a file may be",
         _ => "",
     }
 }
@@ -296,6 +304,7 @@ fn answer_to<'a, R: Threads + Wait + Clock + Sync, F: Files, W: Watch + Tell>(
 ) -> Result<Answer<'a>, Fault<'a>>
     ensures { IfOk result (Answers (F.bytes_of files.now) invocation.now) }
 {
+    check_target(alloc, files, invocation)?;
     let answer = answer_unformatted(rt, alloc, invocation, files, watch)?;
     formatted(alloc, format_asked(invocation), answer)
 }
