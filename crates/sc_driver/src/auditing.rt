@@ -24,7 +24,8 @@ pub enum AuditFault {
 /// Whether one thread that plays the record of what a run of the program left ends in just that: objects, frames,
 /// queues, rights, counts, outputs and each handler's status. The logs aren't compared.
 ///
-/// # Errors [`AuditFault::BadRecord`] if the lines are no record's, else [`AuditFault::OutOfMemory`] if memory ran
+/// # Errors
+/// [`AuditFault::BadRecord`] if the lines are no record's, else [`AuditFault::OutOfMemory`] if memory ran
 /// out, else [`AuditFault::Differs`] if something differs.
 pub fn audit(alloc: Global, program: &Program, left: &Left<'_>) -> Result<(), AuditFault>
     ensures yes { OnOk result (IsAudited program.now.image left.now) }

@@ -13,7 +13,8 @@ use std::alloc::{AllocError, Global};
 
 /// The world of a program after the turns of these lines.
 ///
-/// # Errors Memory ran out.
+/// # Errors
+/// Memory ran out.
 pub fn play<'p>(
     alloc: Global,
     program: &'p Program,

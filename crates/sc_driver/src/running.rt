@@ -38,7 +38,8 @@ impl Gate for Ungated {
 /// Runs a program by this number of threads, the calling one among them, within bounds, with at most 512 handlers.
 /// The watch looks at it on its way.
 ///
-/// # Errors U1 if memory is refused, U2 if a thread is, and U3 if the logs of the threads differ, which never
+/// # Errors
+/// U1 if memory is refused, U2 if a thread is, and U3 if the logs of the threads differ, which never
 /// happens. With one worker it is always U1.
 pub fn run_program<'p, R: Threads + Wait + Sync, W: Watch>(
     rt: &R,

@@ -35,7 +35,8 @@ pub struct Tracer<'r> {
 impl<'r> Tracer<'r> {
     /// At the opening of the program of a source text, with the version's limit on handlers.
     ///
-    /// # Errors Memory ran out.
+    /// # Errors
+    /// Memory ran out.
     pub fn open(
         alloc: Global,
         source: &'r Source,
@@ -61,7 +62,8 @@ impl<'r> Tracer<'r> {
     /// Makes the turns of a line of the record, and returns their description. A turn of a handler that has no job is
     /// none.
     ///
-    /// # Errors Memory ran out.
+    /// # Errors
+    /// Memory ran out.
     pub fn play(&mut self, line: RecordLine) -> Result<Vec<u8>, AllocError> {
         let mut lines = Lines::new(self.origin.alloc);
         for _turn in 0..line.turns {

@@ -39,7 +39,8 @@ use std::sync::Wait;
 /// Plays the handlers of a program on the calling thread, until the run is over. Returns what it leaves, and the
 /// number of turns that ended it at most.
 ///
-/// # Errors U1 if memory is refused, with what is left then, unless the run hadn't begun.
+/// # Errors
+/// U1 if memory is refused, with what is left then, unless the run hadn't begun.
 pub fn run_alone<'p, R: Wait, G: Gate, W: Watch>(
     rt: &R,
     alloc: Global,
@@ -266,7 +267,8 @@ fn cut_short(left: &mut Left<'_>, bounds: Bounds) -> Option<u32>
 /// Lets the next handler with a job play at most this number of its turns, which are settled and recorded. Returns
 /// how many it made: none if no handler has a job, if none may be made, or if the record is full.
 ///
-/// # Errors Memory is refused, perhaps after turns that are made and settled.
+/// # Errors
+/// Memory is refused, perhaps after turns that are made and settled.
 fn play_next<G: Gate>(
     left: &mut Left<'_>,
     limit: u32,
@@ -298,7 +300,8 @@ fn play_next<G: Gate>(
 
 /// Picks the next handler with a job, with room to settle and to record it. None if no handler has a job.
 ///
-/// # Errors Memory ran out. Then no handler goes out.
+/// # Errors
+/// Memory ran out. Then no handler goes out.
 fn pick_with_room(
     core: &mut Core,
     lines: &mut Vec<RecordLine>,
@@ -321,7 +324,8 @@ fn pick_with_room(
 /// Plays at most this number of turns of the job of a handler that is out, with calls of the gate before and after.
 /// They are settled and recorded. Returns how many it made.
 ///
-/// # Errors Memory is refused: to the first turn, and the handler is put back; or after turns that are settled and
+/// # Errors
+/// Memory is refused: to the first turn, and the handler is put back; or after turns that are settled and
 /// recorded.
 fn play_picked<G: Gate>(
     core: &mut Core,

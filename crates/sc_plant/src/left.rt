@@ -45,7 +45,8 @@ pub enum RunFault<'p> {
 impl<'p> Left<'p> {
     /// Each handler's line and output, and how the run has ended.
     ///
-    /// # Errors Memory ran out.
+    /// # Errors
+    /// Memory ran out.
     pub fn report(&self, alloc: Global) -> Result<Vec<u8>, AllocError>
         ensures { IfOk result (λ report. report.items ≡ told.report (world_of self.now)) }
     {

@@ -38,7 +38,8 @@ const TURNS_BETWEEN_OUTPUTS: u32 = 4_096;
 /// Each handler is played by one thread at a time, under the lock of its region, with calls of the gate there. What
 /// is left is what one thread leaves that makes the turns of the record's lines, one after the other.
 ///
-/// # Errors U1 if memory is refused, with what is left then, unless the run hadn't begun; U2 if a thread is refused;
+/// # Errors
+/// U1 if memory is refused, with what is left then, unless the run hadn't begun; U2 if a thread is refused;
 /// and U3 if a region played other jobs than were settled, which the workers never cause. With one worker it is
 /// always U1. All threads have ended then, too.
 pub fn run<'p, R: Threads + Wait + Sync, G: Gate>(
@@ -68,7 +69,8 @@ pub fn run<'p, R: Threads + Wait + Sync, G: Gate>(
 /// the number of turns that ended the run at most, which is below the bound if the handlers have printed more than
 /// they may.
 ///
-/// # Errors Those of a run without a watch.
+/// # Errors
+/// Those of a run without a watch.
 pub fn run_watched<'p, R: Threads + Wait + Sync, G: Gate, W: Watch>(
     rt: &R,
     alloc: Global,

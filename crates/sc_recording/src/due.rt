@@ -67,7 +67,8 @@ pub fn settle_out(core: &mut Core, handler: HandlerNumber, turns: u32, want: &Wa
 ///
 /// There is room then to settle it, beside all that are out.
 ///
-/// # Errors Memory ran out. Then no handler goes out.
+/// # Errors
+/// Memory ran out. Then no handler goes out.
 pub fn pick_due(core: &mut Core, place: &mut Job) -> Result<Option<HandlerNumber>, AllocError>
     requires none { GrantsNone (center_of core.old) }
     requires version { core.old.state.rights.version ≡ Two }

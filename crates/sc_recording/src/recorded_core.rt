@@ -48,7 +48,8 @@ impl<P: OfProgram> RecordedCore<P> {
     ///
     /// There is room then to settle and to record it, and all that are out.
     ///
-    /// # Errors Memory ran out. Then no handler goes out.
+    /// # Errors
+    /// Memory ran out. Then no handler goes out.
     pub fn pick(&mut self, place: &mut Job) -> Result<Option<HandlerNumber>, AllocError> {
         let wanted = self.core.out_count().saturating_add(1);
         self.lines.reserve(wanted)?;

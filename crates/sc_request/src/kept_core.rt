@@ -38,7 +38,8 @@ impl Core {
 
     /// The state of the core, to be kept. The core is consumed.
     ///
-    /// # Errors Memory ran out. The core is gone then, too.
+    /// # Errors
+    /// Memory ran out. The core is gone then, too.
     #[tactic(auto, using(crate::proofs::KeptCores::same_states))]
     pub fn keep(self, alloc: Global) -> Result<KeptCore, AllocError>
         ensures { IfOk result (λ core. kept_of core ≡ state_of self) }

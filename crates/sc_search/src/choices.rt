@@ -13,7 +13,8 @@ use std::alloc::{AllocError, Global};
 /// Plays choices in every order, and movers after each, as long as at most this number of states are kept. Returns
 /// why it stopped before all was played.
 ///
-/// # Errors Memory ran out.
+/// # Errors
+/// Memory ran out.
 pub(crate) fn play_choices<'p, W: Watch>(
     subject: Subject<'p>,
     progress: &mut Progress<'p>,
@@ -74,7 +75,8 @@ fn choose<'p>(
 
 /// The handlers that have a job after these turns.
 ///
-/// # Errors Memory ran out.
+/// # Errors
+/// Memory ran out.
 fn choices_after(
     subject: Subject<'_>,
     turns: &[HandlerNumber],

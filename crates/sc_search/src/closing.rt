@@ -16,7 +16,8 @@ use std::alloc::AllocError;
 /// Plays each turn of each state, as long as at most this number of states are kept. Returns why it stopped before
 /// all was played.
 ///
-/// # Errors Memory ran out.
+/// # Errors
+/// Memory ran out.
 pub(crate) fn play_all<'p, W: Watch>(
     subject: Subject<'p>,
     progress: &mut Progress<'p>,

@@ -22,7 +22,8 @@ pub(crate) struct FoundEnd {
 
 /// Adds the outcome of these turns, which led to the world, unless another one has an equal report.
 ///
-/// # Errors Memory ran out.
+/// # Errors
+/// Memory ran out.
 pub(crate) fn push_outcome(
     alloc: Global,
     outcomes: &mut Vec<FoundEnd>,
@@ -43,7 +44,8 @@ pub(crate) fn push_outcome(
 
 /// The ends that these outcomes are, each played once more.
 ///
-/// # Errors Memory ran out.
+/// # Errors
+/// Memory ran out.
 pub(crate) fn ends_after(
     subject: Subject<'_>,
     outcomes: &[FoundEnd],

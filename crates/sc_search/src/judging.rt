@@ -54,7 +54,8 @@ pub(crate) fn tells_failure(aim: Aim, statuses: &[Status]) -> bool
 
 /// Whether one of the handlers of the world has a status of this kind.
 ///
-/// # Errors Memory ran out.
+/// # Errors
+/// Memory ran out.
 pub(crate) fn some_is_in(kind: Kind, world: &World<'_>) -> Result<bool, AllocError>
     ensures { IfOk result (λ some. some ≡ some_is kind (statuses (world_of world.now))) }
 {

@@ -23,7 +23,8 @@ struct Visit {
 /// How long orders are, if this number of turns leads to the first state, and these are all edges between this number
 /// of states, in the order of the states that they lead from.
 ///
-/// # Errors Memory ran out.
+/// # Errors
+/// Memory ran out.
 pub(crate) fn length_of(
     alloc: Global,
     first: u32,

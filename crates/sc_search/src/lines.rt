@@ -8,7 +8,8 @@ use std::alloc::{AllocError, Global};
 
 /// The lines of these turns. Turns of one handler in a row are one line.
 ///
-/// # Errors Memory ran out.
+/// # Errors
+/// Memory ran out.
 pub(crate) fn lines_of(
     alloc: Global,
     turns: &[HandlerNumber],

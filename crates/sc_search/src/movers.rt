@@ -57,7 +57,8 @@ enum Moved {
 
 /// Plays movers after these turns until none is left, and adds their turns.
 ///
-/// # Errors Memory ran out.
+/// # Errors
+/// Memory ran out.
 pub(crate) fn play_movers<'p>(
     subject: Subject<'p>,
     turns: &mut Vec<HandlerNumber>,

@@ -55,7 +55,8 @@ impl<'p> Progress<'p> {
 
     /// Progress with nothing searched yet.
     ///
-    /// # Errors Memory ran out.
+    /// # Errors
+    /// Memory ran out.
     pub(crate) fn new(subject: Subject<'p>) -> Result<Progress<'p>, AllocError>
         ensures none { IfOk result (λ progress. states_of progress ≡ []) }
         ensures reached { IfOk result (HasReached subject.entry.program.now.image subject.entry.version subject.entry.aim) }
@@ -71,7 +72,8 @@ impl<'p> Progress<'p> {
     /// Keeps the state of the world to which the way leads, unless it was met before. A long way counts as several
     /// states, in proportion to its turns.
     ///
-    /// # Errors Memory ran out.
+    /// # Errors
+    /// Memory ran out.
     pub(crate) fn keep(
         &mut self,
         subject: Subject<'p>,

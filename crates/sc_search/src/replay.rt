@@ -29,7 +29,8 @@ pub(crate) struct Subject<'p> {
 
 /// The world after these turns, from the opening on.
 ///
-/// # Errors Memory ran out.
+/// # Errors
+/// Memory ran out.
 pub(crate) fn world_after<'p>(
     subject: Subject<'p>,
     turns: &[HandlerNumber],
@@ -56,7 +57,8 @@ fn world_after_lines<'p>(
 
 /// The finding of these turns, if they meet what is looked for. The order that is reported ends there.
 ///
-/// # Errors Memory ran out.
+/// # Errors
+/// Memory ran out.
 pub(crate) fn finding_after(
     subject: Subject<'_>,
     turns: &[HandlerNumber],

@@ -26,7 +26,8 @@ use std::alloc::{AllocError, Global};
 /// First, orders that differ only in turns that touch nothing of others are played once. If nothing is found so, all
 /// are played.
 ///
-/// # Errors Memory ran out.
+/// # Errors
+/// Memory ran out.
 pub fn search<W: Watch>(
     alloc: Global,
     program: &Program,

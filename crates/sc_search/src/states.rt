@@ -36,7 +36,8 @@ impl<'p> States<'p> {
 
     /// No states.
     ///
-    /// # Errors Memory ran out.
+    /// # Errors
+    /// Memory ran out.
     pub(crate) fn new(alloc: Global) -> Result<States<'p>, AllocError>
         ensures states { IfOk result (λ states. states_in states ≡ []) }
         ensures orders { IfOk result (λ states. orders_in states ≡ []) }
@@ -98,7 +99,8 @@ impl<'p> States<'p> {
 
     /// Keeps the state that the world is in, to which these turns led from the opening.
     ///
-    /// # Errors Memory ran out.
+    /// # Errors
+    /// Memory ran out.
     pub(crate) fn push(
         &mut self,
         world: World<'p>,
@@ -121,7 +123,8 @@ impl<'p> States<'p> {
 
     /// The turns that led to the state with the number, from the opening on.
     ///
-    /// # Errors Memory ran out.
+    /// # Errors
+    /// Memory ran out.
     pub(crate) fn order(&self, number: u32) -> Result<Vec<HandlerNumber>, AllocError>
         ensures { IfOk result (λ turns. (order : List ℕ) → slice_get (orders_in self.now) number ≡ Some order → turns.items ≡ order) }
     {

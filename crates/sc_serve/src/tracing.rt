@@ -65,7 +65,8 @@ impl<'w, 'r, T: Tell> Tracing<'w, 'r, T> {
 
     /// Reports the lines of a whole record.
     ///
-    /// # Errors Memory was refused to what was to be reported.
+    /// # Errors
+    /// Memory was refused to what was to be reported.
     pub fn follow_all(&mut self, lines: &[RecordLine]) -> Result<(), AllocError> {
         self.follow(lines);
         if self.is_lacking {

@@ -72,7 +72,8 @@ impl<'p> LoggedRegion<'p> {
     /// made. If memory is refused to one of these, they end before it. The log then has one more entry, with the job
     /// and its outcome.
     ///
-    /// # Errors Memory ran out for the log, and nothing has changed; or for the first turn: the log is as it was, and
+    /// # Errors
+    /// Memory ran out for the log, and nothing has changed; or for the first turn: the log is as it was, and
     /// the job can be played again and goes on where it stopped.
     pub fn play(&mut self, job: &Job, limit: u32) -> Result<Outcome, AllocError>
         requires { 1 ≤ limit }

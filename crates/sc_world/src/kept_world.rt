@@ -25,7 +25,8 @@ impl<'p> World<'p> {
 
     /// What the world holds, to be kept. The world is consumed.
     ///
-    /// # Errors Memory ran out. The world is gone then, too.
+    /// # Errors
+    /// Memory ran out. The world is gone then, too.
     pub fn keep(self) -> Result<KeptWorld<'p>, AllocError>
         ensures { IfOk result (λ world. kept_of world ≡ kept (world_of self.entry)) }
     {

@@ -62,7 +62,8 @@ impl<'p> World<'p> {
     /// The world of a program at its opening, with the version's limit on handlers. Further memory comes from this
     /// allocator.
     ///
-    /// # Errors Memory ran out.
+    /// # Errors
+    /// Memory ran out.
     pub fn open(
         alloc: Global,
         program: &'p Program,
@@ -79,7 +80,8 @@ impl<'p> World<'p> {
 
     /// Makes the turn of one handler: its silent steps, up to and with the next visible one.
     ///
-    /// # Errors Memory ran out. Then nothing has changed, but that silent steps of the turn may be made: the turn is
+    /// # Errors
+    /// Memory ran out. Then nothing has changed, but that silent steps of the turn may be made: the turn is
     /// still to be made, and the machine is in the same state.
     pub fn turn(&mut self, handler: HandlerNumber) -> Result<Turned, AllocError>
         ensures ok { OnOk result (IsTurn handler (world_of self.old) (world_of self.new)) }
@@ -98,7 +100,8 @@ impl<'p> World<'p> {
 
     /// Makes the turns of the handlers, one after the other.
     ///
-    /// # Errors Memory ran out. The world is then the one after the turns before, but that silent steps of the next
+    /// # Errors
+    /// Memory ran out. The world is then the one after the turns before, but that silent steps of the next
     /// may be made.
     pub fn turns(&mut self, handlers: &[HandlerNumber]) -> Result<(), AllocError>
         ensures ok { OnOk result (Runs handlers.now (world_of self.old) (world_of self.new)) }
@@ -126,7 +129,8 @@ impl<'p> World<'p> {
     /// Makes this number of turns of one handler. Once it has no job, the others would change nothing, and are left
     /// out.
     ///
-    /// # Errors Memory ran out. The world is then the one after the turns before, but that silent steps of the next
+    /// # Errors
+    /// Memory ran out. The world is then the one after the turns before, but that silent steps of the next
     /// may be made.
     pub fn turns_of(&mut self, handler: HandlerNumber, count: u32) -> Result<(), AllocError>
         ensures ok { OnOk result (Runs (replicate count handler) (world_of self.old) (world_of self.new)) }
@@ -150,7 +154,8 @@ impl<'p> World<'p> {
     /// Plays at most this number of turns of a handler under its job, and settles them as one. Returns how many: none
     /// if it has no job, and fewer if one wants something.
     ///
-    /// # Errors Memory is refused to one of them, perhaps after others.
+    /// # Errors
+    /// Memory is refused to one of them, perhaps after others.
     fn turns_under_job(&mut self, handler: HandlerNumber, limit: u32) -> Result<u32, AllocError>
         requires { 1 ≤ limit }
         ensures ok { IfOk result (λ turns. TurnsUnderJob limit handler turns (world_of self.old) (world_of self.new)) }
@@ -172,7 +177,8 @@ impl<'p> World<'p> {
     /// Makes a turn of each handler, in order of number and round and round, until none has a job or this number of
     /// turns are made. It begins after the handler that made the last turn.
     ///
-    /// # Errors Memory ran out. The world is then the one after the turns before, also if several are made at once,
+    /// # Errors
+    /// Memory ran out. The world is then the one after the turns before, also if several are made at once,
     /// but that silent steps of the next may be made.
     pub fn rounds(&mut self, limit: u32) -> Result<(), AllocError>
         ensures ok { OnOk result (EndsRounds limit (world_of self.old) (world_of self.new)) }
@@ -230,7 +236,8 @@ impl<'p> World<'p> {
 
     /// The status of each handler, in order of number.
     ///
-    /// # Errors Memory ran out.
+    /// # Errors
+    /// Memory ran out.
     pub fn statuses(&self) -> Result<Vec<Status>, AllocError>
         ensures { IfOk result (λ statuses. statuses.items ≡ told.statuses (world_of self.now)) }
     {
@@ -273,7 +280,8 @@ impl<'p> World<'p> {
 
     /// Each handler's line and output, and how the run has ended.
     ///
-    /// # Errors Memory ran out.
+    /// # Errors
+    /// Memory ran out.
     pub fn report(&self) -> Result<Vec<u8>, AllocError>
         ensures { IfOk result (λ report. report.items ≡ told.report (world_of self.now)) }
     {
