@@ -4,7 +4,6 @@
 //! be replaced so: it is written to at once. Nothing is opened before the first byte, so that a program that is ended on
 //! its way to that leaves nothing.
 
-use libc::types::rlimit;
 use std::fs::{self, Metadata, OpenFile, OpenOptions, Permissions};
 use std::io::{self, ErrorKind, Write};
 use std::rt::Files;
@@ -26,8 +25,10 @@ const NAMES: u32 = 100;
 /// How many bytes are behind the name of the file in that of the new one, at most.
 const ENDING: usize = ".99.part".len();
 
-/// What `getrlimit` is asked for the most bytes of a file.
-const FILE_SIZE: i32 = 1;
+/// The file in which the system lists the limits of this program, a line each, and how the line of the largest file begins.
+const LIMITS: &str = "/proc/self/limits";
+
+const FILE_SIZE: &str = "Max file size";
 
 /// Writes a file of the host. All memory that this takes is taken when it is made.
 #[derive(Drop)]
@@ -116,7 +117,7 @@ impl<'r, R: Files + AllocGlobal> SystemWriter<'r, R> {
             name: String::from_str(rt.alloc(), name)?,
             replacing: Some(Replacing { new, permissions }),
             file: None,
-            room: longest_file(),
+            room: longest_file(rt)?,
         })
     }
 }
@@ -236,15 +237,22 @@ fn remove<R: Files>(rt: &R, new: String) -> Remains {
     }
 }
 
-/// How many bytes a file may have that this program writes.
-fn longest_file() -> u64 {
-    let mut limit = rlimit {
-        rlim_cur: u64::MAX,
-        rlim_max: u64::MAX,
-    };
-    if libc::getrlimit(FILE_SIZE, &mut limit) == 0 {
-        limit.rlim_cur
-    } else {
-        u64::MAX
+/// How many bytes a file may have that this program writes, if the system lists that; else as many as it likes.
+fn longest_file<R: Files + AllocGlobal>(rt: &R) -> io::Result<u64> {
+    match fs::read_to_string(rt, LIMITS) {
+        Ok(limits) => Ok(file_size_in(limits.as_str())),
+        Err(error) if error.kind() == ErrorKind::OutOfMemory => Err(error),
+        Err(_) => Ok(u64::MAX),
     }
+}
+
+/// The limit of a file's size in a list of limits; none is the largest number.
+fn file_size_in(limits: &str) -> u64 {
+    for line in limits.lines() {
+        if let Some(values) = line.strip_prefix(FILE_SIZE) {
+            let soft = values.split_ascii_whitespace().next().unwrap_or("");
+            return soft.parse::<u64>().unwrap_or(u64::MAX);
+        }
+    }
+    u64::MAX
 }

@@ -7,15 +7,15 @@
 use sc_serve::serve::{self, Fault};
 use sc_source::files::SystemFiles;
 use sc_source::reading::FileFault;
-use std::fs::{File, OpenOptions};
+use std::fs::{self, File, OpenOptions};
 use std::io::{self, ErrorKind, IsTerminal};
 use std::process::ExitCode;
 
 /// A file that is always empty and takes anything.
 const NOTHING: &str = "/dev/null";
 
-/// What `fpathconf` is asked for the most links of a file, which it answers of each that is open.
-const MOST_LINKS: i32 = 0;
+/// The folder in which the system lists the open files of this program, each under its number.
+const OPEN_FILES: &str = "/proc/self/fd";
 
 fn main(rt: HostRuntime) -> ExitCode {
     let files = SystemFiles::new(&rt);
@@ -44,22 +44,30 @@ fn begin(rt: &HostRuntime) -> Result<(Vec<String>, [Option<File>; 3]), Fault<'st
     }
 }
 
-/// Opens a file in place of each of standard input, output and error that is closed, in this order, so that no file that is
-/// opened later gets its number.
+/// Opens a file in place of each of standard input, output and error that is closed, in this order, so that no file that
+/// is opened later gets its number. If the system doesn't list open files, none counts as closed.
 ///
 /// # Errors
-/// Where one is closed, and none can be opened in its place.
+/// One is closed, and none can be opened in its place; or memory runs out.
 fn fill_closed(rt: &HostRuntime) -> io::Result<[Option<File>; 3]> {
-    Ok([fill(rt, 0)?, fill(rt, 1)?, fill(rt, 2)?])
+    if fs::metadata(rt, OPEN_FILES).is_err() {
+        return Ok([None, None, None]);
+    }
+    Ok([
+        fill(rt, "/proc/self/fd/0", true)?,
+        fill(rt, "/proc/self/fd/1", false)?,
+        fill(rt, "/proc/self/fd/2", false)?,
+    ])
 }
 
-/// Opens a file in place of this one, if that is closed; those of lower numbers are open. As before it can't be read, if it
-/// is standard input, and can't be written otherwise.
-fn fill(rt: &HostRuntime, number: i32) -> io::Result<Option<File>> {
-    if libc::fpathconf(number, MOST_LINKS) != -1 {
-        return Ok(None);
+/// Opens a file in place of this one, if that is closed; those of lower numbers are open. As before it can't be read, if
+/// it is standard input, and can't be written otherwise.
+fn fill(rt: &HostRuntime, listed: &str, is_input: bool) -> io::Result<Option<File>> {
+    match fs::metadata(rt, listed) {
+        Err(error) if error.kind() == ErrorKind::NotFound => {}
+        Err(error) if error.kind() == ErrorKind::OutOfMemory => return Err(error),
+        _ => return Ok(None),
     }
-    let is_input = number == 0;
     let file = OpenOptions::new()
         .read(!is_input)
         .write(is_input)
