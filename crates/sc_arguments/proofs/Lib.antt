@@ -1,2 +1,5 @@
 pub mod AskedLemmas
+pub mod GivenLemmas
+pub mod OptionLemmas
 pub mod RootLemmas
+pub mod Rows

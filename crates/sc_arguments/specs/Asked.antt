@@ -1,66 +1,100 @@
 -- What arguments ask for.
-use Rattle.std.specs.Prelude.{ℕ, ◌≡◌, ◌==◌, ◌||◌, Bool, true, false, List, [], ◌∷◌, codes, if◌then◌else◌, map, slice_get}
+use Rattle.std.specs.Prelude.{ℕ, ◌≡◌, ◌==◌, ◌||◌, Bool, true, false, List, [], ◌∷◌, Option, Some, None, codes, if◌then◌else◌, map, slice_get, string_bytes}
 use Rattle.std.specs.Borrow.{Bor}
-use Rattle.std.specs.List.{list_any}
 use Rattle.std.specs.Option.{option_map}
 use Rattle.std.specs.Str.{bytes_eq}
+use Rattle.sc_class.specs.declared.root.Root.{Root}
+use Rattle.sc_arguments.specs.RootOption.{NamesRoot}
+use Rattle.sc_arguments.specs.Words.{Writes, given_in, has_option, value_of, value_or}
+use Rattle.sc_arguments.specs.declared.arguments.CheckOptions.{CheckOptions}
 use Rattle.sc_arguments.specs.declared.arguments.Command.TheVariants as command
 use Rattle.sc_arguments.specs.declared.arguments.Invocation.{Invocation}
 use Rattle.sc_arguments.specs.declared.arguments.Invocation.TheVariants as invocation
+use Rattle.sc_arguments.specs.declared.arguments.ReplayOptions.{ReplayOptions}
+use Rattle.sc_arguments.specs.declared.arguments.RunOptions.{RunOptions}
+use Rattle.sc_arguments.specs.declared.arguments.format.Format.{Format}
+use Rattle.sc_arguments.specs.declared.arguments.format.Format.TheVariants.{Json, Text}
+use Rattle.sc_arguments.specs.declared.arguments.searching.SearchOptions.{SearchOptions}
+use Rattle.sc_arguments.specs.declared.arguments.searching.Sought.{Sought}
+use Rattle.sc_arguments.specs.declared.arguments.searching.Sought.TheVariants.{Any, Fails, Stuck}
 
--- ---- words behind a command
+-- ---- what options say
 
--- there are no options behind the word
-abbrev pub ends_options : List ℕ → Bool
-ends_options word = bytes_eq word (codes "--")
+-- the format that a word names
+abbrev pub format_named : List ℕ → Format
+format_named word = if bytes_eq word (codes "json") then Json else Text
 
--- the word is an option whose value is the next word
-abbrev pub has_value : List ℕ → Bool
-has_value word =
-    bytes_eq word (codes "--root") || (bytes_eq word (codes "--workers") || (bytes_eq word (codes "--turns")
-    || (bytes_eq word (codes "--output-limit") || (bytes_eq word (codes "--record") || (bytes_eq word (codes "--format")
-    || (bytes_eq word (codes "--for") || bytes_eq word (codes "--states")))))))
+-- what is looked for, named by a word
+abbrev pub sought_named : List ℕ → Sought
+sought_named word =
+    if bytes_eq word (codes "stuck") then Stuck else if bytes_eq word (codes "fails") then Fails else Any
 
--- The word is an option: it begins with `-`, which alone is a file.
-abbrev pub is_option : List ℕ → Bool
-is_option [] = false
-is_option (c ∷ []) = false
-is_option (c ∷ d ∷ cs) = c == 45
+-- The root is the one that `--root` names, or else `APPLICATION.make`.
+abbrev pub IsRootIn : List (List ℕ) → Root → Type 0
+IsRootIn words root =
+    NamesRoot (value_or (codes "--root") (codes "APPLICATION.make") words)
+    (string_bytes root.class) (string_bytes root.procedure)
 
--- What is given to a command by the words behind it: all but options and their values; behind `--`, all. Of the first
--- it is said whether it is the value of the option before it.
-abbrev pub given_in : Bool → List (List ℕ) → List (List ℕ)
-given_in is_value [] = []
-given_in true (word ∷ words) = given_in false words
-given_in false (word ∷ words) =
-    if ends_options word then words
-    else if has_value word then given_in true words
-    else if is_option word then given_in false words
-    else word ∷ given_in false words
+-- the format that `--format` names, or else that of lines
+abbrev pub format_in : List (List ℕ) → Format
+format_in words = format_named (value_or (codes "--format") (codes "text") words)
+
+-- The most bytes are those that the value of an option writes; there is no such number if it isn't used.
+abbrev pub IsLimitBy : Option (List ℕ) → Option ℕ → Type 0
+IsLimitBy None limit = limit ≡ None
+IsLimitBy (Some text) limit = (n : ℕ) × (limit ≡ Some n) × Writes text n
+
+-- ---- what commands take
+
+pub record AreCheckOptions (words : List (List ℕ)) (options : CheckOptions) : Type 0 where
+  pub root : IsRootIn words options.root
+  pub format : options.format ≡ format_in words
+
+pub record AreRunOptions (words : List (List ℕ)) (options : RunOptions) : Type 0 where
+  pub root : IsRootIn words options.root
+  pub format : options.format ≡ format_in words
+  pub workers : Writes (value_or (codes "--workers") (codes "1") words) options.workers
+  pub turns : Writes (value_or (codes "--turns") (codes "1000000") words) options.turns
+  pub output_limit : IsLimitBy (value_of (codes "--output-limit") words) options.output_limit
+  pub record_name : option_map (λ name. name.now) options.record ≡ value_of (codes "--record") words
+  pub is_audited : options.is_audited ≡ has_option (codes "--audit") words
+
+pub record AreReplayOptions (words : List (List ℕ)) (options : ReplayOptions) : Type 0 where
+  pub root : IsRootIn words options.root
+  pub format : options.format ≡ format_in words
+
+pub record AreSearchOptions (words : List (List ℕ)) (options : SearchOptions) : Type 0 where
+  pub root : IsRootIn words options.root
+  pub format : options.format ≡ format_in words
+  pub sought : options.sought ≡ sought_named (value_or (codes "--for") (codes "any") words)
+  pub states : Writes (value_or (codes "--states") (codes "25000") words) options.states
+  pub record_name : option_map (λ name. name.now) options.record ≡ value_of (codes "--record") words
+  pub lists_outcomes : options.lists_outcomes ≡ has_option (codes "--outcomes") words
 
 -- ---- what they ask for
 
 abbrev pub texts_of : List (Bor (List ℕ)) → List (List ℕ)
 texts_of names = map (λ name. name.now) names
 
--- It is what a command of this name asks for to which these texts are given: files; a record and files; or a code or a
--- name.
-abbrev pub IsAskedOf : List ℕ → List (List ℕ) → Invocation → Type 0
-IsAskedOf name given (invocation.OnFiles (command.Check options) names) =
-    (name ≡ codes "check") × (texts_of names.items ≡ given)
-IsAskedOf name given (invocation.OnFiles command.Print names) = (name ≡ codes "print") × (texts_of names.items ≡ given)
-IsAskedOf name given (invocation.Run options names) = (name ≡ codes "run") × (texts_of names.items ≡ given)
-IsAskedOf name given (invocation.Replay options names) =
-    (name ≡ codes "replay") × (options.record.now ∷ texts_of names.items ≡ given)
-IsAskedOf name given (invocation.Search options names) = (name ≡ codes "search") × (texts_of names.items ≡ given)
-IsAskedOf name given (invocation.Explain word) =
-    (name ≡ codes "explain") × (option_map (λ w. w.now) word ≡ slice_get given 0)
+-- These are the files that the words give.
+abbrev pub AreGivenIn : List (List ℕ) → List (Bor (List ℕ)) → Type 0
+AreGivenIn words names = texts_of names ≡ given_in false words
 
--- The arguments ask for it; the first is the program's name and the second the command's.
-abbrev pub IsAskedFor : List (List ℕ) → Invocation → Type 0
-IsAskedFor [] what = ⊥
-IsAskedFor (program ∷ []) what = ⊥
-IsAskedFor (program ∷ name ∷ words) what = IsAskedOf name (given_in false words) what
+-- It is what a command of this name asks for with these words behind it: files and options; a record, files and
+-- options; or a code or a name.
+abbrev pub IsAskedOf : List ℕ → List (List ℕ) → Invocation → Type 0
+IsAskedOf name words (invocation.OnFiles (command.Check options) names) =
+    (name ≡ codes "check") × AreGivenIn words names.items × AreCheckOptions words options
+IsAskedOf name words (invocation.OnFiles command.Print names) = (name ≡ codes "print") × AreGivenIn words names.items
+IsAskedOf name words (invocation.Run options names) =
+    (name ≡ codes "run") × AreGivenIn words names.items × AreRunOptions words options
+IsAskedOf name words (invocation.Replay options names) =
+    (name ≡ codes "replay") × (options.record.now ∷ texts_of names.items ≡ given_in false words)
+    × AreReplayOptions words options
+IsAskedOf name words (invocation.Search options names) =
+    (name ≡ codes "search") × AreGivenIn words names.items × AreSearchOptions words options
+IsAskedOf name words (invocation.Explain word) =
+    (name ≡ codes "explain") × (option_map (λ w. w.now) word ≡ slice_get (given_in false words) 0)
 
 -- ---- help
 
@@ -70,12 +104,27 @@ begins_help [] = false
 begins_help (c ∷ []) = false
 begins_help (c ∷ d ∷ cs) = if c == 45 then d == 104 || d == 86 else false
 
--- the word asks for help, or for the version
+-- the word that may name a command asks for help, or for the version
 abbrev pub is_help : List ℕ → Bool
 is_help word =
     begins_help word
     || (bytes_eq word (codes "help") || (bytes_eq word (codes "--help") || bytes_eq word (codes "--version")))
 
--- One of the arguments asks for help, or for the version.
+-- The arguments ask for help, or for the version: instead of a command, or by an option behind it.
+abbrev pub asks_for_help : List (List ℕ) → Bool
+asks_for_help [] = false
+asks_for_help (program ∷ []) = false
+asks_for_help (program ∷ name ∷ words) =
+    is_help name || (has_option (codes "--help") words || has_option (codes "-h") words)
+
 abbrev pub AskForHelp : List (List ℕ) → Type 0
-AskForHelp arguments = list_any is_help arguments ≡ true
+AskForHelp arguments = asks_for_help arguments ≡ true
+
+-- ---- all arguments
+
+-- The arguments ask for it and not for help: the first is the program's name, and the second is that of the command.
+abbrev pub IsAskedFor : List (List ℕ) → Invocation → Type 0
+IsAskedFor [] what = ⊥
+IsAskedFor (program ∷ []) what = ⊥
+IsAskedFor (program ∷ name ∷ words) what =
+    (asks_for_help (program ∷ name ∷ words) ≡ false) × IsAskedOf name words what

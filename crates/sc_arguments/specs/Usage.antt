@@ -16,3 +16,4 @@ TellsError e (usage.Arguments said) = (said ≡ e) × (kind_of e ≢ kind.OutOfM
 TellsError e usage.NoCommand = ⊥
 TellsError e usage.BadRoot = ⊥
 TellsError e usage.TracedWorkers = ⊥
+TellsError e usage.TwoReadings = ⊥

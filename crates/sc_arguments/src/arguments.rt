@@ -3,23 +3,29 @@
 mod format;
 mod given;
 mod help;
+mod numbers;
 mod options;
 mod root_option;
 mod searching;
 mod tracing;
+mod words;
 
-ghost use Rattle.std.specs.Prelude.{◌≡◌, IfOk, codes, map};
-ghost use Rattle.sc_arguments.specs.Asked.{IsAskedFor, IsAskedOf};
+ghost use Rattle.std.specs.Prelude.{◌≡◌, IfOk, codes, false, map};
+ghost use Rattle.sc_arguments.specs.Asked.{AreCheckOptions, AreReplayOptions, AreRunOptions, IsAskedFor, IsAskedOf};
 ghost use Rattle.sc_arguments.specs.Usage as spec;
+ghost use Rattle.sc_arguments.specs.Words.{given_in};
 
 use crate::arguments::format::read_format;
 use crate::arguments::given::given_in;
+use crate::arguments::numbers::{limit_by, number_in, small_number_in};
 use crate::arguments::options::{
     CODE, EXPLAIN, FILES, FLAG, FORMAT, KEPT, NO_EXPLAIN, OPTION, OUTPUT_LIMIT, RECORD, ROOT,
     TRACE, Taken, argument,
 };
-use crate::arguments::searching::SEARCH;
+use crate::arguments::root_option::read_root;
+use crate::arguments::searching::{SEARCH, read_search};
 use crate::arguments::tracing::{read_trace, read_trace_by};
+use crate::arguments::words::{has_option, value_of, value_or};
 use clap::ArgMatches;
 use clap::builder::ValueParser;
 use clap::error::ErrorKind;
@@ -106,6 +112,8 @@ pub enum UsageFault {
     BadRoot,
     /// A run by several workers is to be traced.
     TracedWorkers,
+    /// What was read of the words differs from what they say, which never comes.
+    TwoReadings,
     OutOfMemory,
 }
 
@@ -129,9 +137,9 @@ impl From<AllocError> for UsageFault {
     }
 }
 
-const DEFAULT_TURNS: u32 = 1_000_000;
+const DEFAULT_TURNS: &str = "1000000";
 
-const DEFAULT_WORKERS: u8 = 1;
+const DEFAULT_WORKERS: &str = "1";
 
 const ABOUT: &str = "Checks and runs systems of SCOOP classes";
 
@@ -349,19 +357,19 @@ const COMMANDS: [Described; 6] = [
 /// What `run` takes.
 const RUN_TAKES: [Taken; 11] = [
     Taken {
-        name: "workers",
+        name: "--workers",
         help: WORKERS_HELP,
         value_names: &["N"],
         parser: ValueParser::Signed(1, 8),
-        default: &["1"],
+        default: &[DEFAULT_WORKERS],
         ..OPTION
     },
     Taken {
-        name: "turns",
+        name: "--turns",
         help: TURNS_HELP,
         value_names: &["N"],
         parser: ValueParser::Signed(1, 10_000_000),
-        default: &["1000000"],
+        default: &[DEFAULT_TURNS],
         ..OPTION
     },
     OUTPUT_LIMIT,
@@ -370,7 +378,7 @@ const RUN_TAKES: [Taken; 11] = [
         ..KEPT
     },
     Taken {
-        name: "audit",
+        name: "--audit",
         help: AUDIT_HELP,
         ..FLAG
     },
@@ -396,34 +404,70 @@ pub fn read_arguments<'a, S: AsStr>(
 {
     let matches = scoop_command(alloc)?.try_get_matches_from(arguments)?;
     match (matches.subcommand(), arguments) {
-        (Some((_, options)), [_, command, words @ ..]) => {
-            let given = given_in(alloc, words)?;
-            read_command(alloc, command.as_str(), given, options, explains)
+        (Some((name, options)), [_, command, words @ ..]) => {
+            if ask_for_help(arguments) || !are_read_alike(name, options, words) {
+                return Err(UsageFault::TwoReadings);
+            }
+            read_command(alloc, command.as_str(), words, options, explains)
         }
         _ => Err(UsageFault::NoCommand),
     }
 }
 
-/// What is asked for by the command of this name and what is given to it.
-fn read_command<'a>(
+/// Whether the options of a command were read as the words behind it say.
+fn are_read_alike<S: AsStr>(name: &str, options: &ArgMatches<'_>, words: &[S]) -> bool {
+    for described in &COMMANDS {
+        if described.name == name {
+            return described
+                .takes
+                .iter()
+                .all(|taken| is_read_alike(taken, options, words));
+        }
+    }
+    false
+}
+
+/// Whether an option was read as the words say. No words are compared that say how an answer is explained or traced, nor what
+/// is given to the command.
+fn is_read_alike<S: AsStr>(taken: &Taken, options: &ArgMatches<'_>, words: &[S]) -> bool {
+    let Some(name) = taken.name.strip_prefix("--") else {
+        return true;
+    };
+    if taken.needs_equals || !taken.undone.is_empty() {
+        return true;
+    }
+    if taken.values == FLAG.values {
+        return options.get_flag(name) == has_option(words, taken.name);
+    }
+    let value = value_of(words, taken.name).or(taken.default.first().copied());
+    options.get_str(name) == value
+}
+
+/// What is asked for by the command of this name with these words behind it.
+fn read_command<'a, S: AsStr>(
     alloc: Global,
     name: &str,
-    given: Vec<&'a str>,
-    options: &ArgMatches<'a>,
+    words: &'a [S],
+    options: &ArgMatches<'_>,
     explains: bool,
 ) -> Result<Invocation<'a>, UsageFault>
-    ensures { let texts = map (λ text. text.now) given.entry.items in IfOk result (IsAskedOf name.now texts) }
+    ensures { IfOk result (IsAskedOf name.now (map S.text words.entry.now)) }
 {
+    let given = given_in(alloc, words)?;
+    let is_explained = read_explained(options, explains);
     match name {
         "check" => {
-            let check = read_check(alloc, options, explains)?;
+            let check = read_check(alloc, words, is_explained)?;
             Ok(Invocation::OnFiles(Command::Check(check), given))
         }
         "print" => Ok(Invocation::OnFiles(Command::Print, given)),
-        "run" => Ok(Invocation::Run(read_run(alloc, options, explains)?, given)),
-        "replay" => read_replay(alloc, given.as_slice(), options, explains),
+        "run" => {
+            let run = read_run(alloc, words, options, is_explained)?;
+            Ok(Invocation::Run(run, given))
+        }
+        "replay" => read_replay(alloc, words, given.as_slice(), options, is_explained),
         "search" => {
-            let search = searching::read_search(alloc, options, explains)?;
+            let search = read_search(alloc, words, is_explained)?;
             Ok(Invocation::Search(search, given))
         }
         "explain" => Ok(Invocation::Explain(given.first().copied())),
@@ -431,59 +475,70 @@ fn read_command<'a>(
     }
 }
 
-fn read_check(
+/// Whether an answer is to be explained.
+fn read_explained(options: &ArgMatches<'_>, explains: bool) -> bool {
+    options.get_flag("explain") || explains && !options.get_flag("no-explain")
+}
+
+/// What the words behind `check` ask for.
+fn read_check<S: AsStr>(
     alloc: Global,
-    options: &ArgMatches<'_>,
-    explains: bool,
-) -> Result<CheckOptions, UsageFault> {
-    let text = options.get_str("root").unwrap_or("");
+    words: &[S],
+    is_explained: bool,
+) -> Result<CheckOptions, UsageFault>
+    ensures { IfOk result (AreCheckOptions (map S.text words.now)) }
+{
     Ok(CheckOptions {
-        root: root_option::root_of(alloc, text)?.ok_or(UsageFault::BadRoot)?,
-        is_explained: options.get_flag("explain") || explains && !options.get_flag("no-explain"),
-        format: read_format(options),
+        root: read_root(alloc, words)?,
+        is_explained,
+        format: read_format(words),
     })
 }
 
-fn read_run<'a>(
+/// What the words behind `run` ask for.
+fn read_run<'a, S: AsStr>(
     alloc: Global,
-    options: &ArgMatches<'a>,
-    explains: bool,
-) -> Result<RunOptions<'a>, UsageFault> {
-    let check = read_check(alloc, options, explains)?;
-    let workers = options.get_one("workers").unwrap_or(DEFAULT_WORKERS);
+    words: &'a [S],
+    options: &ArgMatches<'_>,
+    is_explained: bool,
+) -> Result<RunOptions<'a>, UsageFault>
+    ensures { IfOk result (AreRunOptions (map S.text words.entry.now)) }
+{
+    let workers = small_number_in(value_or(words, "--workers", DEFAULT_WORKERS))?;
     Ok(RunOptions {
-        root: check.root,
+        root: read_root(alloc, words)?,
         workers,
-        turns: options.get_one("turns").unwrap_or(DEFAULT_TURNS),
-        output_limit: options.get_one("output-limit"),
-        record: options.get_str("record"),
-        is_audited: options.get_flag("audit"),
+        turns: number_in(value_or(words, "--turns", DEFAULT_TURNS))?,
+        output_limit: limit_by(value_of(words, "--output-limit"))?,
+        record: value_of(words, "--record"),
+        is_audited: has_option(words, "--audit"),
         trace: read_trace_by(options, workers)?,
-        is_explained: check.is_explained,
-        format: check.format,
+        is_explained,
+        format: read_format(words),
     })
 }
 
-/// What is asked for where the first that is given is a record, and the rest are files.
-fn read_replay<'a>(
+/// What is asked for if the first that is given is a record, and the rest are files.
+fn read_replay<'a, S: AsStr>(
     alloc: Global,
+    words: &'a [S],
     given: &[&'a str],
-    options: &ArgMatches<'a>,
-    explains: bool,
+    options: &ArgMatches<'_>,
+    is_explained: bool,
 ) -> Result<Invocation<'a>, UsageFault>
-    ensures { let texts = map (λ text. text.now) given.now in IfOk result (IsAskedOf (codes "replay") texts) }
+    ensures { let behind = map S.text words.entry.now in
+        map (λ text. text.now) given.now ≡ given_in false behind → IfOk result (IsAskedOf (codes "replay") behind) }
 {
     let Some((record, names)) = given.split_first() else {
         return Err(UsageFault::NoCommand);
     };
     let names = Vec::from_slice(alloc, names)?;
-    let check = read_check(alloc, options, explains)?;
     let replay = ReplayOptions {
-        root: check.root,
+        root: read_root(alloc, words)?,
         record: *record,
         trace: read_trace(options),
-        is_explained: check.is_explained,
-        format: check.format,
+        is_explained,
+        format: read_format(words),
     };
     Ok(Invocation::Replay(replay, names))
 }

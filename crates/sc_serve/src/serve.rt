@@ -187,6 +187,7 @@ fn words_of(fault: &Fault<'_>) -> &'static str {
         Fault::Usage(UsageFault::TracedWorkers) => {
             "a run by several workers can't be traced: leave out --workers or --trace"
         }
+        Fault::Usage(UsageFault::TwoReadings) => "the arguments can be read in two ways",
         Fault::CannotWrite => "cannot write standard output",
         Fault::NoThread => "no thread",
         Fault::LogsDiffer => "logs differ",

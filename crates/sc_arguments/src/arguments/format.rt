@@ -1,6 +1,10 @@
 //! The value of `--format`: how an answer is written.
 
-use clap::ArgMatches;
+ghost use Rattle.std.specs.Prelude.{◌≡◌, map};
+ghost use Rattle.sc_arguments.specs.Asked as spec;
+
+use crate::arguments::words::value_or;
+use std::convert::AsStr;
 
 /// How an answer is written.
 #[derive(Clone, Copy)]
@@ -15,9 +19,15 @@ pub const FORMATS: [&str; 2] = ["text", "json"];
 
 pub const FORMAT_HELP: &str = "How the answer is written: as lines, or as one object of JSON";
 
-pub fn read_format(options: &ArgMatches<'_>) -> Format {
-    match options.get_str("format") {
-        Some("json") => Format::Json,
-        _ => Format::Text,
+pub const DEFAULT_FORMAT: &str = "text";
+
+/// The format that the words behind a command ask for.
+pub fn read_format<S: AsStr>(words: &[S]) -> Format
+    ensures { result ≡ spec.format_in (map S.text words.now) }
+{
+    if value_or(words, "--format", DEFAULT_FORMAT) == "json" {
+        Format::Json
+    } else {
+        Format::Text
     }
 }

@@ -1,8 +1,9 @@
 //! What is given to a command: what is left of the words behind it without its options.
 
 ghost use Rattle.std.specs.Prelude.{◌≡◌, IfOk, false, map};
-ghost use Rattle.sc_arguments.specs.Asked as spec;
+ghost use Rattle.sc_arguments.specs.Words as spec;
 
+use crate::arguments::words::{ends_options, has_value, is_option};
 use std::alloc::{AllocError, Global};
 use std::convert::AsStr;
 
@@ -29,32 +30,4 @@ pub fn given_in<'a, S: AsStr>(alloc: Global, words: &'a [S]) -> Result<Vec<&'a s
         }
     }
     Ok(given)
-}
-
-/// Whether no options come after a word.
-fn ends_options(word: &str) -> bool
-    ensures { result ≡ spec.ends_options word.now }
-{
-    word == "--"
-}
-
-/// Whether a word is an option whose value is the next word.
-fn has_value(word: &str) -> bool
-    ensures { result ≡ spec.has_value word.now }
-{
-    word == "--root"
-        || word == "--workers"
-        || word == "--turns"
-        || word == "--output-limit"
-        || word == "--record"
-        || word == "--format"
-        || word == "--for"
-        || word == "--states"
-}
-
-/// Whether a word is an option. `-` alone is a file.
-fn is_option(word: &str) -> bool
-    ensures { result ≡ spec.is_option word.now }
-{
-    matches!(word.as_bytes(), [b'-', _, ..])
 }

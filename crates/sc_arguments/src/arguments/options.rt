@@ -1,6 +1,7 @@
 //! What commands take: options, and what is given to them.
 
-use crate::arguments::format::{FORMAT_HELP, FORMATS};
+use crate::arguments::format::{DEFAULT_FORMAT, FORMAT_HELP, FORMATS};
+use crate::arguments::root_option::DEFAULT_ROOT;
 use crate::arguments::tracing::{TRACE_HELP, TRACED};
 use clap::builder::ValueParser;
 use clap::{Arg, ArgAction};
@@ -9,10 +10,9 @@ use std::alloc::{AllocError, Global};
 /// What a command takes, with the text on it in the command's help.
 #[derive(Clone, Copy)]
 pub struct Taken {
+    /// The name of an option, which begins with `--`, or of what is given to the command.
     pub name: &'static str,
     pub help: &'static str,
-    /// Whether it is an option of this name, and not what is given to the command.
-    pub is_option: bool,
     pub is_required: bool,
     pub action: ArgAction,
     /// The least and the most values of one use.
@@ -35,7 +35,6 @@ pub struct Taken {
 pub const FLAG: Taken = Taken {
     name: "",
     help: "",
-    is_option: true,
     is_required: false,
     action: ArgAction::SetTrue,
     values: (0, 0),
@@ -56,21 +55,18 @@ pub const OPTION: Taken = Taken {
 };
 
 /// What is given to a command.
-const GIVEN: Taken = Taken {
-    is_option: false,
-    ..OPTION
-};
+const GIVEN: Taken = OPTION;
 
 /// The option `--explain`, but for its text. Of it and of `--no-explain` the last is meant.
 pub const EXPLAIN: Taken = Taken {
-    name: "explain",
+    name: "--explain",
     undone: &["no-explain"],
     ..FLAG
 };
 
 /// The option `--no-explain`.
 pub const NO_EXPLAIN: Taken = Taken {
-    name: "no-explain",
+    name: "--no-explain",
     help: "Leaves that out",
     undone: &["explain"],
     ..FLAG
@@ -78,14 +74,14 @@ pub const NO_EXPLAIN: Taken = Taken {
 
 /// The option `--record`, but for its text. Its value is a file to write to.
 pub const KEPT: Taken = Taken {
-    name: "record",
+    name: "--record",
     value_names: &["PATH"],
     ..OPTION
 };
 
 /// The option `--output-limit`.
 pub const OUTPUT_LIMIT: Taken = Taken {
-    name: "output-limit",
+    name: "--output-limit",
     help: "Ends the run once all that is printed has more bytes than this, 0 to 1000000000000",
     value_names: &["BYTES"],
     parser: ValueParser::Unsigned(0, 1_000_000_000_000),
@@ -94,7 +90,7 @@ pub const OUTPUT_LIMIT: Taken = Taken {
 
 /// The option `--trace`; its value, if it has one, follows `=`.
 pub const TRACE: Taken = Taken {
-    name: "trace",
+    name: "--trace",
     help: TRACE_HELP,
     values: (0, 1),
     value_names: &["WHAT"],
@@ -106,20 +102,20 @@ pub const TRACE: Taken = Taken {
 
 /// The option `--root`.
 pub const ROOT: Taken = Taken {
-    name: "root",
+    name: "--root",
     help: "The root class and its creation procedure",
     value_names: &["CLASS.PROCEDURE"],
-    default: &["APPLICATION.make"],
+    default: &[DEFAULT_ROOT],
     ..OPTION
 };
 
 /// The option `--format`.
 pub const FORMAT: Taken = Taken {
-    name: "format",
+    name: "--format",
     help: FORMAT_HELP,
     value_names: &["FORMAT"],
     parser: ValueParser::Names(&FORMATS),
-    default: &["text"],
+    default: &[DEFAULT_FORMAT],
     ..OPTION
 };
 
@@ -151,7 +147,8 @@ pub const CODE: Taken = Taken {
 /// The argument for what a command takes.
 pub fn argument<'a>(alloc: Global, taken: &Taken) -> Result<Arg<'a>, AllocError> {
     let (least, most) = taken.values;
-    let argument = Arg::new(alloc, taken.name)
+    let long = taken.name.strip_prefix("--");
+    let argument = Arg::new(alloc, long.unwrap_or(taken.name))
         .help(taken.help)
         .required(taken.is_required)
         .action(taken.action)
@@ -161,10 +158,9 @@ pub fn argument<'a>(alloc: Global, taken: &Taken) -> Result<Arg<'a>, AllocError>
         .default_values(taken.default)
         .default_missing_values(taken.missing)
         .require_equals(taken.needs_equals);
-    let argument = if taken.is_option {
-        argument.long(taken.name)
-    } else {
-        argument
+    let argument = match long {
+        Some(name) => argument.long(name),
+        None => argument,
     };
     argument.overrides_with_all(taken.undone)
 }

@@ -3,12 +3,26 @@
 ghost use Rattle.std.specs.Prelude.{◌≡◌, ◌≤◌, ◌↔◌, List, ℕ, length, map, IfOk, IfSome, IsSome, option_map, string_bytes};
 ghost use Rattle.std.specs.Char.{to_ascii_lowercase};
 ghost use Rattle.sc_text.specs.Spelling.{lexemes_of, max_source_bytes};
+ghost use Rattle.sc_arguments.specs.Asked.{IsRootIn};
 ghost use Rattle.sc_arguments.specs.Internal.SoleName as internal;
 ghost use Rattle.sc_arguments.specs.RootOption.{IsName, NamesRoot};
 
+use crate::arguments::UsageFault;
+use crate::arguments::words::value_or;
 use sc_class::Root;
 use sc_text::{LexFault, Token, TokenKind, lex};
 use std::alloc::{AllocError, Global};
+use std::convert::AsStr;
+
+pub const DEFAULT_ROOT: &str = "APPLICATION.make";
+
+/// The root that the words behind a command name.
+pub fn read_root<S: AsStr>(alloc: Global, words: &[S]) -> Result<Root, UsageFault>
+    ensures { IfOk result (IsRootIn (map S.text words.now)) }
+{
+    let text = value_or(words, "--root", DEFAULT_ROOT);
+    root_of(alloc, text)?.ok_or(UsageFault::BadRoot)
+}
 
 /// The root that a text names: two names in any letter case, with one dot between and nothing else. None
 /// of any other text, and where a name is longer than a source text may be.

@@ -1,14 +1,22 @@
 //! The command `search`: what is looked for in the orders of turns, and how far.
 
-use crate::arguments::format::Format;
+ghost use Rattle.std.specs.Prelude.{◌≡◌, IfOk, codes, map};
+ghost use Rattle.sc_arguments.specs.Asked as spec;
+ghost use Rattle.sc_arguments.specs.Asked.{AreSearchOptions};
+ghost use Rattle.sc_arguments.specs.Words.{value_or};
+
+use crate::arguments::format::{Format, read_format};
+use crate::arguments::numbers::number_in;
 use crate::arguments::options::{
     EXPLAIN, FILES, FLAG, FORMAT, KEPT, NO_EXPLAIN, OPTION, ROOT, Taken,
 };
-use crate::arguments::{Described, UsageFault, read_check};
-use clap::ArgMatches;
+use crate::arguments::root_option::read_root;
+use crate::arguments::words::{has_option, value_of, value_or};
+use crate::arguments::{Described, UsageFault};
 use clap::builder::ValueParser;
 use sc_class::Root;
 use std::alloc::Global;
+use std::convert::AsStr;
 
 #[derive(Drop)]
 pub struct SearchOptions<'a> {
@@ -37,7 +45,9 @@ pub enum Sought {
     Any,
 }
 
-const DEFAULT_STATES: u32 = 25_000;
+const DEFAULT_SOUGHT: &str = "any";
+
+const DEFAULT_STATES: &str = "25000";
 
 const SOUGHT: [&str; 3] = ["stuck", "fails", "any"];
 
@@ -86,19 +96,19 @@ const SEARCH_EXPLAIN_HELP: &str =
 /// What `search` takes.
 const SEARCH_TAKES: [Taken; 9] = [
     Taken {
-        name: "for",
+        name: "--for",
         help: "What ends the search",
         value_names: &["WHAT"],
         parser: ValueParser::Names(&SOUGHT),
-        default: &["any"],
+        default: &[DEFAULT_SOUGHT],
         ..OPTION
     },
     Taken {
-        name: "states",
+        name: "--states",
         help: STATES_HELP,
         value_names: &["N"],
         parser: ValueParser::Signed(1, 10_000_000),
-        default: &["25000"],
+        default: &[DEFAULT_STATES],
         ..OPTION
     },
     Taken {
@@ -106,7 +116,7 @@ const SEARCH_TAKES: [Taken; 9] = [
         ..KEPT
     },
     Taken {
-        name: "outcomes",
+        name: "--outcomes",
         help: OUTCOMES_HELP,
         ..FLAG
     },
@@ -129,27 +139,32 @@ pub const SEARCH: Described = Described {
     takes: &SEARCH_TAKES,
 };
 
-pub fn read_search<'a>(
+/// What the words behind `search` ask for.
+pub fn read_search<'a, S: AsStr>(
     alloc: Global,
-    options: &ArgMatches<'a>,
-    explains: bool,
-) -> Result<SearchOptions<'a>, UsageFault> {
-    let check = read_check(alloc, options, explains)?;
+    words: &'a [S],
+    is_explained: bool,
+) -> Result<SearchOptions<'a>, UsageFault>
+    ensures { IfOk result (AreSearchOptions (map S.text words.entry.now)) }
+{
     Ok(SearchOptions {
-        root: check.root,
-        sought: read_sought(options),
-        states: options.get_one("states").unwrap_or(DEFAULT_STATES),
-        record: options.get_str("record"),
-        lists_outcomes: options.get_flag("outcomes"),
-        is_explained: check.is_explained,
-        format: check.format,
+        root: read_root(alloc, words)?,
+        sought: read_sought(words),
+        states: number_in(value_or(words, "--states", DEFAULT_STATES))?,
+        record: value_of(words, "--record"),
+        lists_outcomes: has_option(words, "--outcomes"),
+        is_explained,
+        format: read_format(words),
     })
 }
 
-fn read_sought(options: &ArgMatches<'_>) -> Sought {
-    match options.get_str("for") {
-        Some("stuck") => Sought::Stuck,
-        Some("fails") => Sought::Fails,
+/// What the words behind `search` look for.
+fn read_sought<S: AsStr>(words: &[S]) -> Sought
+    ensures { result ≡ spec.sought_named (value_or (codes "--for") (codes "any") (map S.text words.now)) }
+{
+    match value_or(words, "--for", DEFAULT_SOUGHT) {
+        "stuck" => Sought::Stuck,
+        "fails" => Sought::Fails,
         _ => Sought::Any,
     }
 }

@@ -6,5 +6,6 @@ use Rattle.sc_arguments.proofs.arguments.read_arguments.Goals as goal
 -- the words behind the command are read
 pub returns-in-Some-len2-up : goal.returns-in-Some-len2-up
 returns-in-Some-len2-up g c =
-    asked-for g.S.AsStr.text c.args.arguments.now c.command-item.result _ _ _ _ c.read_command.result c.in-Some-len2-up.len_at_least
-    c.command-item.is (grind (arith, common_steps)) c.as_str.ensures c.in_ok-given-in-Some-len2-up.ensures c.read_command.ensures
+    asked-for g.S.AsStr.text c.args.arguments.now c.command-item.result _ _ _ c.ask_for_help.result c.read_command.result
+    c.in-Some-len2-up.len_at_least c.command-item.is (grind (arith, common_steps)) c.as_str.ensures c.ask_for_help.ensures
+    c.if-ask_for_help.false c.read_command.ensures

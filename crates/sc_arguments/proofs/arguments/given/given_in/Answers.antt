@@ -1,5 +1,5 @@
 use Rattle.std.proofs.Common.{◌∙◌, sym, ap}
-use Rattle.sc_arguments.proofs.AskedLemmas.{none-read, passed-end, passed-option, passed-value, passed-valued, passes, read-all, taken-of-all, taken-plain, takes}
+use Rattle.sc_arguments.proofs.GivenLemmas.{none-read, passed-end, passed-option, passed-value, passed-valued, passes, read-all, taken-of-all, taken-plain, takes}
 use Rattle.sc_arguments.proofs.arguments.given.given_in.Goals as goal
 use Rattle.sc_arguments.proofs.arguments.given.given_in.Goals.{then-is_all+in_ok-push, else-is_all+then-is_value, else-is_all+else-is_value+then-ends_options, else-is_all+else-is_value+else-ends_options+then-has_value, else-is_all+else-is_value+else-ends_options+else-has_value+then-not-is_option+in_ok-push-2, else-is_all+else-is_value+else-ends_options+else-has_value+else-not-is_option}
 

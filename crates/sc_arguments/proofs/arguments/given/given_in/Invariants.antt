@@ -1,6 +1,6 @@
 use Rattle.std.proofs.Common.{◌≡◌, ◌++◌, false, map, drop}
-use Rattle.sc_arguments.specs.Asked.{given_in}
-use Rattle.sc_arguments.proofs.AskedLemmas.{left_in, texts}
+use Rattle.sc_arguments.specs.Words.{given_in}
+use Rattle.sc_arguments.proofs.GivenLemmas.{left_in, texts}
 use Rattle.sc_arguments.proofs.arguments.given.given_in.Given as goal
 
 -- what is given so far, and what is left

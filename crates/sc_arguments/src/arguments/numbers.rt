@@ -1,0 +1,40 @@
+//! Numbers that words write.
+
+ghost use Rattle.std.specs.Prelude.{IfOk, option_map};
+ghost use Rattle.sc_arguments.specs.Words.{Writes};
+ghost use Rattle.sc_arguments.specs.Asked.{IsLimitBy};
+
+use crate::arguments::UsageFault;
+
+/// The number that a text writes.
+pub fn number_in(text: &str) -> Result<u32, UsageFault>
+    ensures { IfOk result (Writes text.now) }
+{
+    match text.parse::<u32>() {
+        Ok(number) => Ok(number),
+        Err(_) => Err(UsageFault::TwoReadings),
+    }
+}
+
+/// The number that a text writes, at most 255.
+pub fn small_number_in(text: &str) -> Result<u8, UsageFault>
+    ensures { IfOk result (Writes text.now) }
+{
+    match text.parse::<u8>() {
+        Ok(number) => Ok(number),
+        Err(_) => Err(UsageFault::TwoReadings),
+    }
+}
+
+/// The limit that the value of an option writes, if it is used.
+pub fn limit_by(value: Option<&str>) -> Result<Option<u64>, UsageFault>
+    ensures { IfOk result (IsLimitBy (option_map (λ text. text.now) value.entry)) }
+{
+    let Some(text) = value else {
+        return Ok(None);
+    };
+    match text.parse::<u64>() {
+        Ok(number) => Ok(Some(number)),
+        Err(_) => Err(UsageFault::TwoReadings),
+    }
+}
