@@ -22,7 +22,7 @@ pub enum Remains {
 /// How many names are tried for the new file.
 const NAMES: u32 = 100;
 
-/// How many bytes are behind the name of the file in that of the new one, at most.
+/// How many bytes the name of the new file has after that of the file, at most.
 const ENDING: usize = ".99.part".len();
 
 /// The file in which the system lists the limits of this program, a line each, and how the line of the largest file begins.
