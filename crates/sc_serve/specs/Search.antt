@@ -42,11 +42,22 @@ exit_for finding.Undecided = Undecided
 
 -- ---- the lines of a verdict
 
--- that no order at all does what was looked for
-abbrev pub none_line : Sought → List ℕ
-none_line sought.Stuck = codes "none stuck (proved)\n"
-none_line sought.Fails = codes "none fails (proved)\n"
-none_line sought.Any = codes "none stuck, none fails (proved)\n"
+-- some order goes on for ever, as far as that is known
+abbrev pub is_endless : Length → Bool
+is_endless (span.AtMost turns) = false
+is_endless span.Endless = true
+is_endless span.Unknown = false
+
+-- That no order at all does what was looked for. A handler that waits for good while another one goes on for ever isn't
+-- looked for, which is said if some order goes on for ever.
+abbrev pub none_line : Sought → Bool → List ℕ
+none_line sought.Fails is_endless = codes "none fails (proved)\n"
+none_line sought.Stuck false = codes "none stuck (proved)\n"
+none_line sought.Stuck true =
+    codes "none stuck (proved): handlers that wait beside one that goes on were not looked for\n"
+none_line sought.Any false = codes "none stuck, none fails (proved)\n"
+none_line sought.Any true =
+    codes "none stuck, none fails (proved): handlers that wait beside one that goes on were not looked for\n"
 
 -- how many turns lines are, as far as 64 bits tell
 abbrev pub told_turns : List RecordLine → ℕ
@@ -57,15 +68,15 @@ abbrev pub found_line : List ℕ → Order → List ℕ
 found_line what order = what ++ (codes " after " ++ (decimal (told_turns order.lines.items) ++ codes " turns\n"))
 
 -- that none was found: there is none where every order was played
-abbrev pub nothing_line : Sought → Bool → List ℕ
-nothing_line what true = none_line what
-nothing_line what false = codes "none found\n"
+abbrev pub nothing_line : Sought → Bool → Length → List ℕ
+nothing_line what true length = none_line what (is_endless length)
+nothing_line what false length = codes "none found\n"
 
-abbrev pub finding_line : Sought → Bool → Finding → List ℕ
-finding_line what is_whole finding.Nothing = nothing_line what is_whole
-finding_line what is_whole (finding.Stuck order) = found_line (codes "stuck") order
-finding_line what is_whole (finding.Fails order) = found_line (codes "fails") order
-finding_line what is_whole finding.Undecided = codes "undecided\n"
+abbrev pub finding_line : Sought → Bool → Length → Finding → List ℕ
+finding_line what is_whole length finding.Nothing = nothing_line what is_whole length
+finding_line what is_whole length (finding.Stuck order) = found_line (codes "stuck") order
+finding_line what is_whole length (finding.Fails order) = found_line (codes "fails") order
+finding_line what is_whole length finding.Undecided = codes "undecided\n"
 
 -- whether orders end, as far as that is known
 abbrev pub length_line : Length → List ℕ
@@ -86,7 +97,7 @@ states_line count = codes "states " ++ (decimal count ++ codes "\n")
 
 abbrev pub verdict_lines : Sought → Verdict → List ℕ
 verdict_lines what verdict =
-    finding_line what verdict.is_whole verdict.finding
+    finding_line what verdict.is_whole verdict.length verdict.finding
     ++ (length_line verdict.length
     ++ (outcomes_line verdict.finding (length verdict.ends.items) ++ states_line verdict.states))
 

@@ -4,7 +4,7 @@ use crate::json::report::push_report;
 use crate::json::writer::Writer;
 use crate::searching::lines_of;
 use crate::verdict::turns_of;
-use sc_arguments::SearchOptions;
+use sc_arguments::{SearchOptions, Sought};
 use sc_audit::RecordLine;
 use sc_search::{End, Finding, Length, Verdict};
 use std::alloc::{AllocError, Global};
@@ -21,7 +21,7 @@ pub fn search_object(
     json.open("", "{");
     json.truth(
         "all_outcomes",
-        Some(matches!(verdict.finding, Finding::Nothing)),
+        Some(has_all_outcomes(options.sought, verdict)),
     );
     json.text("answer", Some(answer_of(&verdict.finding)));
     json.truth("endless", endless);
@@ -34,6 +34,15 @@ pub fn search_object(
     json.number("turns", turns_in(lines));
     json.close("}");
     json.finish()
+}
+
+/// Whether the outcomes that were met are all that there are. A search for stuck orders alone that isn't whole may leave out
+/// some in which a handler fails.
+fn has_all_outcomes(sought: Sought, verdict: &Verdict) -> bool {
+    match verdict.finding {
+        Finding::Nothing => verdict.is_whole || !matches!(sought, Sought::Stuck),
+        Finding::Stuck(_) | Finding::Fails(_) | Finding::Undecided => false,
+    }
 }
 
 fn answer_of(finding: &Finding) -> &'static str {
