@@ -2,8 +2,6 @@ pub mod ActualNumbers
 pub mod Steps
 pub mod FeatureLemmas
 pub mod FeatureNumbers
-pub mod Undeclared
 pub mod CallSteps
 pub mod Numbers
 pub mod ExpressionSteps
-pub mod Places

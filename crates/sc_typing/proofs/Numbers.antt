@@ -20,18 +20,6 @@ use Rattle.sc_typing.specs.FeatureNumbers.{features_from, all_features, start, f
 
 -- ---- the number of a name
 
-own_names_are : (s : System) (k : ℕ) (text : tree_class.Class) → Some (class_of text) ≡ slice_get s.classes k → declared_feature_names_at s k ≡ map (λ (f : Feature). f.name) (map feature_of text.features.items)
-unfolding class_of
-own_names_are s k text e = ap (λ (o : Option Class). option_map_or declared_feature_names o []) (sym e)
-
-pub place_known : (s : System) (x : List ℕ) (k : ℕ) (text : tree_class.Class) (fs : List tree_feature.Feature) (p : Option ℕ) → Some (class_of text) ≡ slice_get s.classes k → fs ≡ text.features.items →
-    p ≡ number_among x (map (λ (f : Feature). f.name) (map feature_of fs)) → p ≡ number_among x (declared_feature_names_at s k)
-place_known s x k text fs p e f g =
-    g ∙ ap (λ fs. number_among x (map (λ (f : Feature). f.name) (map feature_of fs))) f ∙ ap (number_among x) (sym (own_names_are s k text e))
-
-pub none_numbered : (s : System) (x : List ℕ) (k : ℕ) (p : Option ℕ) → p ≡ number_among x (declared_feature_names_at s k) → p ≡ None → None ≡ feature_number s (record { class = k; name = x })
-none_numbered s x k p e f = ap (option_map (λ (i : ℕ). start s.classes k + i)) (sym f ∙ e)
-
 pub some_numbered : (s : System) (x : List ℕ) (k : ℕ) (p : Option ℕ) (i n : ℕ) → p ≡ number_among x (declared_feature_names_at s k) → p ≡ Some i → n ≡ start s.classes k →
     Some (n + i) ≡ feature_number s (record { class = k; name = x })
 some_numbered s x k p i n e f g = ap (λ (n : ℕ). Some (n + i)) g ∙ ap (option_map (λ (i : ℕ). start s.classes k + i)) (sym f ∙ e)
@@ -63,15 +51,20 @@ start_within j (d ∷ cs) (suc k) c e =
     later_within b t a r n l f = omega (arith, l, f)
 
 -- the sum is the number of a feature
-pub sum_within : (s : System) (x : List ℕ) (k : ℕ) (text : tree_class.Class) (p : Option ℕ) (i n m : ℕ) → Some (class_of text) ≡ slice_get s.classes k →
-    p ≡ number_among x (declared_feature_names_at s k) → p ≡ Some i → n ≡ start s.classes k → m ≡ length (all_features s) → n + i < m
-unfolding class_of
-sum_within s x k text p i n m e f g h t =
-    less (start_within 0 s.classes k (class_of text) (sym e)) (number_below x (declared_feature_names_at s k) i (sym f ∙ g)) (ap length (own_names_are s k text e) ∙ length-map (map feature_of text.features.items) (λ (f : Feature). f.name)) h t
+pub sum_within : (s : System) (x : List ℕ) (k : ℕ) (p : Option ℕ) (i n m : ℕ) → p ≡ number_among x (declared_feature_names_at s k) → p ≡ Some i → n ≡ start s.classes k → m ≡ length (all_features s) → n + i < m
+sum_within s x k p i n m f g h t = by (slice_get s.classes k) refl
   where
-    less : start s.classes k + length (class_of text).features ≤ length (all_features s) → i < length (declared_feature_names_at s k) → length (declared_feature_names_at s k) ≡ length (map feature_of text.features.items) →
-        n ≡ start s.classes k → m ≡ length (all_features s) → n + i < m
-    less a b c d e = omega (arith, a, b, c, d, e)
+    less : (a b c d : ℕ) → a + b ≤ c → i < d → d ≡ b → n ≡ a → m ≡ c → n + i < m
+    less a b c d l o e q r = omega (arith, l, o, e, q, r)
+
+    there : Some i ≡ number_among x (declared_feature_names_at s k)
+    there = sym g ∙ f
+
+    by : (o : Option Class) → slice_get s.classes k ≡ o → n + i < m
+    by None e = let none : Some i ≡ None = there ∙ ap (λ (o : Option Class). number_among x (option_map_or declared_feature_names o [])) e in cc
+    by (Some c) e =
+        less (start s.classes k) (length c.features) (length (all_features s)) (length (declared_feature_names_at s k)) (start_within 0 s.classes k c e)
+        (number_below x (declared_feature_names_at s k) i (sym there)) (ap (λ (o : Option Class). length (option_map_or declared_feature_names o [])) e ∙ length-map c.features (λ (f : Feature). f.name)) h t
 
 -- ---- numbering
 

@@ -20,7 +20,7 @@ pub enum Purity<'t, 's> {
 
 impl<'t, 's> Purity<'t, 's> {
     /// Whether the routine of this name that the class at the number declares is a pure function. It looks once by
-    /// hash, and at the class's features in turn.
+    /// hash.
     pub fn is_pure(&self, class: usize, name: &str) -> bool
         ensures { result ≡ is_marked self.now (record { class = class; name = name.now }) }
     {

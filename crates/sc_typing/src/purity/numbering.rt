@@ -1,19 +1,16 @@
 //! The features of a system by number, in the order of the text.
 
 ghost use Rattle.std.specs.Prelude.{◌≡◌, ◌<◌, ◌++◌, ℕ, Some, IfOk, OnOk, map, length, slice_get};
-ghost use Rattle.std.specs.Option.{option_map};
-ghost use Rattle.sc_tree.specs.View.{feature_of, name_of};
+ghost use Rattle.sc_tree.specs.View.{feature_of};
 ghost use Rattle.sc_class.specs.View.{entry_of};
 ghost use Rattle.sc_class.specs.Tables.Features.{declared_in};
-ghost use Rattle.sc_class.specs.Names.{number_among};
 ghost use Rattle.std.proofs.Props.{props};
 ghost use Rattle.sc_rules.specs.Names.{routine_of};
-ghost use Rattle.sc_class.specs.Tables.Declared.{features_at};
-ghost use Rattle.sc_typing.specs.FeatureNumbers.{all_features, start, feature_number, name_begins, BeginsAt};
+ghost use Rattle.sc_typing.specs.FeatureNumbers.{all_features, start, feature_number};
 ghost use Rattle.sc_class.specs.SystemIn.{system_in};
 
 use sc_class::{FeatureEntry, Tables};
-use sc_tree::{Feature, Name};
+use sc_tree::Feature;
 use std::alloc::{AllocError, Global};
 
 /// The features that the classes of a system declare, each by its number in the text.
@@ -28,28 +25,6 @@ pub struct Numbering<'t, 's> {
     ghost as_many: { length starts.items ≡ length (system_in tables.now).classes },
     ghost are_starts: { (k : ℕ) → k < length starts.items →
         slice_get starts.items k ≡ Some (start (system_in tables.now).classes k) } by { Prim.hlevel props },
-}
-
-/// Whether a name begins at this place in the text, and is this one.
-fn is_at(name: &Name, begin: u32, text: &str) -> bool
-    ensures { result ≡ name_begins (name_of name.now) begin text.now }
-{
-    name.span.start == begin && name.as_str() == text
-}
-
-/// How many of the features stand before the first of this name, where one is: that begins at the place in the text. So
-/// names that begin elsewhere aren't read.
-#[tactic(auto, unfolding(sc_tree::specs::View::feature_of))]
-fn place_of(name: &str, begin: u32, features: &[Feature]) -> Option<usize>
-    requires { BeginsAt begin name.now (map feature_of features.now) }
-    ensures { result ≡ number_among name.now (map (λ f. f.name) (map feature_of features.now)) }
-{
-    for index in 0..features.len() {
-        if is_at(&features[index].name, begin, name) {
-            return Some(index);
-        }
-    }
-    None
 }
 
 /// Adds the features of the class at the number.
@@ -86,32 +61,16 @@ impl<'t, 's> Numbering<'t, 's> {
         })
     }
 
-    /// The number of the feature of this name that the class at the number declares: its name begins at the place in the
-    /// text. It looks at the places of the class's features in turn.
-    fn place_number(&self, class: usize, name: &str, begin: u32) -> Option<usize>
-        requires { BeginsAt begin name.now (features_at (system_in self.now.tables.now) class) }
+    /// The number of the feature of this name that the class at the number declares. It looks once by hash.
+    pub fn number(&self, class: usize, name: &str) -> Option<usize>
         ensures { result ≡ feature_number (system_in self.now.tables.now) (record { class = class; name = name.now }) }
     {
-        let Some(text) = self.tables.class(class) else {
+        let Some(place) = self.tables.declared_number(class, name) else {
             return None;
         };
         let Some(start) = self.starts.get(class) else {
             return None;
         };
-        match place_of(name, begin, &text.features) {
-            None => None,
-            Some(place) => Some(*start + place),
-        }
-    }
-
-    /// The number of the feature of this name that the class at the number declares. It looks once by hash, and at the
-    /// places of the class's features in turn where it is one of them.
-    pub fn number(&self, class: usize, name: &str) -> Option<usize>
-        ensures { result ≡ feature_number (system_in self.now.tables.now) (record { class = class; name = name.now }) }
-    {
-        match self.tables.declared(class, name) {
-            None => None,
-            Some(entry) => self.place_number(class, name, entry.feature.name.span.start),
-        }
+        Some(*start + place)
     }
 }
