@@ -41,6 +41,7 @@ use std::sync::Wait;
 ///
 /// # Errors
 /// U1 if memory is refused, with what is left then, unless the run hadn't begun.
+#[inline(never)]
 pub fn run_alone<'p, R: Wait, G: Gate, W: Watch>(
     rt: &R,
     alloc: Global,

@@ -91,6 +91,7 @@ pub fn run_watched<'p, R: Threads + Wait + Sync, G: Gate, W: Watch>(
 }
 
 /// A run of the program that the types under its locks have.
+#[inline(never)]
 fn run_open<'p, P: OfProgram + Send + Sync, R: Threads + Wait + Sync, G: Gate, W: Watch>(
     rt: &R,
     alloc: Global,

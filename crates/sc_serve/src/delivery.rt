@@ -46,6 +46,7 @@ pub fn status_of(exit: Exit) -> u8
 
 /// Prints an answer, and writes its record to the file. Memory is taken first, and the file is opened last.
 #[tactic(auto, using(crate::proofs::ServedLemmas::all_begins, crate::proofs::ServedLemmas::none_begins))]
+#[inline(never)]
 fn print_and_record<'a, F: Files, O: Write, E: Write>(
     answer: &Answer<'_>,
     recording: &Recording<'a>,
@@ -86,6 +87,7 @@ fn write_recording<'a, F: Files>(
 }
 
 /// Writes the record of these lines, in place of what the file held.
+#[inline(never)]
 fn write_lines<F: Files>(
     files: &F,
     mut writer: F::Writer,

@@ -23,6 +23,7 @@ use sc_source::source::Source;
 use std::alloc::{AllocError, Global};
 
 /// Plays a record with the system of the named files.
+#[inline(never)]
 pub fn answer_replay<'a, F: Files, T: Tell>(
     alloc: Global,
     options: &ReplayOptions<'a>,

@@ -31,6 +31,7 @@ use std::thread::Threads;
 use std::time::Clock;
 
 /// Runs the system of the named files.
+#[inline(never)]
 pub fn answer_run<'a, R: Threads + Wait + Clock + Sync, F: Files, T: Tell>(
     rt: &R,
     alloc: Global,

@@ -22,6 +22,7 @@ use sc_source::source::Source;
 use std::alloc::{AllocError, Global};
 
 /// Plays the system of the named files in every order of turns.
+#[inline(never)]
 pub fn answer_search<'a, F: Files, W: Watch>(
     alloc: Global,
     options: &SearchOptions<'a>,

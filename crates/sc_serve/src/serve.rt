@@ -390,6 +390,7 @@ fn formatted<'a>(
 }
 
 /// Does with the system of the named files what is asked for.
+#[inline(never)]
 fn answer_on_files<'a, F: Files>(
     alloc: Global,
     command: &Command,

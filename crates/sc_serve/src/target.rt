@@ -18,6 +18,7 @@ const HEADING_BYTES: usize = b"scoop record 2\n".len();
 
 /// Sees to it that the record that is asked for can be written, if one is, and that it replaces nothing but an empty file or
 /// another record, which isn't one of the files that are read.
+#[inline(never)]
 pub fn check_target<'a, F: Files>(
     alloc: Global,
     files: &F,

@@ -75,6 +75,7 @@ impl<'r, R: rt::Files + Input + AllocGlobal> Files for SystemFiles<'r, R> {
 
     type Writer = SystemWriter<'r, R>;
 
+    #[inline(never)]
     fn reader(&self, name: &str) -> io::Result<SystemReader<R::File, R::Reader>>
         ensures source { IfOk result (λ reader. IsTrue (is_input reader) ↔ name.now ≡ codes "-") }
         ensures told { IfOk result (λ reader. IfSome (None) (λ (bytes : List ℕ). None ≡ Some bytes)) }

@@ -82,6 +82,7 @@ impl<'r, R: Files + AllocGlobal> SystemWriter<'r, R> {
     ///
     /// # Errors
     /// Where it is a folder or can't be opened to be written, and where memory runs out.
+    #[inline(never)]
     pub fn new(rt: &'r R, name: &str) -> io::Result<Self> {
         match fs::metadata(rt, name) {
             Ok(metadata) if metadata.is_file() => Self::over(rt, name, metadata),
@@ -99,6 +100,7 @@ impl<'r, R: Files + AllocGlobal> SystemWriter<'r, R> {
     }
 
     /// The same, of a file that is there: links stay, and so do its permissions.
+    #[inline(never)]
     fn over(rt: &'r R, name: &str, metadata: Metadata) -> io::Result<Self> {
         OpenOptions::new().write(true).open(rt, name)?;
         let path = fs::canonicalize(rt, name)?;
@@ -136,6 +138,7 @@ impl<'r, R: Files> SystemWriter<'r, R> {
     ///
     /// # Errors
     /// Where it can't be made or removed, and what is left then.
+    #[inline(never)]
     pub fn probe(mut self) -> Result<(), (io::Error, Remains)> {
         if self.replacing.is_none() {
             return Ok(());
@@ -157,6 +160,7 @@ impl<'r, R: Files> SystemWriter<'r, R> {
     ///
     /// # Errors
     /// Where the new file can't take the name: then it is as if nothing was written.
+    #[inline(never)]
     pub fn commit(mut self) -> Result<(), (io::Error, Remains)> {
         if self.file.is_none() {
             match self.begin() {
@@ -213,6 +217,7 @@ impl Replacing {
 }
 
 /// A new file beside that of the name, and its own name in `new`.
+#[inline(never)]
 fn create_part<R: Files>(rt: &R, name: &str, new: &mut String) -> io::Result<R::File> {
     for number in 0..NAMES {
         new.clear();
@@ -230,6 +235,7 @@ fn create_part<R: Files>(rt: &R, name: &str, new: &mut String) -> io::Result<R::
 }
 
 /// Removes a new file, and answers what is left.
+#[inline(never)]
 fn remove<R: Files>(rt: &R, new: String) -> Remains {
     match fs::remove_file(rt, new.as_str()) {
         Ok(()) => Remains::Unchanged,
@@ -238,6 +244,7 @@ fn remove<R: Files>(rt: &R, new: String) -> Remains {
 }
 
 /// How many bytes a file may have that this program writes, if the system lists that; else as many as it likes.
+#[inline(never)]
 fn longest_file<R: Files + AllocGlobal>(rt: &R) -> io::Result<u64> {
     match fs::read_to_string(rt, LIMITS) {
         Ok(limits) => Ok(file_size_in(limits.as_str())),
