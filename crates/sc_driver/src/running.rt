@@ -7,7 +7,6 @@ ghost use Rattle.sc_plant.specs.Bounded.{IsBoundedRun};
 ghost use Rattle.sc_plant.specs.Left.{IsOutOfMemory, SaysWhy, world_of};
 ghost use Rattle.sc_driver.specs.Execution.{IsThreadRun};
 
-use crate::execution::RunReport;
 use sc_code::Program;
 use sc_lockpass::HandlerNumber;
 use sc_model::Status;
@@ -17,13 +16,14 @@ use std::alloc::{AllocError, Global};
 use std::sync::Wait;
 use std::thread::Threads;
 
-/// A run that has ended: what its threads left, with the lines of its record, and the result.
+/// A run that has ended: what its threads left, with the lines of its record.
 #[derive(Drop)]
 pub struct Ended<'p> {
     pub left: Left<'p>,
     /// The number of turns that ended it: its limit, or fewer if its handlers have printed more than they may.
     pub turns: u32,
-    pub outcome: RunReport,
+    /// The status of each handler, in order of number.
+    pub statuses: Vec<Status>,
 }
 
 /// A gate that does nothing.
@@ -50,32 +50,21 @@ pub fn run_program<'p, R: Threads + Wait + Sync, W: Watch>(
     watch: &mut W,
 ) -> Result<Ended<'p>, RunFault<'p>>
     ensures left { IfOk result (λ ended. IsBoundedRun (image_of program.now) bounds ended.turns ended.left) }
-    ensures ran { IfOk result (λ ended. let outcome = ended.outcome in
-        ∥ IsThreadRun (image_of program.now) ended.turns ended.left.lines.items outcome.report.items outcome.statuses.items ∥₁) }
+    ensures ran { IfOk result (λ ended. let report = told.report (world_of ended.left) in
+        ∥ IsThreadRun (image_of program.now) ended.turns ended.left.lines.items report ended.statuses.items ∥₁) }
     ensures err { IfErr result (SaysWhy (image_of program.now)) }
     ensures alone { workers ≤ 1 → IfErr result IsOutOfMemory }
 {
     runs_are_one_threads();
     let (left, turns) = run_watched(rt, alloc, program, workers, bounds, &Ungated, watch)?;
-    match outcome_of_left(alloc, &left) {
-        Ok(outcome) => Ok(Ended {
+    match statuses_of_left(alloc, &left) {
+        Ok(statuses) => Ok(Ended {
             left,
             turns,
-            outcome,
+            statuses,
         }),
         Err(_) => Err(RunFault::OutOfMemory(Some(left))),
     }
-}
-
-/// The result of what a run left.
-fn outcome_of_left(alloc: Global, left: &Left<'_>) -> Result<RunReport, AllocError>
-    ensures report { IfOk result (λ outcome. outcome.report.items ≡ told.report (world_of left.now)) }
-    ensures statuses { IfOk result (λ outcome. outcome.statuses.items ≡ told.statuses (world_of left.now)) }
-{
-    Ok(RunReport {
-        report: left.report(alloc)?,
-        statuses: statuses_of_left(alloc, left)?,
-    })
 }
 
 /// The status of each handler, in order of number.

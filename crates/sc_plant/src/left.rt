@@ -1,14 +1,15 @@
 //! What a run on several threads leaves.
-ghost use Rattle.std.specs.Prelude.{◌≡◌, IfOk, slice_get};
+ghost use Rattle.std.specs.Prelude.{◌≡◌, IfOk};
 ghost use Rattle.sc_world.specs.Reports as told;
 ghost use Rattle.sc_plant.specs.Left.{world_of};
 
+use crate::reporting::append_handler;
 use sc_audit::RecordLine;
 use sc_lockpass::{HandlerNumber, Version};
 use sc_play::Region;
 use sc_request::Core;
 use sc_worklog::LoggedRegion;
-use sc_world::{is_busy, push_end, push_handler};
+use sc_world::{is_busy, push_end};
 use std::alloc::{AllocError, Global};
 
 /// What a run leaves: the region of each handler by number, with regions for those that there may be, and the core.
@@ -43,35 +44,38 @@ pub enum RunFault<'p> {
 }
 
 impl<'p> Left<'p> {
-    /// Each handler's line and output, and how the run has ended.
+    /// The report: each handler's line and output, and how the run has ended. Beside it, the lines of the record.
+    ///
+    /// What the handlers printed is moved out of their regions. At any time at most half of it is in memory twice.
     ///
     /// # Errors
     /// Memory ran out.
-    pub fn report(&self, alloc: Global) -> Result<Vec<u8>, AllocError>
-        ensures { IfOk result (λ report. report.items ≡ told.report (world_of self.now)) }
+    pub fn into_report(self, alloc: Global) -> Result<(Vec<u8>, Vec<RecordLine>), AllocError>
+        ensures report { IfOk result (λ parts. parts.0.items ≡ told.report (world_of self.entry)) }
+        ensures lines { IfOk result (λ parts. parts.1.items ≡ self.entry.lines.items) }
     {
+        let Left {
+            regions,
+            core,
+            lines,
+            ..
+        } = self;
+        let mut regions = regions.into_iter();
         let mut report = Vec::new(alloc);
         let mut ends_busy = false;
-        for handler in 0..self.core.handler_count() {
-            let Some(status) = self.core.status(handler as HandlerNumber) else {
+        for handler in 0..core.handler_count() {
+            let Some(status) = core.status(handler as HandlerNumber) else {
                 break;
             };
-            let refused = self.core.refused(handler as HandlerNumber).unwrap_or(0);
-            let output = self.output(handler);
-            push_handler(alloc, &mut report, handler, status, refused, output)?;
+            let refused = core.refused(handler as HandlerNumber).unwrap_or(0);
+            let output = match regions.next() {
+                Some(region) => region.into_output(),
+                None => Vec::new(alloc),
+            };
+            report = append_handler(alloc, report, handler, status, refused, output)?;
             ends_busy = ends_busy || is_busy(status);
         }
         push_end(&mut report, ends_busy)?;
-        Ok(report)
-    }
-
-    /// What a handler printed.
-    fn output(&self, handler: usize) -> &[u8]
-        ensures { result.now ≡ told.output_in (slice_get (world_of self.now).regions handler) }
-    {
-        match self.regions.get(handler) {
-            Some(region) => region.output(),
-            None => &[],
-        }
+        Ok((report, lines))
     }
 }

@@ -19,6 +19,7 @@ mod leaving;
 mod left;
 mod opening;
 mod outputs;
+mod reporting;
 mod running;
 mod scheduler;
 mod sharing;

@@ -1,10 +1,5 @@
 -- Lines that tell refusals, and why there is no answer.
-use Rattle.std.proofs.Common.{◌≡◌, ◌∙◌, ◌<◌, ◌⊎◌, inl, inr, ℕ, Bool, true, false, List, [], ◌++◌, Option, Some, None, Result, Ok, Err, IfOk, length, refl, ap, sym, subst}
-use Rattle.sc_model.specs.declared.status.Status.{Status}
-use Rattle.sc_plant.specs.declared.left.Left.{Left}
-use Rattle.sc_driver.specs.declared.auditing.AuditFault.{AuditFault}
-use Rattle.sc_driver.specs.Audits.{TellsWhy}
-use Rattle.sc_serve.specs.declared.serve.Exit.TheVariants.{Broken}
+use Rattle.std.proofs.Common.{◌≡◌, ◌∙◌, ◌<◌, ◌⊎◌, inl, inr, ℕ, List, [], Option, Some, None, Result, Ok, Err, IfOk, length, ap, sym, subst}
 use Rattle.std.specs.Option.{option_map}
 use Rattle.std.specs.Prelude.{IfErr, IfSome, OnOk}
 use Rattle.sc_audit.specs.declared.beginning.ReadFault.{ReadFault}
@@ -25,7 +20,7 @@ use Rattle.sc_frontend.specs.declared.rejection.Rejection.TheVariants as rejecti
 use Rattle.sc_arguments.specs.declared.arguments.Command.{Command}
 use Rattle.sc_arguments.specs.declared.arguments.RunOptions.{RunOptions}
 use Rattle.sc_class.specs.View.{root_of}
-use Rattle.sc_serve.specs.Answer.{IsAnswerOn, IsAnswerTo, IsBadRecord, IsJudged, IsOfFile, IsRanOf, IsRecordUnread, IsRefusalOf, IsRejectedFor, IsReplayOf, IsReplayOn, IsReplayTo, IsReplayed, IsRunOfSource, IsRunOn, IsSourceOf, IsUnansweredOn, IsUnplayed, IsUnplayedRecord, IsUnread, IsUnrun, IsUnrunOn, TellsBadRecord, TellsTooLong, audit_line, line_of, out_of_memory, too_long}
+use Rattle.sc_serve.specs.Answer.{IsAnswerOn, IsAnswerTo, IsBadRecord, IsOfFile, IsRanOf, IsRecordUnread, IsRefusalOf, IsRejectedFor, IsReplayOf, IsReplayOn, IsReplayTo, IsReplayed, IsRunOfSource, IsRunOn, IsSourceOf, IsUnansweredOn, IsUnplayed, IsUnplayedRecord, IsUnread, IsUnrun, IsUnrunOn, TellsBadRecord, TellsTooLong, line_of, out_of_memory, too_long}
 use Rattle.sc_serve.specs.Refusal.{Told, refusal_line, told}
 use Rattle.sc_source.proofs.JoiningLemmas.{long-source}
 use Rattle.sc_source.specs.Source.{File, joined, place_at}
@@ -222,14 +217,6 @@ pub too_long_to_run : (options : RunOptions) (names : List (List ℕ)) (held : L
     IfOk r (λ answer. IsRunOn options names held answer.text.items answer.exit answer.record)
 too_long_to_run options names held (Ok answer) told unkept = inr (told, unkept)
 too_long_to_run options names held (Err fault) told unkept = tt
-
--- an audit that doesn't say yes is told behind the report
-pub told_of_audit : (program : Image) (left : Left) (report line : List ℕ) (hows : List Status) (is_audited : Bool) (f told : AuditFault)
-    (output : List ℕ) → is_audited ≡ true → TellsWhy program left f → f ≡ told → line ≡ audit_line told → output ≡ report ++ line →
-    IsJudged program is_audited left report hows output Broken
-told_of_audit program left report line hows true f told output e why is said all =
-    inr (told, subst (TellsWhy program left) is why, all ∙ ap (λ t. report ++ t) said, refl)
-told_of_audit program left report line hows false f told output e why is said all = cc
 
 -- that a program isn't run is why the files aren't
 pub not_run : (names : List (List ℕ)) (held : List (Option (List ℕ))) (r : Result Answer Fault) → IfErr r IsUnrun → IfErr r (IsUnrunOn names held)

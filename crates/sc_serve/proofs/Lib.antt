@@ -1,4 +1,5 @@
 pub mod AnswerLemmas
 pub mod Headings
+mod RunReports
 pub mod SearchLemmas
 pub mod ServedLemmas

@@ -1,9 +1,11 @@
 //! What is answered to `run`.
 
-ghost use Rattle.std.specs.Prelude.{◌≡◌, IfErr, IfOk, None, map};
+ghost use Rattle.std.specs.Prelude.{◌≡◌, IfErr, IfOk, None, [], map};
 ghost use Rattle.sc_driver.specs.Execution.{IsThreadRun};
 ghost use Rattle.sc_lower.specs.Lowerings.{image_of};
 ghost use Rattle.sc_plant.specs.Bounded.{IsBoundedRun};
+ghost use Rattle.sc_plant.specs.Left.{world_of};
+ghost use Rattle.sc_world.specs.Reports as told;
 ghost use Rattle.std.specs.Option.{option_map};
 ghost use Rattle.sc_serve.specs.Answer.{IsJudged, IsRanOf, IsRunOfSource, IsRunOn, IsUnrun, IsUnrunOn, asked_of, bounds_of, kept_of};
 
@@ -17,7 +19,7 @@ use crate::watching::RunWatch;
 use sc_arguments::RunOptions;
 use sc_audit::RecordLine;
 use sc_code::Program;
-use sc_driver::{AuditFault, Ended, RunReport, audit, run_program};
+use sc_driver::{AuditFault, Ended, audit, run_program};
 use sc_explain_run::{Limit, Played, run_note};
 use sc_frontend::load_text;
 use sc_lockpass::{HandlerNumber, Version};
@@ -88,14 +90,17 @@ fn run_loaded<'a, R: Threads + Wait + Clock + Sync, T: Tell>(
     ensures object { IfOk result (λ answer. answer.object ≡ None) }
     ensures unrun { IfErr result IsUnrun }
 {
-    let Ended { left, outcome, .. } = run_watched(rt, alloc, program, options, source, teller)?;
-    let (text, exit, note) = told_of(alloc, program, options, source, &left, outcome)?;
+    let Ended { left, statuses, .. } = run_watched(rt, alloc, program, options, source, teller)?;
+    let (audited, exit) = judge(alloc, program, options, &left, statuses.as_slice())?;
+    let note = note_of(alloc, program, options, source, &left, statuses.as_slice())?;
+    let (mut text, lines) = left.into_report(alloc)?;
+    text.extend_from_slice(audited.as_slice())?;
     Ok(Answer {
         text,
         object: None,
         exit,
         note,
-        record: recording_of(options.record, left.lines),
+        record: recording_of(options.record, lines),
     })
 }
 
@@ -109,8 +114,8 @@ fn run_watched<'p, 'a, R: Threads + Wait + Clock + Sync, T: Tell>(
     teller: &mut T,
 ) -> Result<Ended<'p>, Fault<'a>>
     ensures left { IfOk result (λ ended. IsBoundedRun (image_of program.now) (bounds_of options.now) ended.turns ended.left) }
-    ensures ran { IfOk result (λ ended. let outcome = ended.outcome in
-        ∥ IsThreadRun (image_of program.now) ended.turns ended.left.lines.items outcome.report.items outcome.statuses.items ∥₁) }
+    ensures ran { IfOk result (λ ended. let report = told.report (world_of ended.left) in
+        ∥ IsThreadRun (image_of program.now) ended.turns ended.left.lines.items report ended.statuses.items ∥₁) }
     ensures unrun { IfErr result IsUnrun }
 {
     let tracer = tracer_of(alloc, source, program, Version::Two, options.trace)?;
@@ -128,8 +133,8 @@ fn run_bounded<'p, 'a, R: Threads + Wait + Clock + Sync, T: Tell>(
     watch: &mut RunWatch<'_, '_, R, T>,
 ) -> Result<Ended<'p>, Fault<'a>>
     ensures left { IfOk result (λ ended. IsBoundedRun (image_of program.now) (bounds_of options.now) ended.turns ended.left) }
-    ensures ran { IfOk result (λ ended. let outcome = ended.outcome in
-        ∥ IsThreadRun (image_of program.now) ended.turns ended.left.lines.items outcome.report.items outcome.statuses.items ∥₁) }
+    ensures ran { IfOk result (λ ended. let report = told.report (world_of ended.left) in
+        ∥ IsThreadRun (image_of program.now) ended.turns ended.left.lines.items report ended.statuses.items ∥₁) }
     ensures unrun { IfErr result IsUnrun }
 {
     let bounds = Bounds {
@@ -143,55 +148,31 @@ fn run_bounded<'p, 'a, R: Threads + Wait + Clock + Sync, T: Tell>(
     }
 }
 
-/// What is reported of a run: standard output, the status, and standard error.
-fn told_of(
-    alloc: Global,
-    program: &Program,
-    options: &RunOptions<'_>,
-    source: &Source,
-    left: &Left<'_>,
-    outcome: RunReport,
-) -> Result<(Vec<u8>, Exit, Vec<u8>), AllocError>
-    ensures { IfOk result (λ told. IsJudged (image_of program.now) options.now.is_audited left.now
-        outcome.report.items outcome.statuses.items told.0.items told.1) }
-{
-    let RunReport { report, statuses } = outcome;
-    let (text, exit) = judge(alloc, program, options, left, report, statuses.as_slice())?;
-    let note = note_of(alloc, program, options, source, left, statuses.as_slice())?;
-    Ok((text, exit, note))
-}
-
-/// The report, with the answer of an audit if one is asked for, and the status.
+/// What an audit adds to the report, if one is asked for, and the status.
 fn judge(
     alloc: Global,
     program: &Program,
     options: &RunOptions<'_>,
     left: &Left<'_>,
-    mut text: Vec<u8>,
     statuses: &[Status],
 ) -> Result<(Vec<u8>, Exit), AllocError>
-    ensures { IfOk result (λ told.
-        IsJudged (image_of program.now) options.now.is_audited left.now text.items statuses.now told.0.items told.1) }
+    ensures { IfOk result (λ judged.
+        IsJudged (image_of program.now) options.now.is_audited left.now [] statuses.now judged.0.items judged.1) }
 {
     let exit = exit_of(statuses);
     if !options.is_audited {
-        return Ok((text, exit));
+        return Ok((Vec::new(alloc), exit));
     }
     match audit(alloc, program, left) {
-        Ok(()) => {
-            text.extend_from_slice(b"audit yes\n")?;
-            Ok((text, exit))
-        }
+        Ok(()) => Ok((Vec::from_slice(alloc, b"audit yes\n")?, exit)),
         Err(AuditFault::OutOfMemory) => Err(AllocError),
         Err(AuditFault::BadRecord { line }) => {
             let said = format!(in alloc; "audit A1 BadRecord {line}\n")?;
-            text.extend_from_slice(said.as_bytes())?;
-            Ok((text, Exit::Broken))
+            Ok((said.into_bytes(), Exit::Broken))
         }
         Err(AuditFault::Differs { handler }) => {
             let said = format!(in alloc; "audit A2 Differs {handler}\n")?;
-            text.extend_from_slice(said.as_bytes())?;
-            Ok((text, Exit::Broken))
+            Ok((said.into_bytes(), Exit::Broken))
         }
     }
 }

@@ -205,8 +205,8 @@ fn reported<R: Abort + Threads + Wait + Clock + Sync>(
     gate: &Waiting<'_, R>,
 ) -> Result<String, Fail> {
     match run(rt, alloc, program, workers, LIMIT, gate) {
-        Ok(left) => audited(rt, alloc, program, &left),
-        Err(RunFault::OutOfMemory(Some(left))) => match replayed(rt, alloc, program, &left) {
+        Ok(left) => audited(rt, alloc, program, left),
+        Err(RunFault::OutOfMemory(Some(left))) => match replayed(rt, alloc, program, left) {
             Ok(_) => Err(Fail::from(AllocError)),
             told => told,
         },
@@ -224,9 +224,9 @@ fn audited<R: Abort>(
     rt: &R,
     alloc: Global,
     program: &Program,
-    left: &Left<'_>,
+    left: Left<'_>,
 ) -> Result<String, Fail> {
-    match audit(alloc, program, left) {
+    match audit(alloc, program, &left) {
         Ok(()) => replayed(rt, alloc, program, left),
         Err(AuditFault::OutOfMemory) => Err(Fail::from(AllocError)),
         Err(_) => panic!(rt; "the audit of a run doesn't say yes"),
@@ -238,13 +238,12 @@ fn replayed<R: Abort>(
     rt: &R,
     alloc: Global,
     program: &Program,
-    left: &Left<'_>,
+    left: Left<'_>,
 ) -> Result<String, Fail> {
-    let report = text_of(left.report(alloc)?)?;
-    let record = Record {
-        version: left.version,
-        lines: Vec::from_slice(alloc, left.lines.as_slice())?,
-    };
+    let version = left.version;
+    let (report, lines) = left.into_report(alloc)?;
+    let report = text_of(report)?;
+    let record = Record { version, lines };
     let RunReport { report: told, .. } = replay(alloc, program, &record)?;
     let told = text_of(told)?;
     expect_text(rt, &report, &told, "a replay");
