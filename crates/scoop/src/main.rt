@@ -36,8 +36,16 @@ fn main(rt: HostRuntime) -> ExitCode {
     ExitCode::from(status)
 }
 
-/// The arguments of the command line, and what is open in place of standard streams that were closed.
-fn begin(rt: &HostRuntime) -> Result<(Vec<String>, [Option<File>; 3]), Fault<'static>> {
+/// What is open in place of standard streams that were closed.
+#[derive(Drop)]
+struct Fillers {
+    input: Option<File>,
+    output: Option<File>,
+    error: Option<File>,
+}
+
+/// The arguments of the command line, and what fills closed streams.
+fn begin(rt: &HostRuntime) -> Result<(Vec<String>, Fillers), Fault<'static>> {
     match fill_closed(rt) {
         Ok(fillers) => Ok((command_line(rt)?, fillers)),
         Err(error) => Err(Fault::CannotRead(NOTHING, FileFault::Unreadable(error))),
@@ -49,15 +57,22 @@ fn begin(rt: &HostRuntime) -> Result<(Vec<String>, [Option<File>; 3]), Fault<'st
 ///
 /// # Errors
 /// One is closed, and none can be opened in its place; or memory runs out.
-fn fill_closed(rt: &HostRuntime) -> io::Result<[Option<File>; 3]> {
+fn fill_closed(rt: &HostRuntime) -> io::Result<Fillers> {
     if fs::metadata(rt, OPEN_FILES).is_err() {
-        return Ok([None, None, None]);
+        return Ok(Fillers {
+            input: None,
+            output: None,
+            error: None,
+        });
     }
-    Ok([
-        fill(rt, "/proc/self/fd/0", true)?,
-        fill(rt, "/proc/self/fd/1", false)?,
-        fill(rt, "/proc/self/fd/2", false)?,
-    ])
+    let input = fill(rt, "/proc/self/fd/0", true)?;
+    let output = fill(rt, "/proc/self/fd/1", false)?;
+    let error = fill(rt, "/proc/self/fd/2", false)?;
+    Ok(Fillers {
+        input,
+        output,
+        error,
+    })
 }
 
 /// Opens a file in place of this one, if that is closed; those of lower numbers are open. As before it can't be read, if
