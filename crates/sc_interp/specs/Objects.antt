@@ -1,4 +1,4 @@
--- The objects of a system that those of a store are.
+-- The objects of a store, as objects of a system.
 use Rattle.std.specs.Prelude.{ℕ, List, [], ◌∷◌, map, length}
 use Rattle.sc_tree.specs.Plain.{System}
 use Rattle.sc_class.specs.Tables.Features.{features}
@@ -22,6 +22,6 @@ object_in s o =
 abbrev pub objects_in : System → List PlainObject → List Object
 objects_in s os = map (object_in s) os
 
--- its class, and how many attributes it has
+-- the object's class, and the number of its attributes
 abbrev pub shape_of : PlainObject → ℕ × ℕ
 shape_of o = (o.class, length o.attributes)

@@ -16,19 +16,19 @@ use Rattle.sc_code.specs.declared.program.FeatureCode.TheVariants as version
 use Rattle.sc_code.specs.Programs.{pool_of}
 use Rattle.sc_acts.specs.Tables.{version_in}
 
--- the first class is the second one, or its table names that
+-- the first class is the second one, or its table says that it conforms to the second one
 abbrev pub conforms_in : Image → ℕ → ℕ → Bool
 conforms_in p k j =
     k == j || option_map_or (λ (c : ClassCode). option_map_or (λ b. b) (slice_get c.conforms.items j) false)
     (slice_get p.classes.items k) false
 
--- the number of the attribute that it is
+-- the number of the attribute, if the feature is one
 abbrev pub attribute_in : Option FeatureCode → Option ℕ
 attribute_in (Some (version.Attribute n)) = Some n
 attribute_in (Some (version.Routine n)) = None
 attribute_in None = None
 
--- whether it is a routine, where it is a feature
+-- whether the feature is a routine, if there is one
 abbrev pub is_routine_in : Option FeatureCode → Option Bool
 is_routine_in (Some (version.Attribute n)) = Some false
 is_routine_in (Some (version.Routine n)) = Some true
@@ -38,11 +38,12 @@ abbrev pub is_routine : FeatureKind → Bool
 is_routine (tree.Attribute d) = false
 is_routine (tree.Routine r) = true
 
--- Which classes conform to each other is read from the tables.
+-- The tables say which classes conform to each other.
 abbrev pub TellsConformance : System → Image → Type 0
 TellsConformance s p = (k j : ℕ) → conforms_in p k j ≡ class_conforms s (class.Declared k) (class.Declared j)
 
--- The same, which attribute of a class has a name, and whether its feature of that name is a routine.
+-- The tables say which classes conform to each other, which attribute of a class has a name, and whether the feature
+-- of this name is a routine.
 pub record Serves (s : System) (p : Image) : Type 0 where
   pub conforms : TellsConformance s p
   pub attributes : (k x : ℕ) (name : List ℕ) → slice_get (pool_of p.pool).names x ≡ Some name →
