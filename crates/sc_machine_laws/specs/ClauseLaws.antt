@@ -1,4 +1,4 @@
--- What is proved of evaluations by their parts, and of steps of texts without `old` and of contracts.
+-- Laws of evaluations by their parts, and of the steps of tasks without `old` and of tasks of contracts.
 use Rattle.std.specs.Prelude.{ℕ, ◌≡◌, Bool, true, List, [], ◌∷◌, ◌++◌, Some, Contains}
 use Rattle.sc_tree.specs.Plain.{System, Clause}
 use Rattle.sc_model.specs.Values.{Reference, Value, Operand}
@@ -17,104 +17,105 @@ use Rattle.sc_machine_laws.specs.Texts.{HasNoOld, InstrsHaveNoOld, ClauseHasNoTe
 
 -- ---- evaluations
 
--- A clause whose evaluation by its parts ends with true holds in the world.
+-- If the evaluation of a clause by its parts ends with true, the clause holds in the world.
 abbrev pub EndsTrueHolds : Type 1
 EndsTrueHolds = (s : System) (w : World) (f : Frame) (k : Clause) (M : ℕ → Type 0) → f.olds ≡ [] →
     EndsTrue s M (λ j. (w.handlers j).objects) f.current
     (clause_point (w.handlers f.current.handler).objects f.routine.contract f.environment f.result k) →
     Holds s w f k
 
--- What a call gives depends on the objects of those handlers alone that may be asked.
+-- The value of a call depends only on the objects of the handlers that may be asked.
 abbrev pub AnswersLocally : Type 1
 AnswersLocally = (s : System) (M : ℕ → Type 0) (O N : ℕ → List Object) → ((k : ℕ) → M k → O k ≡ N k) →
     (r : Reference) (x : List ℕ) (us : List Operand) (v : Value) → Answers s M O r x us v → Answers s M N r x us v
 
--- So does the point that a text comes to.
+-- Whether a text reaches a point depends only on those objects.
 abbrev pub ReachesLocally : Type 1
 ReachesLocally = (s : System) (M : ℕ → Type 0) (O N : ℕ → List Object) → ((k : ℕ) → M k → O k ≡ N k) →
     (me : Reference) (p q : Point) → Reaches s M O me p q → Reaches s M N me p q
 
--- So does the evaluation of a clause.
+-- Whether an evaluation ends with true depends only on those objects.
 abbrev pub EndsTrueLocally : Type 1
 EndsTrueLocally = (s : System) (M : ℕ → Type 0) (O N : ℕ → List Object) → ((k : ℕ) → M k → O k ≡ N k) →
     (me : Reference) (p : Point) → EndsTrue s M O me p → EndsTrue s M N me p
 
--- A call gives the same where more handlers may be asked.
+-- A call keeps its value if more handlers may be asked.
 abbrev pub AnswersMore : Type 1
 AnswersMore = (s : System) (M N : ℕ → Type 0) (O : ℕ → List Object) → ((k : ℕ) → M k → N k) →
     (r : Reference) (x : List ℕ) (us : List Operand) (v : Value) → Answers s M O r x us v → Answers s N O r x us v
 
--- A text comes to the same point.
+-- A text still reaches its point if more handlers may be asked.
 abbrev pub ReachesMore : Type 1
 ReachesMore = (s : System) (M N : ℕ → Type 0) (O : ℕ → List Object) → ((k : ℕ) → M k → N k) →
     (me : Reference) (p q : Point) → Reaches s M O me p q → Reaches s N O me p q
 
--- An evaluation that ends with true still does.
+-- An evaluation that ends with true still does if more handlers may be asked.
 abbrev pub EndsTrueMore : Type 1
 EndsTrueMore = (s : System) (M N : ℕ → Type 0) (O : ℕ → List Object) → ((k : ℕ) → M k → N k) →
     (me : Reference) (p : Point) → EndsTrue s M O me p → EndsTrue s N O me p
 
--- ---- evaluations that ask those for whom a test is true
+-- ---- evaluations that ask the handlers for which a test is true
 
--- the handlers for which the test is true
+-- The test is true for the handler `k`.
 abbrev pub Told : (ℕ → Bool) → ℕ → Type 0
 Told may k = may k ≡ true
 
--- A clause whose evaluation by its parts ends with true holds.
+-- If the evaluation of a clause by its parts ends with true, the clause holds.
 abbrev pub TrueEvaluationsHold : Type 0
 TrueEvaluationsHold = (s : System) (w : World) (f : Frame) (k : Clause) (may : ℕ → Bool) → f.olds ≡ [] →
     EndsTrue s (Told may) (λ j. (w.handlers j).objects) f.current
     (clause_point (w.handlers f.current.handler).objects f.routine.contract f.environment f.result k) →
     Holds s w f k
 
--- What a call gives depends on the objects of those handlers alone that may be asked.
+-- The value of a call depends only on the objects of the handlers for which the test is true.
 abbrev pub AnswersAreLocal : Type 0
 AnswersAreLocal = (s : System) (may : ℕ → Bool) (O N : ℕ → List Object) → ((k : ℕ) → may k ≡ true → O k ≡ N k) →
     (r : Reference) (x : List ℕ) (us : List Operand) (v : Value) → Answers s (Told may) O r x us v →
     Answers s (Told may) N r x us v
 
--- So does the evaluation of a clause.
+-- Whether an evaluation ends with true depends only on those objects.
 abbrev pub EvaluationsAreLocal : Type 0
 EvaluationsAreLocal = (s : System) (may : ℕ → Bool) (O N : ℕ → List Object) → ((k : ℕ) → may k ≡ true → O k ≡ N k) →
     (me : Reference) (p : Point) → EndsTrue s (Told may) O me p → EndsTrue s (Told may) N me p
 
--- An evaluation that ends with true still does where more handlers may be asked.
+-- An evaluation that ends with true still does if more handlers may be asked.
 abbrev pub EvaluationsMayAskMore : Type 0
 EvaluationsMayAskMore = (s : System) (may more : ℕ → Bool) (O : ℕ → List Object) →
     ((k : ℕ) → may k ≡ true → more k ≡ true) →
     (me : Reference) (p : Point) → EndsTrue s (Told may) O me p → EndsTrue s (Told more) O me p
 
--- ---- what follows
+-- ---- tasks without `old`
 
--- A step of a task without `old` doesn't depend on what follows it, nor on the `old`s.
+-- The step of a task without `old` depends neither on the tasks after it nor on the values of `old`s.
 abbrev pub StepExtends : Type 0
 StepExtends = (s : System) (me : Reference) (os : List Operand) (ts : List Task) (p : Point) (t : Task)
     (rest : List Task) → p.tasks ≡ t ∷ rest → TaskHasNoOld t →
     step s me (extended os ts p) ≡ extended_step os ts (step s me p)
 
--- the end of a step
+-- the point after the step
 abbrev pub point_after : Step → Point
 point_after (Goes p) = p
 point_after (Does a p) = p
 
--- A step of tasks without `old` leaves such tasks.
+-- If no task has an `old`, none has one after a step.
 abbrev pub StepKeepsNoOld : Type 0
 StepKeepsNoOld = (s : System) (me : Reference) (p : Point) → Each TaskHasNoOld p.tasks →
     Each TaskHasNoOld (point_after (step s me p)).tasks
 
--- In an accepted system neither the body of a routine nor its precondition has an `old`.
+-- Neither the body of the routine nor its precondition has an `old`.
 pub record IsWithoutOld (r : Routine) : Type 0 where
   pub body : InstrsHaveNoOld r.body
   pub require : (k : Clause) → Contains r.require k → HasNoOld k.condition
 
--- So is each routine that is found by a name.
+-- In an accepted system this holds of each routine that is found by a name.
 abbrev pub TextsAreWithoutOld : Type 0
 TextsAreWithoutOld = WhereAccepted λ s root. (k : ℕ) (x : List ℕ) (r : Routine) → routine_named s k x ≡ Some r →
     IsWithoutOld r
 
 -- ---- contracts
 
--- Tasks of a contract come before these, and nothing else has changed but the `old`s.
+-- At `q` tasks of a contract come before the tasks `rest`. The environment, the Result and the objects are those of
+-- `p`.
 pub record StaysInContract (rest : List Task) (p q : Point) : Type 0 where
   pub tasks : List Task
   pub tasks_are : q.tasks ≡ tasks ++ rest
@@ -123,7 +124,7 @@ pub record StaysInContract (rest : List Task) (p q : Point) : Type 0 where
   pub result_is : q.result ≡ p.result
   pub objects_are : q.objects ≡ p.objects
 
--- So it is after the step, if it isn't a failure. A contract does nothing that is seen but calls, the start and a
+-- The step stays in the contract, unless it fails. Its visible acts are only calls, requests, the start and a
 -- refusal.
 abbrev pub StepsInContract : List Task → Point → Step → Type 0
 StepsInContract rest p (Goes q) = StaysInContract rest p q
@@ -134,13 +135,13 @@ StepsInContract rest p (Does (Refuses k) q) = StaysInContract rest p q
 StepsInContract rest p (Does (Fails why) q) = Unit {0}
 StepsInContract rest p (Does a q) = ⊥
 
--- A step of a contract's task leads to such tasks.
+-- If all tasks before `rest` are of a contract, the next step stays in the contract.
 abbrev pub StepOfContract : Type 0
 StepOfContract = (s : System) (me : Reference) (t : Task) (ts rest : List Task) (p : Point) → p.tasks ≡ t ∷ ts ++ rest →
     IsOfContract t → Each IsOfContract ts → StepsInContract rest p (step s me p)
 
--- In an accepted system no object test is in a precondition, in a postcondition or in what its `old`s keep: each
--- task of a contract is one.
+-- The precondition, the postcondition and the operands of its `old`s have no object test. So all their tasks are
+-- tasks of a contract.
 pub record IsWithoutTests (r : Routine) : Type 0 where
   pub require : Each ClauseHasNoTest r.require
   pub olds : Each HasNoTest (olds_of_clauses r.ensure)
@@ -148,7 +149,7 @@ pub record IsWithoutTests (r : Routine) : Type 0 where
   pub before : Each IsOfContract (requires r.require ++ keeps_olds (olds_of_clauses r.ensure))
   pub behind : Each IsOfContract (ensures 0 r.ensure)
 
--- So is each routine that is found by a name.
+-- In an accepted system this holds of each routine that is found by a name.
 abbrev pub TextsAreWithoutTests : Type 0
 TextsAreWithoutTests = WhereAccepted λ s root. (k : ℕ) (x : List ℕ) (r : Routine) → routine_named s k x ≡ Some r →
     IsWithoutTests r

@@ -1,6 +1,6 @@
--- The result of an evaluation, by its parts: within one text it goes from a point to another, and a call has a
--- value. It is over the objects of all handlers at once, with the bodies of functions and without their contracts,
--- as a clause is evaluated; but each routine is by itself.
+-- The result of an evaluation, by its parts: the text of one routine goes from a point to another, and a call has a
+-- value. As in the evaluation of a clause, the objects of all handlers are read at once, and functions run without
+-- their contracts. But here each routine is evaluated separately.
 use Rattle.std.specs.Prelude.{ℕ, ◌≡◌, Bool, true, false, List, [], ◌∷◌, ◌++◌, Option, Some}
 use Rattle.sc_tree.specs.Plain as tree
 use Rattle.sc_tree.specs.Plain.{System, Clause, DeclaredType, RoutineDeclaration}
@@ -17,7 +17,7 @@ use Rattle.sc_model.specs.Exits.{is_unset_value}
 use Rattle.sc_model.specs.Clauses.{body_point}
 
 mutual
-  -- The call of a feature of the object gives the value, where `O` are the objects of each handler. `M` says which
+  -- The call of a feature of the object gives the value. `O` are the objects of each handler, and `M` says which
   -- handlers may be asked.
   pub data Answers (s : System) (M : ℕ → Type 0) (O : ℕ → List Object) : Reference → List ℕ → List Operand → Value →
       Type 0 where
@@ -35,7 +35,7 @@ mutual
         is_unset_value u.value u.type ≡ false →
         Answers s M O r x us u.value
 
-  -- The text of one routine, on Current, goes from the first point to the second. Calls are done at once.
+  -- The text of one routine, on Current, goes from the first point to the second. A call gives its value at once.
   pub data Reaches (s : System) (M : ℕ → Type 0) (O : ℕ → List Object) : Reference → Point → Point → Type 0 where
     begins : {me : Reference} {p : Point} → Reaches s M O me p p
     goes : {me : Reference} {p q r : Point} → Reaches s M O me p q → step s me q ≡ Goes r → Reaches s M O me p r
@@ -49,7 +49,7 @@ mutual
 
 -- ---- clauses of a precondition
 
--- a clause before its evaluation, in the text of the contract, where names stand for these
+-- the point before the evaluation of the clause `k`, in the text of the contract, with the bindings `bs`
 abbrev pub clause_point : List Object → Text → List Binding → Option Operand → Clause → Point
 clause_point objects t bs result k = record {
   objects = objects;
@@ -61,7 +61,7 @@ clause_point objects t bs result k = record {
   values = [];
 }
 
--- From this point the evaluation ends with true.
+-- From the point `p` the evaluation ends with true.
 pub record EndsTrue (s : System) (M : ℕ → Type 0) (O : ℕ → List Object) (me : Reference) (p : Point) : Type 0 where
   pub end : Point
   pub type : EntityType
@@ -70,13 +70,13 @@ pub record EndsTrue (s : System) (M : ℕ → Type 0) (O : ℕ → List Object) 
   pub tasks_are : end.tasks ≡ []
   pub values_are : end.values ≡ operand (Boolean true) type ∷ others
 
--- ---- what follows
+-- ---- added tasks
 
--- the point with these tasks after its own, and other `old`s
+-- the point with the tasks `ts` after its own, and with `os` as the values of its `old`s
 abbrev pub extended : List Operand → List Task → Point → Point
 extended os ts p = record p { tasks = p.tasks ++ ts; olds = os }
 
--- So is a step; but a failure drops what is left to do.
+-- the step to the point that is extended in this way; a failure is unchanged
 abbrev pub extended_step : List Operand → List Task → Step → Step
 extended_step os ts (Goes p) = Goes (extended os ts p)
 extended_step os ts (Does (Fails why) p) = Does (Fails why) p

@@ -1,5 +1,5 @@
--- How frames that evaluate clauses of a precondition, and frames of pure functions, stand beside the evaluation by the
--- definition.
+-- How frames that evaluate clauses of a precondition, and frames of pure functions, follow the evaluation by its
+-- parts.
 use Rattle.std.specs.Prelude.{ℕ, ◌≡◌, ◌≢◌, ◌<◌, ◌⊎◌, Bool, true, false, List, [], ◌∷◌, ◌++◌, Option, Some, None, is_some, length, take, Contains}
 use Rattle.sc_tree.specs.Plain.{System, Clause}
 use Rattle.sc_rules.specs.declared.entity_types.entity_type.EntityType.{EntityType}
@@ -28,39 +28,39 @@ use Rattle.sc_machine_laws.specs.Texts.{TaskHasNoOld, IsOfContract}
 abbrev pub objects_of : World → ℕ → List Object
 objects_of w k = (w.handlers k).objects
 
--- the handlers whose objects an evaluation on this one may ask: itself and these
+-- An evaluation on the handler `h` may ask `k`: `k` is `h` itself or one of `asked`.
 abbrev pub MayAsk : ℕ → List ℕ → ℕ → Type 0
 MayAsk h asked k = (k ≡ h) ⊎ Contains asked k
 
--- itself alone
+-- `k` is the handler `h` itself.
 abbrev pub Own : ℕ → ℕ → Type 0
 Own h k = k ≡ h
 
--- the formals of a frame with its actuals: the first names that are known in it
+-- the formals of a frame with its actuals: the first names of its environment
 abbrev pub bound_in : Frame → List Binding
 bound_in f = take (length f.routine.text.formals) f.environment
 
--- these are the routine's formals with some actuals
+-- `bs` binds the formals of the routine to some actuals.
 abbrev pub AreBound : System → Routine → List Binding → Type 0
 AreBound s r bs = (vs : List Value) × (formals_bound s r.text.formals 0 r.text.formals vs ≡ Some bs)
 
--- ---- what is left of a routine
+-- ---- the tasks left of a routine
 
--- behind its body
+-- the tasks after its body
 abbrev pub behind_body : Routine → List Task
 behind_body r = Forget (length r.text.formals) ∷ In r.contract ∷ ensures 0 r.ensure
 
--- its body, and what is behind
+-- the tasks of its body, and those after it
 abbrev pub body_tasks : Routine → List Task
 body_tasks r = In r.text ∷ Declare r.locals ∷ Do r.body ∷ behind_body r
 
--- behind a clause of its precondition: the clauses that are left, the `old`s, the body
+-- the tasks after a clause of its precondition: the other clauses, the `old`s, the body
 abbrev pub behind_clause : Routine → List Clause → List Task
 behind_clause r ks = Require ks ∷ keeps_olds (olds_of_clauses r.ensure) ++ body_tasks r
 
 -- ---- points: an evaluation within one text
 
--- The evaluation that began at `start` has come here; behind it these tasks are left.
+-- The evaluation that began at `start` has reached `p`. After it, the tasks `ts` are left.
 pub record IsAt (s : System) (M : ℕ → Type 0) (O : ℕ → List Object) (me : Reference) (start : Point) (ts : List Task)
     (p : Point) : Type 0 where
   pub at : Point
@@ -68,7 +68,7 @@ pub record IsAt (s : System) (M : ℕ → Type 0) (O : ℕ → List Object) (me 
   pub stands : p ≡ extended p.olds ts at
   pub without_old : Each TaskHasNoOld at.tasks
 
--- It has made this call, and what the call gives is still to come.
+-- The evaluation that began at `start` has made the call or request `a`. At `p` its value hasn't come yet.
 pub record HasDone (s : System) (M : ℕ → Type 0) (O : ℕ → List Object) (me : Reference) (start : Point) (ts : List Task)
     (a : Act) (p : Point) : Type 0 where
   pub before : Point
@@ -83,7 +83,7 @@ pub record HasDone (s : System) (M : ℕ → Type 0) (O : ℕ → List Object) (
 abbrev pub start_of : System → (ℕ → List Object) → Reference → Routine → List Binding → Point
 start_of s O me r bs = body_point s r (O me.handler) bs
 
--- It stands in its precondition or its `old`s, in its body, or behind it.
+-- At `p` the function is in its precondition or its `old`s, in its body, or after its body.
 pub data PureAt (s : System) (O : ℕ → List Object) (me : Reference) (r : Routine) (bs : List Binding) (p : Point) :
     Type 0 where
   before : (ts : List Task) → p.tasks ≡ ts ++ body_tasks r → Each IsOfContract ts → p.environment ≡ bs →
@@ -92,8 +92,8 @@ pub data PureAt (s : System) (O : ℕ → List Object) (me : Reference) (r : Rou
   behind : {e : Point} → Reaches s (Own me.handler) O me (start_of s O me r bs) e → e.tasks ≡ [] →
       p.result ≡ e.result → Each IsOfContract p.tasks → PureAt s O me r bs p
 
--- The same, where it has made a call on its handler. `For` says of object, name and actuals what is so where the call
--- stands in the body.
+-- The function is at one of these places, and has made a call on its own handler. If the call is in the body, `For`
+-- holds of its object, name and actuals.
 pub data PureCalls (s : System) (O : ℕ → List Object) (me : Reference) (r : Routine) (bs : List Binding)
     (t : EntityType) (For : Reference → List ℕ → List Operand → Type 0) (p : Point) : Type 0 where
   before : (ts : List Task) → p.tasks ≡ ts ++ body_tasks r → Each IsOfContract ts → p.environment ≡ bs →
@@ -106,11 +106,11 @@ pub data PureCalls (s : System) (O : ℕ → List Object) (me : Reference) (r : 
 
 -- ---- points: a precondition
 
--- the clause of the routine before its evaluation, where these are the actuals
+-- the point of the routine before the evaluation of its clause `k`, with the actuals `bs`
 abbrev pub clause_of : (ℕ → List Object) → Reference → Routine → List Binding → Clause → Point
 clause_of O me r bs k = clause_point (O me.handler) r.contract bs (result_of r.text.result) k
 
--- between clauses, where these are left
+-- the point between clauses of the precondition, with the clauses `ks` left
 abbrev pub between_point : (ℕ → List Object) → Reference → Routine → List Binding → List Clause → Point
 between_point O me r bs ks = record {
   objects = O me.handler;
@@ -122,12 +122,12 @@ between_point O me r bs ks = record {
   values = [];
 }
 
--- these clauses hold
+-- The evaluation of each of these clauses ends with true.
 abbrev pub Hold : System → (ℕ → Type 0) → (ℕ → List Object) → Reference → Routine → List Binding → List Clause →
     Type 0
 Hold s M O me r bs ks = Each (λ (k : Clause). EndsTrue s M O me (clause_of O me r bs k)) ks
 
--- Some clauses hold; it stands before the others, or inside the next one.
+-- Some clauses hold. At `p` the routine is before the other clauses, or inside the next one.
 pub data ClausesAt (s : System) (M : ℕ → Type 0) (O : ℕ → List Object) (me : Reference) (r : Routine)
     (bs : List Binding) (p : Point) : Type 0 where
   between : (done ks : List Clause) → r.require ≡ done ++ ks → Hold s M O me r bs done →
@@ -135,7 +135,7 @@ pub data ClausesAt (s : System) (M : ℕ → Type 0) (O : ℕ → List Object) (
   inside : (done ks : List Clause) (k : Clause) → r.require ≡ done ++ k ∷ ks → Hold s M O me r bs done → p.olds ≡ [] →
       IsAt s M O me (clause_of O me r bs k) (Required k ∷ behind_clause r ks) p → ClausesAt s M O me r bs p
 
--- Inside a clause it has done this, a call or a request.
+-- Inside a clause the routine has made the call or request `a`.
 pub data ClauseDone (s : System) (M : ℕ → Type 0) (O : ℕ → List Object) (me : Reference) (r : Routine)
     (bs : List Binding) (a : Act) (p : Point) : Type 0 where
   inside : (done ks : List Clause) (k : Clause) → r.require ≡ done ++ k ∷ ks → Hold s M O me r bs done → p.olds ≡ [] →
@@ -143,18 +143,18 @@ pub data ClauseDone (s : System) (M : ℕ → Type 0) (O : ℕ → List Object) 
 
 -- ---- frames
 
--- The frame runs what was called of the object by this name, with these actuals.
+-- The frame runs the routine of the object `o` with the name `x`, with the actuals `vs`.
 pub record IsFor (s : System) (o : Reference) (x : List ℕ) (vs : List Value) (c : Frame) : Type 0 where
   pub current_is : c.current ≡ o
   pub routine_is : routine_named s o.class x ≡ Some c.routine
   pub bound_is : formals_bound s c.routine.text.formals 0 c.routine.text.formals vs ≡ Some (bound_in c)
 
--- the frame above, if there is one, is for this call
+-- There is a frame above, and it is for this call.
 abbrev pub AboveIsFor : System → Option Frame → Reference → List ℕ → List Operand → Type 0
 AboveIsFor s None o x us = ⊥
 AboveIsFor s (Some c) o x us = IsFor s o x (values_of us) c
 
--- how a pure function's frame in this stage, below this one, stands beside its evaluation
+-- The frame of a pure function, in this stage and below the frame `above`, follows its evaluation.
 abbrev pub FollowsPure : System → (ℕ → List Object) → Option Frame → Frame → Stage → Type 0
 FollowsPure s O above f Runs = PureAt s O f.current f.routine (bound_in f) (point_of f (O f.current.handler))
 FollowsPure s O above f (InCall (Some t)) =
@@ -163,8 +163,8 @@ FollowsPure s O above f stage = ⊥
 
 -- ---- other handlers
 
--- Nothing of the handler k changes as long as h asks nothing of it: it has failed, or has nothing to do and h alone may
--- post to it, or waits and h alone may call it back.
+-- The handler `k` doesn't change as long as `h` asks nothing of it: `k` has failed; or it has nothing to do and
+-- only `h` may post to it; or it waits and only `h` may call it back.
 pub data IsQuiet (w : World) (h k : ℕ) : Type 0 where
   failed : is_some (w.handlers k).failure ≡ true → IsQuiet w h k
   idle : (w.handlers k).stack ≡ [] → (w.handlers k).queue ≡ [] → w.rights.queue k ≡ Some h → IsQuiet w h k
@@ -174,17 +174,17 @@ abbrev pub is_called : Origin → Bool
 is_called (Called c) = true
 is_called (Requested r) = false
 
--- no request began the frame, and it runs a pure function
+-- The frame runs a pure function, and a call on its own handler began it, not a request.
 abbrev pub IsCalledPure : (RoutineName → Bool) → Frame → Type 0
 IsCalledPure pure f = (is_called f.origin ≡ true) × (pure (name_of f.routine) ≡ true)
 
--- what h asks for a clause
+-- the request of `h` for a clause
 abbrev pub clause_request : ℕ → Reference → List ℕ → List Operand → Request
 clause_request h o x us =
     record { poster = Some h; target = o; errand = Calls x; actuals = values_of us; is_waited = true; passed = None }
 
--- The request of h for a clause stands at its target; until it ends nothing else happens there, where the target was
--- asked before.
+-- The request of `h` for a clause is at its target: in the queue, as the callback, or in a frame. If `h` has asked
+-- the target before, the target does nothing else until the request ends.
 pub data RequestStands (s : System) (pure : RoutineName → Bool) (w : World) (h : ℕ) (asked : List ℕ) (o : Reference)
     (x : List ℕ) (us : List Operand) : Type 0 where
   queued : (qs : List Request) → (w.handlers o.handler).queue ≡ qs ++ clause_request h o x us ∷ [] →
@@ -200,7 +200,8 @@ pub data RequestStands (s : System) (pure : RoutineName → Bool) (w : World) (h
       ⊎ (w.rights.top o.handler ≡ Some h) →
       RequestStands s pure w h asked o x us
 
--- What a frame of h has asked, and waits for, where nothing has failed: its request stands, or the value has come.
+-- A frame of `h` has asked for `x` of `o` and waits, and nothing has failed: the request is at its target, or the
+-- value has come.
 pub data IsPending (s : System) (pure : RoutineName → Bool) (w : World) (h : ℕ) (asked : List ℕ) (o : Reference)
     (x : List ℕ) (us : List Operand) : Type 0 where
   stands : (w.handlers h).answer ≡ None → RequestStands s pure w h asked o x us → IsPending s pure w h asked o x us
@@ -209,7 +210,7 @@ pub data IsPending (s : System) (pure : RoutineName → Bool) (w : World) (h : �
 
 -- ---- a routine in its precondition
 
--- how it stands beside the evaluation of its clauses, by its stage, where it has asked these handlers
+-- The frame, in this stage, follows the evaluation of its clauses, and has asked the handlers `asked`.
 abbrev pub StandsByStage : System → (RoutineName → Bool) → World → ℕ → List ℕ → Option Frame → Frame → Stage → Type 0
 StandsByStage s pure w h asked above f Runs =
     ClausesAt s (MayAsk h asked) (objects_of w) f.current f.routine (bound_in f) (point_of f (w.handlers h).objects)
@@ -228,13 +229,13 @@ StandsByStage s pure w h asked above f (Awaits k (Some t) false) =
     × (o.handler ≡ k) × (k ≢ h) × (above ≡ None) × RunsPureIfRoutine s pure o x × IsPending s pure w h asked o x us
 StandsByStage s pure w h asked above f stage = ⊥
 
--- a frame in this stage waits for k
+-- A frame in this stage waits for `k`.
 abbrev pub AwaitsOf : Stage → ℕ → Type 0
 AwaitsOf (Awaits j gives is_creation) k = j ≡ k
 AwaitsOf stage k = ⊥
 
--- The routine stands in its precondition. The handlers that it has asked are others and quiet, but the one that it
--- waits for; and nothing is bound in it but its actuals.
+-- The routine is in its precondition. It has asked other handlers only, and each is quiet, except the one that it
+-- waits for. Only its actuals are bound in it.
 pub record InPrecondition (s : System) (pure : RoutineName → Bool) (w : World) (h : ℕ) (above : Option Frame)
     (f : Frame) : Type 0 where
   pub asked : List ℕ
@@ -242,20 +243,20 @@ pub record InPrecondition (s : System) (pure : RoutineName → Bool) (w : World)
   pub environment_is : f.environment ≡ bound_in f
   pub stands : StandsByStage s pure w h asked above f f.stage
 
--- The frame waits for an answer, and what has come is no reply: its handler fails with its next turn.
+-- The frame waits for an answer, and a failure or a refusal has come: its handler fails in its next turn.
 abbrev pub IsLost : World → ℕ → Frame → Type 0
 IsLost w h f =
     (is_awaiting f.stage ≡ true) × (((w.handlers h).answer ≡ Some Failed) ⊎ ((w.handlers h).answer ≡ Some Refused))
 
 -- ---- stacks and worlds
 
--- Above a frame that evaluates stand pure functions alone, on the same handler.
+-- The frame above, if there is one, runs a pure function that was called on the same handler.
 abbrev pub AboveIsPure : (RoutineName → Bool) → Option Frame → Type 0
 AboveIsPure pure None = Unit {0}
 AboveIsPure pure (Some g) = IsCalledPure pure g
 
--- The frame follows the evaluation by the definition: its body has started, or it is lost, or it stands in its
--- precondition; and where it runs a pure function, it stands beside that function's evaluation.
+-- The frame follows the evaluation by its parts: its precondition is done, or the frame is lost, or it is in its
+-- precondition. If it runs a pure function, it follows the evaluation of that function.
 pub record FrameFollows (s : System) (pure : RoutineName → Bool) (w : World) (h : ℕ) (above : Option Frame)
     (f : Frame) : Type 0 where
   pub in_precondition : HasStarted f.tasks
@@ -265,12 +266,12 @@ pub record FrameFollows (s : System) (pure : RoutineName → Bool) (w : World) (
   pub is_bound : pure (name_of f.routine) ≡ true → AreBound s f.routine (bound_in f)
   pub reserves_nothing : pure (name_of f.routine) ≡ true → f.reserved ≡ []
 
--- So does each frame of the stack, below this one.
+-- Each frame of the stack, which lies below the frame `above`, follows the evaluation.
 abbrev pub StackFollows : System → (RoutineName → Bool) → World → ℕ → Option Frame → List Frame → Type 0
 StackFollows s pure w h above [] = Unit {0}
 StackFollows s pure w h above (f ∷ below) = FrameFollows s pure w h above f × StackFollows s pure w h (Some f) below
 
--- So does each frame of each handler that hasn't failed.
+-- Each frame of each handler that hasn't failed follows the evaluation.
 abbrev pub WorldFollows : System → (RoutineName → Bool) → World → Type 0
 WorldFollows s pure w = (h : ℕ) → h < w.count → (w.handlers h).failure ≡ None →
     StackFollows s pure w h None (w.handlers h).stack

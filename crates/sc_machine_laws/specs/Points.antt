@@ -1,4 +1,4 @@
--- What the moves of a turn make of a point that stands beside an evaluation by the definition.
+-- What the moves of a turn make of a point that follows the evaluation by its parts.
 use Rattle.std.specs.Prelude.{ℕ, ◌≡◌, ◌<◌, Bool, true, false, List, [], ◌∷◌, ◌++◌, Some, None, length, take}
 use Rattle.sc_tree.specs.Plain.{System}
 use Rattle.sc_class.specs.ClassNames.{Root}
@@ -27,7 +27,7 @@ use Rattle.sc_machine_laws.specs.Following.{objects_of, Own, AreBound, bound_in,
 
 -- ---- a precondition
 
--- behind its precondition, before its `old`s
+-- the point after its precondition, before its `old`s
 abbrev pub started_point : (ℕ → List Object) → Reference → Routine → List Binding → Point
 started_point O me r bs = record {
   objects = O me.handler;
@@ -39,7 +39,8 @@ started_point O me r bs = record {
   values = [];
 }
 
--- It stands in the contract that it keeps, and nothing has changed but what is left to do and the values.
+-- The point is in the contract of the routine, with the actuals `bs`. Only the tasks and the values may have
+-- changed since the entry.
 pub record InContract (O : ℕ → List Object) (me : Reference) (r : Routine) (bs : List Binding) (p : Point) :
     Type 0 where
   pub objects_are : p.objects ≡ O me.handler
@@ -50,7 +51,7 @@ pub record InContract (O : ℕ → List Object) (me : Reference) (r : Routine) (
 
 module _ (s : System) (pure : RoutineName → Bool) (M : ℕ → Type 0) (O : ℕ → List Object) (me : Reference)
     (r : Routine) (bs : List Binding) where
-  -- What a routine does in its precondition, and where it is then.
+  -- A routine in its precondition may do the act, and is then at the point.
   abbrev pub ClauseActs : Act → Point → Type 0
   ClauseActs (Enters c o x us g) q = (t : EntityType) × (g ≡ Some t) × (o.handler ≡ me.handler) × RunsPure s pure o x
       × ClauseDone s M O me r bs (Enters c o x us (Some t)) q × InContract O me r bs q
@@ -62,19 +63,19 @@ module _ (s : System) (pure : RoutineName → Bool) (M : ℕ → Type 0) (O : �
   ClauseActs (Fails why) q = Unit {0}
   ClauseActs act q = ⊥
 
-  -- The same of a step: it goes on in its precondition, or does something.
+  -- In the step the routine goes on in its precondition, or does one of these acts.
   abbrev pub ClauseSteps : Step → Type 0
   ClauseSteps (Goes q) = ClausesAt s M O me r bs q × InContract O me r bs q
   ClauseSteps (Does a q) = ClauseActs a q
 
--- In this turn of the handler its topmost frame goes on.
+-- In this turn of the handler `h` its topmost frame goes on.
 pub record GoesOn (w : World) (h : ℕ) (f : Frame) (below : List Frame) : Type 0 where
   pub is_there : h < w.count
   pub lives : (w.handlers h).failure ≡ None
   pub stack_is : (w.handlers h).stack ≡ f ∷ below
   pub runs : f.stage ≡ Runs
 
--- What a turn makes of a frame that stands in its precondition.
+-- In a state that is reached, the moves of a frame in its precondition make a step of this kind.
 abbrev pub ClauseMoves : Type 1
 ClauseMoves = (s : System) (root : Root) (pure : RoutineName → Bool) → IsFaultless s root → WellFormed s →
     IsPurity s pure → (most : ℕ) (w : World) → IsReached most s root w →
@@ -83,14 +84,14 @@ ClauseMoves = (s : System) (root : Root) (pure : RoutineName → Bool) → IsFau
     ClausesAt s M (objects_of w) f.current f.routine bs (point_of f (w.handlers h).objects) →
     ClauseSteps s pure M (objects_of w) f.current f.routine bs (moves s f.current (point_of f (w.handlers h).objects))
 
--- The value of what it has called on its handler takes it on.
+-- A routine that has made a call inside a clause goes on with the value of the call.
 abbrev pub ClauseGoesOn : Type 1
 ClauseGoesOn = (s : System) (M : ℕ → Type 0) (O : ℕ → List Object) (me : Reference) (r : Routine) (bs : List Binding)
     (p : Point) (c : Calling) (o : Reference) (x : List ℕ) (us : List Operand) (t : EntityType) (v : Value) →
     ClauseDone s M O me r bs (Enters c o x us (Some t)) p → Answers s M O o x us v →
     ClausesAt s M O me r bs (record p { values = operand v t ∷ p.values })
 
--- So does the value of what it has asked of another handler.
+-- A routine that has made a request inside a clause goes on with the value of the request.
 abbrev pub ClauseGoesOnAnswered : Type 1
 ClauseGoesOnAnswered = (s : System) (M : ℕ → Type 0) (O : ℕ → List Object) (me : Reference) (r : Routine)
     (bs : List Binding) (p : Point) (o : Reference) (x : List ℕ) (us : List Operand) (t : EntityType) (passing : Bool)
@@ -100,13 +101,13 @@ ClauseGoesOnAnswered = (s : System) (M : ℕ → Type 0) (O : ℕ → List Objec
 
 -- ---- a pure function
 
--- The objects and the actuals are these.
+-- The point has the objects of the handler, and its formals are bound to `bs`.
 pub record KeepsActuals (O : ℕ → List Object) (me : Reference) (r : Routine) (bs : List Binding) (p : Point) :
     Type 0 where
   pub objects_are : p.objects ≡ O me.handler
   pub bound_are : take (length r.text.formals) p.environment ≡ bs
 
--- It has come to the end of its body, with the same Result.
+-- The evaluation of the function's body has ended, and its Result is that of `p`.
 pub record HasRun (s : System) (O : ℕ → List Object) (me : Reference) (r : Routine) (bs : List Binding) (p : Point) :
     Type 0 where
   pub end : Point
@@ -114,13 +115,13 @@ pub record HasRun (s : System) (O : ℕ → List Object) (me : Reference) (r : R
   pub tasks_are : end.tasks ≡ []
   pub result_is : p.result ≡ end.result
 
--- these three, and no others
+-- The object, the name and the actuals are `o`, `x` and `us`.
 abbrev pub IsThisCall : Reference → List ℕ → List Operand → Reference → List ℕ → List Operand → Type 0
 IsThisCall o x us p y vs = (p ≡ o) × (y ≡ x) × (vs ≡ us)
 
 module _ (s : System) (pure : RoutineName → Bool) (O : ℕ → List Object) (me : Reference) (r : Routine)
     (bs : List Binding) where
-  -- What a pure function does, and where it is then.
+  -- A pure function may do the act, and is then at the point.
   abbrev pub PureActs : Act → Point → Type 0
   PureActs (Enters c o x us g) q = (t : EntityType) × (g ≡ Some t) × (o.handler ≡ me.handler) × RunsPure s pure o x
       × PureCalls s O me r bs t (IsThisCall o x us) q × KeepsActuals O me r bs q
@@ -131,12 +132,12 @@ module _ (s : System) (pure : RoutineName → Bool) (O : ℕ → List Object) (m
   PureActs (Fails why) q = Unit {0}
   PureActs act q = ⊥
 
-  -- The same of a step: it goes on beside its evaluation, or does something.
+  -- In the step the function goes on as its evaluation does, or does one of these acts.
   abbrev pub PureSteps : Step → Type 0
   PureSteps (Goes q) = PureAt s O me r bs q × KeepsActuals O me r bs q
   PureSteps (Does a q) = PureActs a q
 
--- What a turn makes of a frame that runs a pure function.
+-- In a state that is reached, the moves of a frame that runs a pure function make a step of this kind.
 abbrev pub PureMoves : Type 0
 PureMoves = (s : System) (root : Root) (pure : RoutineName → Bool) → IsFaultless s root → WellFormed s →
     IsPurity s pure → (most : ℕ) (w : World) → IsReached most s root w →
@@ -146,14 +147,14 @@ PureMoves = (s : System) (root : Root) (pure : RoutineName → Bool) → IsFault
     PureSteps s pure (objects_of w) f.current f.routine (bound_in f)
     (moves s f.current (point_of f (w.handlers h).objects))
 
--- What is said of the call may be replaced by what follows from it.
+-- The condition on the call, `For`, may be replaced by a condition that follows from it, `Such`.
 abbrev pub PureCallsMore : Type 1
 PureCallsMore = (s : System) (O : ℕ → List Object) (me : Reference) (r : Routine) (bs : List Binding) (p : Point)
     (t : EntityType) (For Such : Reference → List ℕ → List Operand → Type 0) →
     ((o : Reference) (x : List ℕ) (us : List Operand) → For o x us → Such o x us) →
     PureCalls s O me r bs t For p → PureCalls s O me r bs t Such p
 
--- The value of what it has called takes it on.
+-- A pure function that has made a call goes on with the value of the call.
 abbrev pub PureGoesOn : Type 1
 PureGoesOn = (s : System) (O : ℕ → List Object) (me : Reference) (r : Routine) (bs : List Binding) (p : Point)
     (t : EntityType) (For : Reference → List ℕ → List Operand → Type 0) (v : Value) →
@@ -161,7 +162,7 @@ PureGoesOn = (s : System) (O : ℕ → List Object) (me : Reference) (r : Routin
     ((o : Reference) (x : List ℕ) (us : List Operand) → For o x us → Answers s (Own me.handler) O o x us v) →
     PureAt s O me r bs (record p { values = operand v t ∷ p.values })
 
--- The Result of a function that has run is what the call gives.
+-- When a function has run, its Result is the value of the call.
 abbrev pub PureAnswers : Type 0
 PureAnswers = (s : System) (O : ℕ → List Object) (o : Reference) (x : List ℕ) (us : List Operand) (r : Routine)
     (bs : List Binding) (b : Object) (p : Point) (u : Operand) → routine_named s o.class x ≡ Some r →
@@ -171,14 +172,14 @@ PureAnswers = (s : System) (O : ℕ → List Object) (o : Reference) (x : List �
 
 -- ---- entries
 
--- A routine begins before its body; what is bound in it are its actuals.
+-- A routine begins before its body, and its actuals are bound in it.
 abbrev pub EntryFollows : Type 0
 EntryFollows = (s : System) (root : Root) → IsFaultless s root → WellFormed s → (O : ℕ → List Object)
     (me : Reference) (x : List ℕ) (r : Routine) → routine_named s me.class x ≡ Some r →
     (bs : List Binding) → AreBound s r bs → (o : Origin) →
     PureAt s O me r bs (point_of (entry me r o bs) (O me.handler)) × (bound_in (entry me r o bs) ≡ bs)
 
--- Where it has a precondition, it begins before its clauses.
+-- A routine that has a precondition begins before its clauses.
 abbrev pub EntryIsBetween : Type 0
 EntryIsBetween = (O : ℕ → List Object) (me : Reference) (r : Routine) (bs : List Binding) (o : Origin) →
     (r.require ≡ [] → ⊥) → point_of (entry me r o bs) (O me.handler) ≡ between_point O me r bs r.require

@@ -1,4 +1,4 @@
--- What keeps a handler quiet that another one has asked: who may change what of it in a turn of a third one.
+-- Why a handler stays quiet after another one has asked it: what the turn of a third handler may change of it.
 use Rattle.std.specs.Prelude.{ℕ, ◌≡◌, ◌≢◌, ◌<◌, ◌≤◌, ◌⊎◌, Bool, true, false, List, [], ◌∷◌, ◌++◌, Option, Some, None, is_some, Contains}
 use Rattle.std.specs.Option.{option_map}
 use Rattle.sc_tree.specs.Plain as tree
@@ -22,7 +22,7 @@ use Rattle.sc_model.specs.Runs.{IsReached}
 use Rattle.sc_machine_laws.specs.states.Headline.{InEachReached, has_reply}
 use Rattle.sc_machine_laws.specs.states.Fitting.{MayEnd}
 
--- ---- who waits
+-- ---- waiting
 
 -- The topmost frame awaits an answer of k.
 pub record TopAwaits (fs : List Frame) (k : ℕ) : Type 0 where
@@ -33,7 +33,7 @@ pub record TopAwaits (fs : List Frame) (k : ℕ) : Type 0 where
   pub stack_is : fs ≡ frame ∷ below
   pub stage_is : frame.stage ≡ Awaits k gives is_creation
 
--- It awaits an answer of some handler, and neither a callback nor a reply has come.
+-- The topmost frame awaits an answer of some handler. Neither a callback nor a reply has come.
 pub record IsAway (x : Handler) : Type 0 where
   pub supplier : ℕ
   pub awaits : TopAwaits x.stack supplier
@@ -47,15 +47,15 @@ pub record IsUnlent (w : World) (h k : ℕ) (q : Request) : Type 0 where
   pub is_waited : q.is_waited ≡ true
   pub passed_is : q.passed ≡ None
 
--- ---- of a state that is reached
+-- ---- each state that is reached
 
--- No handler may push on the waiting stack of one that has no frames.
+-- If a handler has no frames, no handler may push on its waiting stack.
 abbrev pub IdleHasNoTop : Type 0
 IdleHasNoTop = InEachReached (λ (w : World). (k : ℕ) → (w.handlers k).failure ≡ None → (w.handlers k).stack ≡ []
     → w.rights.top k ≡ None)
 
--- Where another one may push on a handler's waiting stack and isn't waiting for it, that handler waits, and nothing
--- has come.
+-- If another handler `h` may push on the waiting stack of `k` and isn't waiting for `k`, then `k` waits, and
+-- neither a callback nor a reply has come to it.
 abbrev pub CalledBackWaits : Type 0
 CalledBackWaits = InEachReached (λ (w : World). (k h : ℕ) → w.rights.top k ≡ Some h → k ≢ h
     → (w.handlers k).failure ≡ None → (w.handlers h).failure ≡ None
@@ -67,24 +67,26 @@ abbrev pub CallbacksMeetWaiters : Type 0
 CallbacksMeetWaiters = InEachReached (λ (w : World). (k : ℕ) (r : Request) → (w.handlers k).callback ≡ Some r
     → (j : ℕ) × TopAwaits (w.handlers k).stack j)
 
--- A handler that doesn't wait on top has neither a callback nor a reply.
+-- A handler whose topmost frame doesn't wait has neither a callback nor a reply.
 abbrev pub RunningIsClear : Type 0
 RunningIsClear = InEachReached (λ (w : World). (h : ℕ) → (w.handlers h).failure ≡ None
     → ((j : ℕ) → TopAwaits (w.handlers h).stack j → ⊥)
     → (has_reply (w.handlers h).answer ≡ false) × ((w.handlers h).callback ≡ None))
 
--- A handler that waits and has lent nothing has its request on top, with no callback and no reply.
+-- If a handler waits for a request with which it has lent nothing, its topmost frame waits for that request. The
+-- handler has neither a callback nor a reply.
 abbrev pub NoCallback : Type 0
 NoCallback = InEachReached (λ (w : World). (h k : ℕ) (q : Request) → (w.handlers h).failure ≡ None → IsUnlent w h k q
     → TopAwaits (w.handlers h).stack k × ((w.handlers h).callback ≡ None) × (has_reply (w.handlers h).answer ≡ false))
 
--- If it has no answer yet, it waits for no other request that may end.
+-- If that handler has no answer yet, no other request that it waits for may end.
 abbrev pub EndsTheOne : Type 0
 EndsTheOne = InEachReached (λ (w : World). (h k g : ℕ) (q r : Request) → (w.handlers h).failure ≡ None
     → (w.handlers h).answer ≡ None → IsUnlent w h k q
     → MayEnd (w.handlers g) r → r.poster ≡ Some h → r.is_waited ≡ true → (g ≡ k) × (r ≡ q))
 
--- Its request is there once, and no other with which it has lent nothing is anywhere.
+-- A handler has at most one request that it waits for and with which it has lent nothing. That request is at one
+-- place only.
 abbrev pub StandsOnce : Type 0
 StandsOnce = InEachReached (λ (w : World). (h k : ℕ) (q r : Request) (before behind : List Request)
     → (w.handlers h).failure ≡ None
@@ -102,30 +104,31 @@ pub record IsUnused (w : World) (k : ℕ) : Type 0 where
   pub queue_right : w.rights.queue k ≡ None
   pub top_right : w.rights.top k ≡ None
 
--- So is each handler that there isn't yet.
+-- A handler that doesn't exist yet is unused.
 abbrev pub BeyondIsUnused : Type 0
 BeyondIsUnused = InEachReached (λ (w : World). (k : ℕ) → w.count ≤ k → IsUnused w k)
 
--- ---- of a turn of another handler
+-- ---- the turn of another handler
 
--- A turn takes no right from another handler, but perhaps that to push on the waiting stack of the handler of the turn.
+-- A turn of `g` takes no right from another handler, except perhaps the right to push on the waiting stack of `g`.
 abbrev pub RightsStay : Type 0
 RightsStay = (most : ℕ) (s : System) (root : Root) (w : World) → IsReached most s root w → (g h k : ℕ) → g ≢ h
     → (w.rights.queue k ≡ Some h → (turn most s g w).rights.queue k ≡ Some h)
     × (k ≢ g → w.rights.top k ≡ Some h → (turn most s g w).rights.top k ≡ Some h)
 
--- the queue is as before, or g, which may post there, has posted a request
+-- The queue of `k` is as before, or `g`, which may post there, has posted a request.
 pub data QueueComes (w : World) (g k : ℕ) (y : Handler) : Type 0 where
   stays : y.queue ≡ (w.handlers k).queue → QueueComes w g k y
   comes : (r : Request) → r.poster ≡ Some g → w.rights.queue k ≡ Some g → y.queue ≡ (w.handlers k).queue ++ r ∷ []
       → QueueComes w g k y
 
--- the callback is as before, or g, which may push there, has called back
+-- The callback of `k` is as before, or `g`, which may push there, has called back.
 pub data CallbackComes (w : World) (g k : ℕ) (y : Handler) : Type 0 where
   stays : y.callback ≡ (w.handlers k).callback → CallbackComes w g k y
   comes : (r : Request) → r.poster ≡ Some g → w.rights.top k ≡ Some g → y.callback ≡ Some r → CallbackComes w g k y
 
--- What another handler has and runs stays, in a turn of g; to its queue and as its callback requests may come.
+-- In a turn of `g` the objects, the stack and the failure of another handler `k` stay. Requests may come to its
+-- queue or as its callback.
 pub record Stays (w : World) (g k : ℕ) (y : Handler) : Type 0 where
   pub objects_stay : y.objects ≡ (w.handlers k).objects
   pub stack_stays : y.stack ≡ (w.handlers k).stack
@@ -133,28 +136,29 @@ pub record Stays (w : World) (g k : ℕ) (y : Handler) : Type 0 where
   pub queue_comes : QueueComes w g k y
   pub callback_comes : CallbackComes w g k y
 
--- So do all others, in each turn.
+-- In each turn of `g` all other handlers stay in this way.
 abbrev pub OthersStay : Type 0
 OthersStay = (most : ℕ) (s : System) (w : World) (g k : ℕ) → k < w.count → k ≢ g
     → Stays w g k ((turn most s g w).handlers k)
 
--- The queue of the turn's handler stays, or gives its first request if nothing runs, or is lost with its handler.
+-- The queue of the turn's handler stays; or its first request is taken, if the handler has no frames; or the
+-- handler fails.
 pub data OwnQueueMoves (x y : Handler) : Type 0 where
   stays : y.queue ≡ x.queue → OwnQueueMoves x y
   takes : (r : Request) → x.stack ≡ [] → x.queue ≡ r ∷ y.queue → OwnQueueMoves x y
   falls : is_some y.failure ≡ true → OwnQueueMoves x y
 
--- So it does in each turn.
+-- In each turn the queue of its handler moves in this way.
 abbrev pub OwnQueueShrinks : Type 0
 OwnQueueShrinks = (most : ℕ) (s : System) (root : Root) (w : World) → IsReached most s root w → (g : ℕ)
     → OwnQueueMoves (w.handlers g) ((turn most s g w).handlers g)
 
--- A handler that comes with the turn of another one has no frames.
+-- A handler that the turn of another one creates has no frames.
 abbrev pub NewIsIdle : Type 0
 NewIsIdle = (most : ℕ) (s : System) (root : Root) (w : World) → IsReached most s root w → (g k : ℕ) → w.count ≤ k
     → k ≢ g → ((turn most s g w).handlers k).stack ≡ []
 
--- There are as many handlers as before, or more.
+-- After a turn there are as many handlers as before, or more.
 abbrev pub CountGrows : Type 0
 CountGrows = (most : ℕ) (s : System) (w : World) (g : ℕ) → w.count ≤ (turn most s g w).count
 
@@ -164,7 +168,7 @@ pub record MayAnswer (w : World) (g k : ℕ) (r : Request) : Type 0 where
   pub is_waited : r.is_waited ≡ true
   pub poster_is : r.poster ≡ Some k
 
--- the routine of the request does this in its handler's turn
+-- The routine of the request is the topmost frame of `g`, and does the act `a` in its turn.
 pub record Ends (s : System) (w : World) (g : ℕ) (r : Request) (a : Act) (p : Point) : Type 0 where
   pub frame : Frame
   pub below : List Frame
@@ -173,7 +177,7 @@ pub record Ends (s : System) (w : World) (g : ℕ) (r : Request) (a : Act) (p : 
   pub origin_is : frame.origin ≡ Requested r
   pub does : moves s frame.current (point_of frame (w.handlers g).objects) ≡ Does a p
 
--- the request asks for an attribute of this value, which isn't unset
+-- The request asks `g` for an attribute. Its value is `v`, and it isn't unset.
 pub record IsAttribute (s : System) (w : World) (g : ℕ) (r : Request) (v : Value) : Type 0 where
   pub name : List ℕ
   pub object : Object
@@ -191,8 +195,9 @@ pub record IsAttribute (s : System) (w : World) (g : ℕ) (r : Request) (v : Val
   pub is_set : is_unset_value binding.value type ≡ false
   pub value_is : binding.value ≡ v
 
--- How the answer of k comes in a turn of g: it stays; or g has failed, and k learns of it; or what k waits for ends:
--- a routine exits, or is refused; an attribute has its value; or an object is made by no procedure.
+-- How a turn of `g` changes the answer of `k`: the answer stays; or `g` has failed, and `k` learns of it; or the
+-- request that `k` waits for ends: a routine exits or is refused, an attribute has its value, or an object is made
+-- without a procedure.
 pub data AnswerComes (s : System) (w : World) (g k : ℕ) (after : World) : Type 0 where
   stays : (after.handlers k).answer ≡ (w.handlers k).answer
       → AnswerComes s w g k after
@@ -213,7 +218,7 @@ pub data AnswerComes (s : System) (w : World) (g k : ℕ) (after : World) : Type
       → (after.handlers k).answer ≡ heard (Reply None) (w.handlers k).failure (w.handlers k).answer
       → AnswerComes s w g k after
 
--- So come the answers of all others, in each turn.
+-- In each turn of `g` the answers of all other handlers change in this way.
 abbrev pub AnswersCome : Type 0
 AnswersCome = (most : ℕ) (s : System) (w : World) (g k : ℕ) → k < w.count → k ≢ g
     → AnswerComes s w g k (turn most s g w)

@@ -1,4 +1,4 @@
--- What is said of the objects in each state of the machine that is reached.
+-- Class invariants in each state of the machine that is reached.
 use Rattle.std.specs.Prelude.{ℕ}
 use Rattle.sc_model.specs.Handlers.{World}
 use Rattle.sc_model.specs.Runs.{IsReached}
@@ -11,11 +11,11 @@ abbrev pub SettledMeetWhereReached : Type 0
 SettledMeetWhereReached = WhereAccepted λ s root. (most : ℕ) (w : World) → IsReached most s root w →
     SettledObjectsMeet s w
 
--- So it does after the turn of any handler.
+-- Each settled object meets its class invariant after the turn of any handler.
 abbrev pub SettledMeetAfterTurns : Type 0
 SettledMeetAfterTurns = WhereAccepted λ s root. (most h : ℕ) (w : World) → IsReached most s root w →
     SettledObjectsMeet s (turn most s h w)
 
--- Each object of a free handler does.
+-- Each object of a free handler meets its class invariant.
 abbrev pub FreeMeetWhereReached : Type 0
 FreeMeetWhereReached = WhereAccepted λ s root. (most : ℕ) (w : World) → IsReached most s root w → FreeObjectsMeet s w

@@ -1,4 +1,4 @@
--- Texts and tasks in which no `old` stands, and those of contracts, in which no object test stands.
+-- Texts and tasks without `old`, and texts and tasks of contracts, which have no object test.
 use Rattle.std.specs.Prelude.{◌≡◌, Option, Some, None, length}
 use Rattle.sc_tree.specs.Plain as tree
 use Rattle.sc_tree.specs.Plain.{Clause, CreationCall, Head, Expr, Exprs, no_exprs, expr_then, Instr, Instrs, no_instrs, instr_then, Branches, no_branches, branch_then}
@@ -8,28 +8,28 @@ use Rattle.sc_machine_laws.specs.states.Points.{Each}
 
 -- ---- texts without `old`
 
--- no `old` stands in the expression
+-- No `old` is in the expression.
 abbrev pub HasNoOld : Expr → Type 0
 HasNoOld e = olds_in e ≡ 0
 
--- nor in these
+-- No `old` is in these expressions.
 abbrev pub HaveNoOld : Exprs → Type 0
 HaveNoOld es = length (olds_of_each es) ≡ 0
 
--- nor in the clause's condition
+-- No `old` is in the condition of the clause.
 abbrev pub ClauseHasNoOld : Clause → Type 0
 ClauseHasNoOld k = HasNoOld k.condition
 
--- nor in what the head of a separate block evaluates
+-- No `old` is in the value of the head of a separate block.
 abbrev pub HeadHasNoOld : Head → Type 0
 HeadHasNoOld d = HasNoOld d.value
 
--- nor in the actuals of a creation procedure
+-- No `old` is in the actuals of a creation procedure.
 abbrev pub CallHasNoOld : Option CreationCall → Type 0
 CallHasNoOld None = Unit {0}
 CallHasNoOld (Some k) = HaveNoOld k.actuals
 
--- no `old` stands in the instruction
+-- No `old` is in the instruction.
 abbrev mutual
   pub InstrHasNoOld : Instr → Type 0
   InstrHasNoOld (tree.Assign q v e) = HasNoOld e
@@ -83,7 +83,7 @@ TaskHasNoOld (Leave depth) = Unit {0}
 
 -- ---- texts without object tests
 
--- no object test stands in the expression
+-- No object test is in the expression.
 abbrev mutual
   pub HasNoTest : Expr → Type 0
   HasNoTest (tree.Call q tree.no_target x es) = HaveNoTest es
@@ -97,7 +97,7 @@ abbrev mutual
   HaveNoTest no_exprs = Unit {0}
   HaveNoTest (expr_then e es) = HasNoTest e × HaveNoTest es
 
--- nor in the clause's condition
+-- No object test is in the condition of the clause.
 abbrev pub ClauseHasNoTest : Clause → Type 0
 ClauseHasNoTest k = HasNoTest k.condition
 

@@ -1,4 +1,4 @@
--- What a turn leaves of how frames follow the evaluation by the definition.
+-- Frames still follow the evaluation by its parts after a turn.
 use Rattle.std.specs.Prelude.{ℕ, ◌≡◌, ◌≢◌, ◌<◌, Bool, None}
 use Rattle.sc_tree.specs.Plain.{System}
 use Rattle.sc_class.specs.ClassNames.{Root}
@@ -18,7 +18,7 @@ OwnFollows = (s : System) (root : Root) (pure : RoutineName → Bool) → IsFaul
     ((turn most s h w).handlers h).failure ≡ None →
     StackFollows s pure (turn most s h w) h None ((turn most s h w).handlers h).stack
 
--- After the turn of another handler they do so too.
+-- After the turn of another handler each of its frames follows too, unless the handler has failed.
 abbrev pub OthersFollow : Type 0
 OthersFollow = (s : System) (root : Root) (pure : RoutineName → Bool) → IsFaultless s root → WellFormed s →
     IsPurity s pure → (most g h : ℕ) (w : World) → IsReached most s root w → WorldFollows s pure w → h < w.count →

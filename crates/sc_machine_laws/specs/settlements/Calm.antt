@@ -1,4 +1,4 @@
--- Where a function that contracts may call stands, and what it does there.
+-- Functions that contracts may call (pure functions): the points of their runs, and what they do there.
 use Rattle.std.specs.Prelude.{◌≡◌, ◌⊎◌, ◌<◌, ℕ, Bool, true, false, List, [], ◌∷◌, ◌++◌, Option, Some, length, Contains}
 use Rattle.sc_tree.specs.declared.expression.UnaryOperator.{UnaryOperator}
 use Rattle.sc_tree.specs.declared.expression.BinaryOperator.{BinaryOperator}
@@ -39,28 +39,29 @@ use Rattle.sc_machine_laws.specs.settlements.Clauses.{IsPureIfRoutine, RunsPure}
 
 -- ---- what is evaluated
 
--- the site stands in the routine's body, read by this text
+-- The site is in the routine's body, read by the text `t`.
 abbrev pub InBody : System → (RoutineName → Bool) → Routine → Text → Site → Type 0
 InBody s pure r t b = Within (context_in s pure t)
     (instructions (formals_known s r.text.formals ++ locals_known s r.text.formals r.locals) r.body) b
 
--- The expression stands in the routine's body, or in its contract, where no separate block is known.
+-- The expression is in the routine's body, or in its contract with no separate block known.
 pub data IsCalm (s : System) (pure : RoutineName → Bool) (r : Routine) (t : Text) (c : Context) (q : Position)
     (n : Entities) (e : Expr) : Type 0 where
   in_body : t ≡ r.text → InBody s pure r t (expression c q n e) → IsCalm s pure r t c q n e
   in_contract : t ≡ r.contract → wants_pure c ≡ true → is_condition q ≡ false → blocks n ≡ 0 →
       Stands s pure (context_in s pure t) (expression c q n e) → IsCalm s pure r t c q n e
 
--- ---- what is left to do
+-- ---- the tasks that are left
 
--- Where it is left: in this text, these names are known, and values of these types lie there. Behind a condition its
--- value is the last: where that is true the second names are known, else the first and perhaps more.
+-- What is known when tasks are left (`at`): the text, the names, and the types of the values. After a condition
+-- (`after`) its value lies on top of these: if it is true the second names are known, else the first and perhaps
+-- more.
 pub data Ahead : Type 0 where
   at : Text → Entities → List EntityType → Ahead
   after : Text → Entities → Entities → List EntityType → Ahead
 
--- What is left to do of the function: it calls what contracts may call, and no other handler; it prints nothing, opens
--- no separate block and makes no object.
+-- The tasks that are left of the function. They call only what contracts may call, and ask no other handler. They
+-- print nothing, open no separate block and make no object.
 pub data InPure (s : System) (pure : RoutineName → Bool) (r : Routine) : List Task → Ahead → Type 0 where
   done : {t : Text} {n : Entities} → InPure s pure r [] (at t n [])
   in_text : {k : List Task} {t u : Text} {n : Entities} → InPure s pure r k (at u n []) →
@@ -140,11 +141,11 @@ pub data InPure (s : System) (pure : RoutineName → Bool) (r : Routine) : List 
       InPure s pure r (KeepOld ∷ k) (at t n (a ∷ []))
   ensured : {k : List Task} {t : Text} {n : Entities} {a : EntityType} → InPure s pure r k (at t n []) →
       InPure s pure r (Ensured ∷ k) (at t n (a ∷ []))
-  -- any value is that of a condition that gives no names
+  -- any value may be that of a condition that gives no names
   settled : {k : List Task} {t : Text} {n m : Entities} {vs : List EntityType} {a : EntityType} → Extends n m →
       InPure s pure r k (after t n m vs) → InPure s pure r k (at t m (a ∷ vs))
 
--- it stands there, where values of these types are still to come
+-- The function is at `p`, and values of the types `coming` are still to come.
 pub record StandsAt (s : System) (pure : RoutineName → Bool) (r : Routine) (coming : List EntityType)
     (p : Point) : Type 0 where
   pub text : Text
@@ -155,7 +156,7 @@ pub record StandsAt (s : System) (pure : RoutineName → Bool) (r : Routine) (co
   pub left : InPure s pure r p.tasks (at text names (coming ++ types))
   pub types_are : types_of p.values ≡ types
 
--- the value of a condition is the last, with the names that are known then
+-- If the value of the condition is true, the names `high` are known at `p`; else `low` and perhaps more.
 pub record Came (low high : Entities) (value : Operand) (p : Point) : Type 0 where
   pub held : value.value ≡ Boolean true → scope_of p.environment ≡ high
   pub denied : (value.value ≡ Boolean true → ⊥) → Extends low (scope_of p.environment)
@@ -178,7 +179,7 @@ StandsPure s pure r coming p = StandsAt s pure r coming p ⊎ ((coming ≡ []) �
 
 -- ---- what it does
 
--- It calls what contracts may call, and else tests, starts, is refused, ends or fails.
+-- The function calls what contracts may call, tests a loop, starts, is refused, exits or fails.
 abbrev pub PureAct : System → (RoutineName → Bool) → Routine → Act → Point → Type 0
 PureAct s pure r (Enters c o x us gives) p = RunsPure s pure o x ×
     ((a : EntityType) × (gives ≡ Some a) × StandsPure s pure r (a ∷ []) p)
@@ -193,7 +194,7 @@ abbrev pub PureStep : System → (RoutineName → Bool) → Routine → Step →
 PureStep s pure r (Goes p) = StandsPure s pure r [] p
 PureStep s pure r (Does a p) = PureAct s pure r a p
 
--- the same, whatever is left to do then
+-- The act is one of these, whatever tasks are left after it.
 abbrev pub CalmAct : System → (RoutineName → Bool) → Act → Type 0
 CalmAct s pure (Enters c o x us gives) = RunsPure s pure o x
 CalmAct s pure Starts = Unit {0}
@@ -209,26 +210,26 @@ CalmStep s pure (Does a p) = CalmAct s pure a
 
 -- ---- laws
 
--- the routine as the rules name it
+-- the class and the name of the routine, as the rules use them
 abbrev pub name_of : Routine → RoutineName
 name_of r = record { class = r.text.class; name = r.name }
 
--- A function that contracts may call begins so, in the text of the contract that it keeps, where its formals alone are
--- known.
+-- A pure function begins with tasks of this kind, in the text of its contract, with only its formals known.
 abbrev pub PureBeginPure : Type 0
 PureBeginPure = (s : System) (root : Root) (pure : RoutineName → Bool) → IsFaultless s root → WellFormed s →
     IsPurity s pure → (r : Routine) (me : Reference) → routine_named s me.class r.name ≡ Some r →
     pure (name_of r) ≡ true → InPure s pure r (tasks_of r) (at r.contract (formals_known s r.text.formals) [])
 
--- Where it stands so, and its values fit, its next turn calls what contracts may call, and it stands so again.
+-- If a pure function is at a point of this kind and its values fit, its next turn calls only what contracts may
+-- call, and it is then at a point of this kind.
 abbrev pub PureCallPure : Type 0
 PureCallPure = (s : System) (root : Root) (pure : RoutineName → Bool) → IsFaultless s root → WellFormed s →
     IsPurity s pure → (r : Routine) (me : Reference) → routine_named s me.class r.name ≡ Some r →
     pure (name_of r) ≡ true → (p : Point) → StandsSo s pure r me [] p → ValuesDo (IsThereIfOwn me.handler p.objects) p →
     StandsPure s pure r [] p → PureStep s pure r (moves s me p)
 
--- In each state that is reached, the next turn of such a function calls what contracts may call, and does nothing else
--- that others see.
+-- In each state that is reached, the next turn of a pure function calls only what contracts may call, and does
+-- nothing else that others see.
 abbrev pub EachPureIsCalm : Type 0
 EachPureIsCalm = (s : System) (root : Root) (pure : RoutineName → Bool) → IsFaultless s root → WellFormed s →
     IsPurity s pure → (most : ℕ) (w : World) → IsReached most s root w → (h : ℕ) → h < w.count → (f : Frame)

@@ -1,4 +1,4 @@
--- Where a routine stands in its own precondition, and what it may do there.
+-- Routines in their own preconditions, and what they may do there.
 use Rattle.std.specs.Prelude.{◌≡◌, ◌⊎◌, ◌<◌, ℕ, Bool, true, false, List, [], ◌∷◌, ◌++◌, Option, Some, length, Contains}
 use Rattle.std.specs.List.{list_all}
 use Rattle.sc_tree.specs.declared.expression.UnaryOperator.{UnaryOperator}
@@ -36,22 +36,22 @@ use Rattle.sc_machine_laws.specs.states.ValueSteps.{IsThereIfOwn, StandsSo, Valu
 use Rattle.sc_machine_laws.specs.states.Typed.{context_in, stacked}
 use Rattle.sc_machine_laws.specs.settlements.Entries.{HasStarted}
 
--- a value of an expression of this type, or, where that is INTEGER or BOOLEAN, of any such
+-- The operand is of the type `a`, or both its type and `a` are INTEGER or BOOLEAN.
 abbrev pub IsOfType : EntityType → Operand → Type 0
 IsOfType a u = (u.type ≡ a) ⊎ ((is_expanded a.class ≡ true) × (is_expanded u.type.class ≡ true))
 
--- one by one
+-- The operands are of the types, one by one.
 abbrev pub AreOfTypes : List EntityType → List Operand → Type 0
 AreOfTypes [] [] = Unit {0}
 AreOfTypes (a ∷ as') (u ∷ us) = IsOfType a u × AreOfTypes as' us
 AreOfTypes as' us = ⊥
 
--- the feature, if it is a routine, is one that contracts may call
+-- If the feature is a routine, contracts may call it.
 abbrev pub IsPureIfRoutine : (RoutineName → Bool) → DeclaredFeature → Option RoutineName → Type 0
 IsPureIfRoutine pure f name = name ≡ Some (routine_of f) → pure (routine_of f) ≡ true
 
--- In this text, where these names are known, what is left to do begins with what is left of clauses of the
--- precondition, each of which the rules accept; values of these types lie there.
+-- The first tasks are what is left of clauses of the precondition, and the rules accept each of them. The text is
+-- `t`, the names `n` are known, and the values there have these types.
 pub data InClauses (s : System) (pure : RoutineName → Bool) (t : Text) (n : Entities) : List Task →
     List EntityType → Type 0 where
   require : {k : List Task} {ks : List Clause} → HasStarted k →
@@ -89,7 +89,7 @@ pub data InClauses (s : System) (pure : RoutineName → Bool) (t : Text) (n : En
       vs ≡ stacked ts (a ∷ us) →
       InClauses s pure t n k (b ∷ us) → InClauses s pure t n (CallQualified x i ∷ k) vs
 
--- The routine stands in its precondition, where values of these types are still to come.
+-- The routine is in its precondition, and values of the types `coming` are still to come.
 pub record StandsInClauses (s : System) (pure : RoutineName → Bool) (t : Text) (n : Entities) (coming : List EntityType)
     (p : Point) : Type 0 where
   pub types : List EntityType
@@ -98,18 +98,18 @@ pub record StandsInClauses (s : System) (pure : RoutineName → Bool) (t : Text)
   pub left : InClauses s pure t n p.tasks (coming ++ types)
   pub values : AreOfTypes types p.values
 
--- each version of the name that such an object may run is one that contracts may call
+-- Contracts may call the version of `x` that the object runs.
 abbrev pub RunsPure : System → (RoutineName → Bool) → Reference → List ℕ → Type 0
 RunsPure s pure o x = (f : DeclaredFeature) → version_of s o.class x ≡ Some f → pure (routine_of f) ≡ true
 
--- each such version that is a routine is one
+-- If that version is a routine, contracts may call it.
 abbrev pub RunsPureIfRoutine : System → (RoutineName → Bool) → Reference → List ℕ → Type 0
 RunsPureIfRoutine s pure o x =
     (f : DeclaredFeature) → version_of s o.class x ≡ Some f → is_routine f.feature.kind ≡ true →
     pure (routine_of f) ≡ true
 
--- It calls and asks for what contracts may call, lends nothing with a request, and does nothing else until it starts,
--- is refused or fails.
+-- The routine calls and requests only what contracts may call, and passes no locks with a request. Otherwise it
+-- starts, is refused or fails.
 abbrev pub ClauseAct : System → (RoutineName → Bool) → Text → Entities → Act → Point → Type 0
 ClauseAct s pure t n (Enters c o x us gives) p =
     RunsPure s pure o x × ((a : EntityType) × (gives ≡ Some a) × StandsInClauses s pure t n (a ∷ []) p)
@@ -127,7 +127,7 @@ ClauseStep s pure t n (Does a p) = ClauseAct s pure t n a p
 
 -- ---- laws
 
--- So does the next turn of a routine that stands in its precondition, where its values fit.
+-- If a routine is in its precondition and its values fit, its next turn is a step of this kind.
 abbrev pub ClausesCallPure : Type 0
 ClausesCallPure = (s : System) (root : Root) (pure : RoutineName → Bool) → IsFaultless s root → WellFormed s →
     IsPurity s pure → (r : Routine) (me : Reference) →
@@ -135,7 +135,7 @@ ClausesCallPure = (s : System) (root : Root) (pure : RoutineName → Bool) → I
     ValuesDo (IsThereIfOwn me.handler p.objects) p →
     StandsInClauses s pure r.contract n [] p → ClauseStep s pure r.contract n (moves s me p)
 
--- A routine with a precondition that is entered with actuals that fit begins there.
+-- A routine with a precondition begins there, if it is entered with actuals that fit.
 abbrev pub ClausesComeFirst : Type 0
 ClausesComeFirst = (s : System) (root : Root) (pure : RoutineName → Bool) → IsFaultless s root → WellFormed s →
     IsPurity s pure → (r : Routine) (me : Reference) →
@@ -147,13 +147,13 @@ ClausesComeFirst = (s : System) (root : Root) (pure : RoutineName → Bool) → 
 
 -- ---- in each state that is reached
 
--- it has started, or stands in its own precondition
+-- The routine of the frame has started, or is in its own precondition.
 abbrev pub HasStartedOrStands : System → (RoutineName → Bool) → Frame → Type 0
 HasStartedOrStands s pure f =
     HasStarted f.tasks ⊎ StandsInClauses s pure f.routine.contract (formals_known s f.routine.text.formals)
     (coming_to f.stage) (point_of f [])
 
--- So it is of each frame in each state that is reached.
+-- This holds of each frame in each state that is reached.
 abbrev pub EachStandsInClauses : Type 0
 EachStandsInClauses = (s : System) (root : Root) (pure : RoutineName → Bool) → IsFaultless s root → WellFormed s →
     IsPurity s pure → (most : ℕ) (w : World) → IsReached most s root w →

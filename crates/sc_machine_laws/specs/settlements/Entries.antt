@@ -1,4 +1,4 @@
--- What becomes of the entry that a handler reserved for last, and when a clause of a precondition may be found false.
+-- The entry that a handler reserved for last, and when a clause of a precondition may be found false.
 use Rattle.std.specs.Prelude.{◌≡◌, ◌⊎◌, ℕ, Bool, true, false, List, [], ◌∷◌, Contains}
 use Rattle.sc_tree.specs.Plain.{System}
 use Rattle.sc_lockpass.specs.declared.wait_conditions.mark.Marked.{Marked}
@@ -13,7 +13,7 @@ use Rattle.sc_request.specs.Settling.{settled}
 
 -- ---- the core
 
--- what a handler is about to reserve is its entry, and none of its requests was taken over a reserve step
+-- What the handler is about to reserve is its entry, and none of its requests was taken at a reserve step.
 pub record KeepsEntry (x : Handler) : Type 0 where
   pub entered : (ks : List ℕ) (mark : List Marked) → x.stage ≡ Reserves ks mark → x.entry ≡ ks
   pub over : (v : Service) → Contains x.services v → (ks : List ℕ) (mark : List Marked) → v.over ≡ Reserves ks mark → ⊥
@@ -25,13 +25,13 @@ is_reserving Runs = false
 is_reserving (HasMade k) = false
 is_reserving (Awaits k is_creation) = false
 
--- The entry stays, or the handler is about to reserve, or it has no frames; and what it is about to reserve is still
--- its entry.
+-- The entry stays, or the handler is about to reserve, or it is idle. What it is about to reserve is still its
+-- entry.
 pub record EntryStays (x y : Handler) : Type 0 where
   pub keeps : KeepsEntry x → KeepsEntry y
   pub stays : (y.entry ≡ x.entry) ⊎ ((is_reserving y.stage ≡ true) ⊎ (y.stage ≡ Idle))
 
--- So it is of each handler in each settlement of one that is there.
+-- In each settlement of an existing handler this holds of each handler.
 abbrev pub EntriesStay : Type 0
 EntriesStay = (most h turns : ℕ) (j : Job) (asks : Want) (s : State) → (h ≡ s.count → ⊥) → (k : ℕ) →
     EntryStays (s.handlers k) ((settled most h j turns asks s).handlers k)
@@ -43,17 +43,18 @@ is_clause (Require ks) = true
 is_clause (Required k) = true
 is_clause task = false
 
--- no clause of a precondition is left
+-- No task is a clause of a precondition.
 abbrev pub HasStarted : List Task → Type 0
 HasStarted [] = Unit {0}
 HasStarted (t ∷ ts) = (is_clause t ≡ false) × HasStarted ts
 
--- none is left after it, and none is found false
+-- After the step no clause of a precondition is left, and the step finds none false.
 abbrev pub RefusesNone : Step → Type 0
 RefusesNone (Goes p) = HasStarted p.tasks
 RefusesNone (Does (Refuses k) p) = ⊥
 RefusesNone (Does a p) = HasStarted p.tasks
 
--- Where no clause of a routine's precondition is left, so it is after its next turn, in which none is found false.
+-- If no clause of a routine's precondition is left, none is left after its next turn, and that turn finds none
+-- false.
 abbrev pub StartedStay : Type 0
 StartedStay = (s : System) (me : Reference) (p : Point) → HasStarted p.tasks → RefusesNone (moves s me p)

@@ -1,4 +1,4 @@
--- What is said of the core beside each state of the machine that is reached.
+-- The core beside each state of the machine that is reached.
 use Rattle.std.specs.Prelude.{◌≡◌, ℕ, List, [], ◌∷◌}
 use Rattle.std.specs.Option.{option_map_or}
 use Rattle.sc_tree.specs.Plain.{System, Clause}
@@ -20,7 +20,8 @@ use Rattle.sc_request.specs.Logs.{opening}
 use Rattle.sc_request.specs.Steps.{stepped}
 use Rattle.sc_machine_laws.specs.states.Values.{WhereAccepted}
 
--- Where the handler's entry finds a clause false and waits, it is the entry that the handler reserved for last.
+-- If the topmost frame of `h` finds a clause of its precondition false and waits, the entry that `h` reserved for
+-- last is that frame's entry.
 abbrev pub RemembersEntry : System → ℕ → machine.World → State → Type 0
 RemembersEntry s h w c = (f : machine.Frame) (below : List machine.Frame) (k : Clause) (p : Point) →
     (w.handlers h).stack ≡ f ∷ below →
@@ -28,7 +29,7 @@ RemembersEntry s h w c = (f : machine.Frame) (below : List machine.Frame) (k : C
     verdict_on (machine.frame_at f p) k ≡ verdict.Wait →
     (c.handlers h).entry ≡ handlers_of (separate_formals f.environment)
 
--- In each state that is reached, the settlement of a turn leaves the half of the state that the machine steps to.
+-- If the core is the half of a state that is reached, the settlement of a turn makes it the half of the next state.
 abbrev pub HalvesWhereReached : Type 0
 HalvesWhereReached = WhereAccepted λ s root. (most : ℕ) (n : Numbering) (h : ℕ) (w : machine.World) (c : State) →
     IsReached most s root w →
@@ -36,17 +37,17 @@ HalvesWhereReached = WhereAccepted λ s root. (most : ℕ) (n : Numbering) (h : 
 
 -- ---- runs
 
--- the core that opens, asked for the creation of the root object
+-- the core at the opening, asked to create the root object
 abbrev pub opened : Numbering → System → Root → State
 opened n s root =
     opening (request_of n (root_request (option_map_or (λ k. k) (number_of s root.class) 0) root.procedure))
 
--- the state of the core after what the turns of these handlers ask, beside the machine
+-- the state of the core beside the machine, after the turns of these handlers
 abbrev pub run_beside : ℕ → Numbering → System → List ℕ → machine.World → State → State
 run_beside most n s [] w c = c
 run_beside most n s (h ∷ hs) w c = run_beside most n s hs (turn most s h w) (stepped most n s h w (job_of h c) c)
 
--- at each of these turns the entry is remembered
+-- At each of these turns the entry is remembered.
 abbrev pub RemembersAlong : ℕ → Numbering → System → List ℕ → machine.World → State → Type 0
 RemembersAlong most n s [] w c = Unit {0}
 RemembersAlong most n s (h ∷ hs) w c =
@@ -57,7 +58,7 @@ abbrev pub EntriesAreRemembered : Type 0
 EntriesAreRemembered = WhereAccepted λ s root. (most : ℕ) (n : Numbering) (hs : List ℕ) →
     RemembersAlong most n s hs (runs.opening s root) (opened n s root)
 
--- After the turns of any list of handlers the core is the half of the machine.
+-- After the turns of any list of handlers the core is the half of the machine's state.
 abbrev pub RunsAsHalf : Type 0
 RunsAsHalf = WhereAccepted λ s root. (most : ℕ) (n : Numbering) (hs : List ℕ) →
     IsHalfOf n (run most s hs (runs.opening s root)) (run_beside most n s hs (runs.opening s root) (opened n s root))

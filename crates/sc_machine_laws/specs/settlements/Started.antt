@@ -1,4 +1,4 @@
--- Whoever reserves, and what stands below it on its handler's stack.
+-- Frames that reserve, and the frames below them on their handler's stack.
 use Rattle.std.specs.Prelude.{◌≡◌, ℕ, Bool, true, false, List, [], ◌∷◌}
 use Rattle.sc_tree.specs.Plain.{System}
 use Rattle.sc_class.specs.ClassNames.{Root}
@@ -15,20 +15,20 @@ reserves_next machine.Runs = false
 reserves_next (machine.InCall gives) = false
 reserves_next (machine.Awaits k gives is_creation) = false
 
--- no clause of their preconditions is left
+-- No clause of the preconditions of these frames is left.
 abbrev pub AllStarted : List machine.Frame → Type 0
 AllStarted [] = Unit {0}
 AllStarted (f ∷ below) = HasStarted f.tasks × AllStarted below
 
--- The routines below one that reserves have started: none was called for a clause of a precondition.
+-- The routines below a frame that reserves have started, so none of them called it for a clause of a precondition.
 abbrev pub ReservesOnStarted : machine.World → Type 0
 ReservesOnStarted w = (h : ℕ) (f : machine.Frame) (below : List machine.Frame) → (w.handlers h).stack ≡ f ∷ below →
     reserves_next f.stage ≡ true → AllStarted below
 
--- So it is in each state that is reached.
+-- This holds in each state that is reached.
 abbrev pub EachOnStarted : ℕ → System → Root → Type 0
 EachOnStarted most s root = (w : machine.World) → IsReached most s root w → ReservesOnStarted w
 
--- So it is of each accepted system, with any number of handlers.
+-- This holds of each accepted system, with any number of handlers.
 abbrev pub ReserversOnStarted : Type 0
 ReserversOnStarted = WhereAccepted λ s root. (most : ℕ) → EachOnStarted most s root

@@ -1,4 +1,4 @@
--- What is true of the values of each state that is reached: the invariant of a turn.
+-- What holds of the values in each state that is reached: the invariant of a turn.
 use Rattle.std.specs.Prelude.{◌++◌, ◌<◌, Bool, List, None, Option, Some, [], is_some, length, true, ℕ, ◌∷◌, ◌≡◌}
 use Rattle.sc_tree.specs.Plain.{Declaration, System}
 use Rattle.sc_class.specs.Tables.Features.{DeclaredFeature}
@@ -19,8 +19,8 @@ use Rattle.sc_machine_laws.specs.states.Points.{AttributesFit, Each, IsAmong, Po
 
 -- ---- objects
 
--- The reference is to an object that is there, of its class, or to the first one of a handler whose creation waits to
--- be taken.
+-- The reference is to an existing object and has the object's class, or it is to the first object of a handler that
+-- takes the request for its creation next.
 pub data IsThere (w : World) (r : Reference) : Type 0 where
   is_made : {o : Object} → r.handler < w.count → object_numbered r.number (w.handlers r.handler).objects ≡ Some o →
       o.class ≡ r.class → IsThere w r
@@ -31,14 +31,14 @@ pub data IsThere (w : World) (r : Reference) : Type 0 where
 abbrev pub ValueIsThere : World → Value → Type 0
 ValueIsThere w v = (r : Reference) → v ≡ Attached r → IsThere w r
 
--- Its attributes fit, and are references to objects that exist.
+-- The attributes of the object fit, and refer to existing objects.
 pub record ObjectFits (s : System) (w : World) (h : ℕ) (o : Object) : Type 0 where
   pub attributes_fit : AttributesFit s h o
   pub are_there : Each (λ (b : Binding). ValueIsThere w b.value) o.attributes
 
 -- ---- requests
 
--- pair by pair: the actuals fit the types of the formals, seen from the target's handler
+-- Pair by pair, the actuals fit the types of the formals, seen from the target's handler.
 pub data ActualsFit (s : System) (h : ℕ) (all : List Declaration) (of : Reserved → Option ℕ) : List Declaration →
     List Value → Type 0 where
   no_more : ActualsFit s h all of [] []
@@ -46,8 +46,8 @@ pub data ActualsFit (s : System) (h : ℕ) (all : List Declaration) (of : Reserv
       declared_type s all d.declared_type ≡ Some t →
       Fits s h of v t → ActualsFit s h all of ds vs → ActualsFit s h all of (d ∷ ds) (v ∷ vs)
 
--- The class of the target has a version of what is called, a routine if it makes the object; its actuals fit, and
--- are references to objects that exist.
+-- The class of the target has a version of what is called, and a creation procedure is a routine. The actuals fit,
+-- and refer to existing objects.
 pub record RequestFits (s : System) (w : World) (h : ℕ) (r : Request) : Type 0 where
   pub is_here : r.target.handler ≡ h
   pub is_of_class : r.target.class < length s.classes
@@ -62,7 +62,7 @@ pub record RequestFits (s : System) (w : World) (h : ℕ) (r : Request) : Type 0
 
 -- ---- frames
 
--- what a stage waits for
+-- the types of the values that a frame in this stage waits for
 abbrev pub coming_to : Stage → List EntityType
 coming_to Runs = []
 coming_to Reserves = []
@@ -70,8 +70,8 @@ coming_to ReservesBlock = []
 coming_to (InCall gives) = listed gives
 coming_to (Awaits k gives is_creation) = listed gives
 
--- Its routine is a version of its object's class, what is left to do is typed, and its values fit and are references
--- to objects that exist.
+-- The routine of the frame is a version of its object's class, and its tasks are typed. Its values fit, and refer
+-- to existing objects.
 pub record FrameFits (s : System) (pure : RoutineName → Bool) (w : World) (h : ℕ) (f : Frame) : Type 0 where
   pub is_own : f.current.handler ≡ h
   pub is_there : IsAmong (w.handlers h).objects f.current
@@ -80,16 +80,16 @@ pub record FrameFits (s : System) (pure : RoutineName → Bool) (w : World) (h :
   pub names_are_there : Each (λ (b : Binding). ValueIsThere w b.value) f.environment
   pub values_are_there : Each (λ (u : Operand). ValueIsThere w u.value) (f.values ++ f.olds ++ listed f.result)
 
--- ---- what a frame gives to whom
+-- ---- the results of frames, and the frames that take them
 
--- The routine's result, if it fits its type at the supplier, fits the type that the caller waits for.
+-- A result that fits its type at the supplier fits the type that the caller waits for.
 abbrev pub Gives : System → ℕ → Option (Option EntityType) → ℕ → List Binding → Option EntityType → Type 0
 Gives s h (Some (Some t)) k cs (Some u) = (v : Value) → Fits s h no_names v t → Fits s k (handler_named cs) v u
 Gives s h None k cs None = Unit {0}
 Gives s h g k cs u = ⊥
 
--- The frames of a stack, each called by the one below it on its own handler, or for a request that asks for what its
--- routine gives.
+-- Each frame of the stack was called by the frame below it, on its own handler, or a request began it that asks for
+-- what its routine gives.
 pub data Linked (s : System) (h : ℕ) : List Frame → Type 0 where
   alone : {f : Frame} {r : Request} {below : List Frame} → f.origin ≡ Requested r →
       f.routine.text.result ≡ result_of_request s r → Linked s h below → Linked s h (f ∷ below)
@@ -98,7 +98,7 @@ pub data Linked (s : System) (h : ℕ) : List Frame → Type 0 where
       Gives s h f.routine.text.result h g.environment t → Linked s h (g ∷ below) → Linked s h (f ∷ g ∷ below)
   empty : Linked s h []
 
--- The topmost frame waits for the reply, and takes what it gives.
+-- The topmost frame waits for the reply, and the reply fits what it takes.
 pub record ReplyFits (s : System) (w : World) (h : ℕ) (v : Option Value) : Type 0 where
   pub frame : Frame
   pub below : List Frame
@@ -110,13 +110,12 @@ pub record ReplyFits (s : System) (w : World) (h : ℕ) (v : Option Value) : Typ
   pub fits : (t : EntityType) → takes ≡ Some t →
       (x : Value) × (v ≡ Some x) × Fits s h (handler_named frame.environment) x t × ValueIsThere w x
 
--- A reply comes only if it is waited for. The link from a request to the frame that waits is by the poster, whose
--- topmost frame that waits for this handler is that of the request (the law on rights: each open wait has its
--- request at its target).
+-- A reply comes only if the topmost frame waits for it. A request leads to that frame by its poster alone: by the
+-- law on rights, each open wait has its request at its target.
 abbrev pub AnswerFits : System → World → ℕ → Type 0
 AnswerFits s w h = (v : Option Value) → (w.handlers h).answer ≡ Some (Reply v) → ReplyFits s w h v
 
--- The topmost frame waits for an answer, and takes what fits such a result on the handler that was asked.
+-- The topmost frame of `p` waits for an answer, and takes what fits the result on the handler `h` that was asked.
 pub record TakesResult (s : System) (w : World) (p : ℕ) (h : ℕ) (result : Option (Option EntityType)) : Type 0 where
   pub frame : Frame
   pub below : List Frame
@@ -127,19 +126,19 @@ pub record TakesResult (s : System) (w : World) (p : ℕ) (h : ℕ) (result : Op
   pub stage_is : frame.stage ≡ Awaits supplier takes is_creation
   pub gives : Gives s h result p frame.environment takes
 
--- A handler that waits for the request, and has neither failed nor an answer yet, takes such a result.
+-- A handler that waits for the request, and has neither failed nor an answer yet, takes the result.
 abbrev pub IsAwaited : System → World → ℕ → Request → Option (Option EntityType) → Type 0
 IsAwaited s w h r result = (p : ℕ) → p < w.count → r.is_waited ≡ true → r.poster ≡ Some p →
     (w.handlers p).failure ≡ None → (w.handlers p).answer ≡ None → TakesResult s w p h result
 
--- The request may end in the next turn of its handler: the routine that it began runs on top, or it is the next that is
--- taken.
+-- The request may end in the next turn of its handler: its routine is the topmost frame and runs, or the request is
+-- the next that the handler takes.
 pub data MayEnd (x : Handler) (r : Request) : Type 0 where
   runs : {f : Frame} {below : List Frame} → x.stack ≡ f ∷ below → f.stage ≡ Runs → f.origin ≡ Requested r → MayEnd x r
   next : {rs : List Request} → x.stack ≡ [] → x.queue ≡ r ∷ rs → MayEnd x r
   called_back : {f : Frame} {below : List Frame} → x.stack ≡ f ∷ below → x.callback ≡ Some r → MayEnd x r
 
--- A handler that waits for a request that may end takes what it asks for.
+-- A handler that waits for a request that may end takes what the request asks for.
 abbrev pub EndsAreAwaited : System → World → Type 0
 EndsAreAwaited s w = (h : ℕ) (r : Request) → h < w.count → MayEnd (w.handlers h) r →
     IsAwaited s w h r (result_of_request s r)

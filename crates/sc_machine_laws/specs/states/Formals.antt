@@ -1,4 +1,4 @@
--- What a routine holds while it runs: its formals, and the names of its open blocks.
+-- The handlers that a routine holds while it runs: those of its formals, and of the names of its open blocks.
 use Rattle.std.specs.Prelude.{ℕ, ◌≡◌, Bool, true, false, List, ◌∷◌, take, Some, None, Contains}
 use Rattle.sc_lockpass.specs.Rights.{held}
 use Rattle.sc_model.specs.Values.{Value, handler_of}
@@ -6,7 +6,7 @@ use Rattle.sc_model.specs.Environments.{Binding, separate_formals, block_values}
 use Rattle.sc_model.specs.Tasks.{Task, Do, Leave}
 use Rattle.sc_model.specs.Handlers.{Stage, Runs, Reserves, ReservesBlock, InCall, Awaits, Frame, World}
 
--- The frame is past its reserve step, and not between an ask and its answer.
+-- The frame is past its reserve step, and doesn't wait for an answer.
 abbrev pub goes_on : Stage → Bool
 goes_on Runs = true
 goes_on Reserves = false
@@ -22,8 +22,8 @@ FormalsAreHeld w =
     → goes_on f.stage ≡ true → Contains (separate_formals f.environment) v → handler_of v ≡ Some k →
     held w.rights h k ≡ true
 
--- What the frame knows, but the names of a block that is about to reserve: its body comes next, and its end forgets
--- them.
+-- the bindings of the frame, without the names of a block that is about to reserve: the body of that block comes
+-- next, and its end forgets these names
 abbrev pub before_reserve : Stage → List Task → List Binding → List Binding
 before_reserve ReservesBlock (Do body ∷ Leave depth ∷ ts) bs = take depth bs
 before_reserve stage ts bs = bs

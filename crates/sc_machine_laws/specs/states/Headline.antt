@@ -1,4 +1,4 @@
--- The headline's part on rights, requests and chains, of a state of the machine.
+-- The headline's part on rights, requests and chains, for states of the machine.
 use Rattle.std.specs.Prelude.{ℕ, ◌≡◌, ◌<◌, ◌⊎◌, Bool, true, false, List, [], ◌∷◌, ◌++◌, Option, Some, None, is_some, Contains}
 use Rattle.sc_tree.specs.Plain.{System}
 use Rattle.sc_class.specs.ClassNames.{Root}
@@ -17,8 +17,7 @@ use Rattle.sc_machine_laws.specs.states.Stands.{Stands}
 
 -- ---- posted under a right
 
--- A request that a turn adds to a handler was posted by the turn's handler, which then held that one, or created it
--- in this turn.
+-- If a turn of `h` adds a request to `k`, then `h` posted it. `h` held `k`, or created `k` in this turn.
 abbrev pub PostedUnderRight : Type 0
 PostedUnderRight =
     (most : ℕ) (s : System) (h : ℕ) (w : World) (k : ℕ) (r : Request)
@@ -27,31 +26,30 @@ PostedUnderRight =
 
 -- ---- taken in order
 
--- How the queue of k changes in a turn of h: it stays; k takes its first; a request of h comes after its last; or
--- all are lost with the failure of k.
+-- How the queue of `k` changes in a turn of `h`: it stays; `k` takes its first request; a request of `h` is added
+-- at its end; or all its requests are lost when `k` fails.
 pub data QueueMoves (h k : ℕ) (x y : Handler) : Type 0 where
   stays : y.queue ≡ x.queue → QueueMoves h k x y
   takes : (r : Request) → k ≡ h → x.queue ≡ r ∷ y.queue → QueueMoves h k x y
   comes : (r : Request) → r.poster ≡ Some h → y.queue ≡ x.queue ++ r ∷ [] → QueueMoves h k x y
   falls : y.queue ≡ [] → is_some y.failure ≡ true → QueueMoves h k x y
 
--- So each request is taken at most once, in the order of its queue.
+-- Each queue changes in this way, so its requests are taken at most once and in order.
 abbrev pub QueuesAreInOrder : Type 0
 QueuesAreInOrder = (most : ℕ) (s : System) (h : ℕ) (w : World) (k : ℕ) → k < w.count
     → QueueMoves h k (w.handlers k) ((turn most s h w).handlers k)
 
 -- ---- kept for the request
 
--- As long as a handler has a request, in its queue, as its callback or on its stack, that handler may not be
--- reserved.
+-- While a handler has a request, in its queue, as its callback or on its stack, it may not be reserved.
 abbrev pub TargetsAreKept : World → Type 0
 TargetsAreKept w = (k : ℕ) (r : Request) → Contains (requests_at (w.handlers k)) r
     → may_be_reserved (standing_in w k) (w.rights.queue k) ≡ false
 
 -- ---- the chain
 
--- While a handler waits for another and none of its chain has failed, one of the chain may post to that other or push
--- on its waiting stack.
+-- If `p` waits for `k` and none of the chain of `p` has failed, one of the chain may post to `k` or push on its
+-- waiting stack.
 abbrev pub ChainsHold : World → Type 0
 ChainsHold w =
     (p k : ℕ) → WaitsFor w p k → ((z : ℕ) → InChain w p z → (w.handlers z).failure ≡ None)
@@ -66,8 +64,8 @@ is_awaiting Reserves = false
 is_awaiting ReservesBlock = false
 is_awaiting (InCall gives) = false
 
--- A handler whose topmost frame isn't between an ask and its answer may post to all that the frame's entry and its
--- open blocks newly reserved.
+-- If the topmost frame of a handler doesn't wait for an answer, the handler may post to all handlers that the
+-- frame's entry and its open blocks newly reserved.
 abbrev pub ReservedAreHeld : World → Type 0
 ReservedAreHeld w =
     (h k : ℕ) (f : Frame) (below : List Frame) (ks : List ℕ) → (w.handlers h).failure ≡ None
@@ -83,7 +81,8 @@ has_reply (Some (Reply v)) = true
 has_reply (Some Failed) = false
 has_reply (Some Refused) = true
 
--- The handler awaits an answer of k: one of its frames does, and if it is the topmost, no reply has come.
+-- The handler awaits an answer of `k`: one of its lower frames does, or its topmost frame does and no reply has
+-- come.
 pub data AwaitsAnswer (x : Handler) (k : ℕ) : Type 0 where
   topmost : {f : Frame} {below : List Frame} {gives : Option EntityType} {is_creation : Bool}
       → x.stack ≡ f ∷ below → f.stage ≡ Awaits k gives is_creation → has_reply x.answer ≡ false → AwaitsAnswer x k
@@ -95,7 +94,7 @@ abbrev pub WaitersAreTold : World → Type 0
 WaitersAreTold w = (p k : ℕ) → AwaitsAnswer (w.handlers p) k → is_some (w.handlers k).failure ≡ true
     → (w.handlers p).answer ≡ Some Failed
 
--- No other handler does: one that learns of a failure waits for one that has failed.
+-- A handler learns of a failure only if it waits for a handler that has failed.
 abbrev pub OnlyWaitersAreTold : World → Type 0
 OnlyWaitersAreTold w = (p : ℕ) → (w.handlers p).answer ≡ Some Failed
     → (k : ℕ) × WaitsFor w p k × (is_some (w.handlers k).failure ≡ true)
@@ -107,7 +106,7 @@ abbrev pub CallbacksComeFirst : World → Type 0
 CallbacksComeFirst w = (k : ℕ) (r : Request) → (w.handlers k).callback ≡ Some r
     → has_reply (w.handlers k).answer ≡ false
 
--- Where a request that is waited for may end, its poster has no reply.
+-- When a request that is waited for may end, its poster has no reply.
 abbrev pub RepliesMeetNone : World → Type 0
 RepliesMeetNone w =
     (h p : ℕ) (f : Frame) (below : List Frame) (r : Request) → (w.handlers h).failure ≡ None
@@ -116,9 +115,9 @@ RepliesMeetNone w =
     → (w.handlers p).failure ≡ None
     → has_reply (w.handlers p).answer ≡ false
 
--- ---- of each state that is reached
+-- ---- each state that is reached
 
--- The state has a lawful world of rights: all of the above follows from it.
+-- A lawful world of rights represents the state: all of the above follows from it.
 abbrev pub HasTrails : World → Type 0
 HasTrails w = (t : rights.World) × IsLawful t × Stands t w
 

@@ -1,4 +1,4 @@
--- What follows in every state that is reached.
+-- What follows for every state that is reached.
 use Rattle.std.specs.Prelude.{ℕ, ◌≡◌, ◌≢◌, ◌⊎◌, ◌↔◌, List, [], ◌∷◌, Some, None, true, false}
 use Rattle.sc_lockpass.specs.Passing as passing
 use Rattle.sc_lockpass.specs.Passing.{Passed}
@@ -8,7 +8,7 @@ use Rattle.sc_machine_laws.specs.states.Consistent.{StackWaits, IsOpen, IsOne}
 use Rattle.sc_machine_laws.specs.states.Chains.{WaitsOn, InChain}
 use Rattle.sc_machine_laws.specs.states.Lawful.{IsLawful, IsReached}
 
--- Each step keeps it, and so it holds in every state that is reached.
+-- Each step keeps the law, and so the law holds in every state that is reached.
 abbrev pub StepsAreLawful : Type 0
 StepsAreLawful = (w v : World) → IsLawful w → Step w v → IsLawful v
 
@@ -17,7 +17,7 @@ ReachedAreLawful = (w : World) → IsReached w → IsLawful w
 
 -- ---- posted under a right, and taken in order
 
--- A request that is added to a handler is new, and its poster then holds that handler.
+-- A request that a step adds to a handler is new, and its poster held that handler before the step.
 abbrev pub PostedUnderRight : Type 0
 PostedUnderRight =
     (w v : World) → IsLawful w → Step w v → (k : ℕ) (r : Request) → IsOne r (requests_of (v.handlers k))
@@ -25,22 +25,21 @@ PostedUnderRight =
 
 -- ---- kept for the request
 
--- From its post to its end a request keeps its target from being reserved.
+-- While a handler has a request, it may not be reserved.
 abbrev pub KeptForRequest : Type 0
 KeptForRequest = (w : World) → IsLawful w → (k : ℕ) (r : Request) → IsOne r (requests_of (w.handlers k)) → IsIdle k w
     → ⊥
 
 -- ---- the chain
 
--- One of the chain of a request that is waited for may post to its target or push on its waiting stack, or has
--- failed.
+-- If `p` waits for `k`, one of the chain of `p` may post to `k` or push on its waiting stack, or has failed.
 abbrev pub ChainsHold : World → Type 0
 ChainsHold w =
     (p k : ℕ) → WaitsOn w p k
     → (z : ℕ) × ((holder (w.queue k) ≡ Some z) ⊎ ((holder (w.top k) ≡ Some z) ⊎ ((w.handlers z).failed ≡ true)))
     × InChain w p z
 
--- While none of the chain has failed, one of it holds the target.
+-- If none of the chain has failed, one of it holds the target.
 abbrev pub ChainHolds : Type 0
 ChainHolds =
     (w : World) → IsLawful w → (p k : ℕ) → WaitsOn w p k → ((z : ℕ) → InChain w p z → (w.handlers z).failed ≡ false)
@@ -48,18 +47,18 @@ ChainHolds =
 
 -- ---- held while it runs
 
--- The frame is the topmost, or it is below frames that no request began: its own calls and its open blocks.
+-- The frame is the topmost, or no request began the frames above it: they are its own calls and its open blocks.
 abbrev pub RunsIn : Frame → List Frame → Type 0
 RunsIn f [] = ⊥
 RunsIn f (g ∷ fs) = (g ≡ f) ⊎ ((g.origin ≡ None) × RunsIn f fs)
 
--- What such a frame needs is held, where its handler goes on.
+-- A handler that goes on holds what these frames need.
 abbrev pub HeldWhileItRuns : Type 0
 HeldWhileItRuns =
     (w : World) → IsLawful w → (p : ℕ) (f : Frame) → IsActive (w.handlers p) → RunsIn f (w.handlers p).stack
     → EachHeld w p f.needs
 
--- So is what it newly reserved.
+-- `p` may post to each handler of these reservations.
 abbrev pub EachGranted : World → ℕ → List Reservation → Type 0
 EachGranted w p [] = Unit {0}
 EachGranted w p (r ∷ rs) = (holder (w.queue r.handler) ≡ Some p) × EachGranted w p rs
@@ -78,7 +77,7 @@ Told =
     → ((v : Wait) → IsOpen v (w.handlers p) → (w.handlers v.target).failed ≡ true → IsTold (w.handlers p))
     × (IsTold (w.handlers p) → (v : Wait) × StackWaits v (w.handlers p).stack × ((w.handlers v.target).failed ≡ true))
 
--- A handler's failure reaches those who wait for it, and no other handler.
+-- If `h` fails, the handlers that wait for `h` learn of it, and no other handler does.
 abbrev pub FailureTells : Type 0
 FailureTells =
     (w : World) → IsLawful w → (h : ℕ) → MayFail h w → (p : ℕ) → p ≢ h
@@ -86,8 +85,7 @@ FailureTells =
 
 -- ---- one answer
 
--- No reply meets a reply: a poster that hasn't failed has no answer yet as its request ends, unless it has learned
--- of a failure.
+-- When a request ends, its poster has no answer yet, unless the poster has failed or has learned of a failure.
 abbrev pub OneAnswer : Type 0
 OneAnswer =
     (w : World) → IsLawful w → (h : ℕ) (r : Request) → Ends h r w → (w.handlers r.poster).failed ≡ false
@@ -100,7 +98,7 @@ CallbackFirst = (w : World) → IsLawful w → (k : ℕ) (r : Request) → (w.ha
 
 -- ---- what is given back
 
--- With the end of a request exactly what was listed as it was put returns.
+-- When a request ends, exactly the rights return that were listed when it was posted.
 abbrev pub ListedReturns : Type 0
 ListedReturns =
     (w : World) → IsLawful w → (h : ℕ) (r : Request) (p : Passed) → Ends h r w → r.passed ≡ Some p

@@ -1,4 +1,4 @@
--- Laws of values that are passed on: to what conforms, back to a caller, and as actuals of a call.
+-- Laws of values that are passed on: to a type that theirs conforms to, back to a caller, and as actuals of a call.
 use Rattle.std.specs.Prelude.{List, None, Option, Some, [], false, map, true, ℕ, ◌≡◌}
 use Rattle.sc_tree.specs.Plain.{Declaration, DeclaredType, System}
 use Rattle.sc_rules.specs.entity_types.Conformance.{conforms}
@@ -16,19 +16,19 @@ use Rattle.sc_machine_laws.specs.states.Places.{no_names, of_actuals}
 use Rattle.sc_machine_laws.specs.states.Points.{Each, types_of}
 use Rattle.sc_machine_laws.specs.states.Typed.{Takes}
 
--- What fits a type fits each that it conforms to.
+-- If `t` conforms to `u`, what fits `t` fits `u`.
 abbrev pub FitWhereConforming : Type 0
 FitWhereConforming = (s : System) (me : ℕ) (of : Reserved → Option ℕ) (v : Value) (t u : EntityType) →
     conforms s t u ≡ true → Fits s me of v t → Fits s me of v u
 
--- What fits the declared type of a result on the target's handler fits the combined type, seen by the caller.
+-- What fits the declared type of a result on the target's handler fits the combined type that the caller sees.
 abbrev pub FitWhereGiven : Type 0
 FitWhereGiven = (s : System) (me k : ℕ) (of : Reserved → Option ℕ) (v : Value) (t g : EntityType) (d : DeclaredType) →
     declared_type s [] d ≡ Some g → Lies t.tag me of k →
     Fits s k no_names v g → Fits s me of v (combined_result t g)
 
--- Values that fit their types, which the rules let pass as actuals after a target of this type, fit the formals on
--- the target's handler.
+-- If the rules accept values as actuals for a target of the type `t`, and the values fit their types, they fit the
+-- formals on the target's handler.
 abbrev pub FitWherePassed : Type 0
 FitWherePassed = (s : System) (me k : ℕ) (bs : List Binding) (t : EntityType) (formals : List Declaration)
     (us : List Operand) → Lies t.tag me (handler_named bs) k →

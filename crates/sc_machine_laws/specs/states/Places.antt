@@ -1,4 +1,4 @@
--- Where a value stands in a state of the machine, and the type that the text gives it there.
+-- The places of values in a state of the machine, and the types that the text gives them there.
 use Rattle.std.specs.Option.{option_and_then, option_map}
 use Rattle.std.specs.Prelude.{◌<◌, Bool, Contains, List, None, Option, Some, [], false, slice_get, true, ℕ, ◌∷◌, ◌≡◌}
 use Rattle.sc_tree.specs.Plain.{Attribute, Declaration, FeatureKind, System, Routine}
@@ -15,11 +15,11 @@ use Rattle.sc_model.specs.Objects.{Object}
 use Rattle.sc_model.specs.Routines.{version_of}
 use Rattle.sc_model.specs.Values.{Operand, Value, handler_of}
 
--- no name is known
+-- No name is known.
 abbrev pub no_names : Reserved → Option ℕ
 no_names x = None
 
--- the handlers of formals, by the actuals
+-- the handlers of the formals, given by the actuals
 abbrev pub of_actuals : List Value → Reserved → Option ℕ
 of_actuals vs (Formal i) = option_and_then handler_of (slice_get vs i)
 of_actuals vs (BlockName j) = None
@@ -44,7 +44,7 @@ called_name (Makes k) = k
 abbrev pub formals_of_request : System → Request → List Declaration
 formals_of_request s r = formals_if_any (option_and_then (version_of s r.target.class) (called_name r.errand))
 
--- what a feature of the kind gives, if it gives something: a value of a type
+-- the type of the value that a feature of the kind gives, if it gives one
 abbrev pub result_of_kind : System → FeatureKind → Option (Option EntityType)
 result_of_kind s (Attribute d) = Some (declared_type s [] d)
 result_of_kind s (Routine routine) = option_map (declared_type s []) routine.result_type
@@ -53,12 +53,12 @@ abbrev pub result_if_any : System → Option DeclaredFeature → Option (Option 
 result_if_any s None = None
 result_if_any s (Some f) = result_of_kind s f.feature.kind
 
--- what the request asks for, by the version of its target's class
+-- the type of the value that the request asks for, in the version of its target's class
 abbrev pub result_of_request : System → Request → Option (Option EntityType)
 result_of_request s r = result_if_any s (option_and_then (version_of s r.target.class) (called_name r.errand))
 
--- The value stands somewhere in the state, as one of the type, seen from the handler of the number, where names have
--- these handlers; it may be unset, or it may not.
+-- The value is somewhere in the state and has the type, seen from the handler of the number, with these handlers
+-- for names. It may be unset if the truth value is true.
 pub data StandsAs (s : System) (w : World) : ℕ → (Reserved → Option ℕ) → Value → EntityType → Bool → Type 0 where
   attribute : {h : ℕ} {o : Object} {b : Binding} → h < w.count → Contains (w.handlers h).objects o →
       Contains o.attributes b → StandsAs s w h no_names b.value b.type true

@@ -1,4 +1,4 @@
--- What is true of a routine wherever it stands in its run: what is left to do is typed, and its values fit.
+-- What holds of a routine at each point of its run: its tasks are typed, and its values fit.
 use Rattle.std.specs.Prelude.{◌++◌, ◌<◌, Bool, List, None, Option, Some, [], false, length, map, true, ℕ, ◌∷◌, ◌≡◌, ◌⊎◌}
 use Rattle.sc_tree.specs.Plain.{Declaration, DeclaredType, System}
 use Rattle.sc_rules.specs.declared.entity_types.entity_type.EntityType.{EntityType}
@@ -13,7 +13,7 @@ use Rattle.sc_model.specs.Values.{Boolean, Operand, Reference, operand}
 use Rattle.sc_machine_laws.specs.states.Places.{no_names}
 use Rattle.sc_machine_laws.specs.states.Typed.{Extends, IsTyped, Known, ScopeStands, after, at}
 
--- each of them, in order
+-- `P` holds of each element of the list.
 abbrev pub Each : {A : Type 0} → (A → Type 0) → List A → Type 0
 Each P [] = Unit {0}
 Each P (x ∷ xs) = P x × Each P xs
@@ -25,7 +25,7 @@ listed (Some x) = x ∷ []
 abbrev pub types_of : List Operand → List EntityType
 types_of us = map (λ (u : Operand). u.type) us
 
--- What is known at the point, where values of these types are still to come onto its own.
+-- What is known at the point, if values of the types `coming` are still to come onto its own values.
 pub data Agrees (p : Point) (coming : List EntityType) : Known → Type 0 where
   here : Agrees p coming (at p.text (scope_of p.environment) (types_of p.olds) (coming ++ types_of p.values))
   held : {n m : Entities} {t : EntityType} {us : List Operand} → coming ≡ [] →
@@ -37,11 +37,11 @@ pub data Agrees (p : Point) (coming : List EntityType) : Known → Type 0 where
 
 -- ---- names
 
--- bindings behind the formals
+-- None of the bindings is a formal.
 abbrev pub AreBehind : List Binding → Type 0
 AreBehind bs = Each (λ (b : Binding). is_formal b.role ≡ false) bs
 
--- A local's type is a declared one, so it names no separate block.
+-- The type of a local is a declared one, so it names no separate block.
 abbrev pub LocalIsDeclared : System → Binding → Type 0
 LocalIsDeclared s b = is_local b.role ≡ true →
     (formals : List Declaration) × (d : DeclaredType) × (declared_type s formals d ≡ Some b.type)
@@ -49,16 +49,17 @@ LocalIsDeclared s b = is_local b.role ≡ true →
 abbrev pub NamesFit : System → ℕ → List Binding → Type 0
 NamesFit s h bs = Each (BindingFits s h bs) bs
 
--- Prefix by prefix, but never within the formals, the names fit: so what is forgotten breaks none of those that stay.
+-- In each prefix that has all formals, the names fit. So the names that stay still fit when later ones are
+-- forgotten.
 pub record EnvironmentFits (s : System) (h : ℕ) (bs : List Binding) : Type 0 where
   pub locals_are_declared : Each (LocalIsDeclared s) bs
   pub fit : (pre post : List Binding) → bs ≡ pre ++ post → AreBehind post → NamesFit s h pre
 
--- So do the values of `old`s, which know the formals alone.
+-- In each of these prefixes the values of the `old`s fit too, since they know only the formals.
 abbrev pub OldsFit : System → ℕ → List Binding → List Operand → Type 0
 OldsFit s h bs us = (pre post : List Binding) → bs ≡ pre ++ post → AreBehind post → Each (OperandFits s h pre) us
 
--- The Result is there where the routine gives one, and is of its type or still unset; its type names nothing.
+-- There is a Result if the routine gives one. It is of its type or still unset, and its type names nothing.
 pub data ResultFits (s : System) (h : ℕ) : Option (Option EntityType) → Option Operand → Type 0 where
   no_result : ResultFits s h None None
   a_result : {u : Operand} → FitsOrUnset s h no_names u.value u.type → ResultFits s h (Some (Some u.type)) (Some u)
@@ -71,7 +72,7 @@ pub record AttributesFit (s : System) (h : ℕ) (o : Object) : Type 0 where
   pub has_attributes : map known_of o.attributes ≡ map known_of (fresh_object s o.class).attributes
   pub fit : Each (λ (b : Binding). FitsOrUnset s h no_names b.value b.type) o.attributes
 
--- an object of the reference's class stands at its number
+-- There is an object with the number of the reference, and it has the reference's class.
 pub record IsAmong (objects : List Object) (r : Reference) : Type 0 where
   pub object : Object
   pub is_there : object_numbered r.number objects ≡ Some object
@@ -84,12 +85,12 @@ pub record StoreFits (s : System) (me : Reference) (objects : List Object) : Typ
 
 -- ---- the routine
 
--- The routine, on an object of this handler, stands at the point, where values of these types are still to come onto
--- its own.
+-- The routine, on an object of the handler `h`, is at the point `p`, and values of the types `coming` are still to
+-- come onto its own values. Its tasks are typed, and its values fit.
 pub record PointFits (s : System) (pure : RoutineName → Bool) (r : Routine) (h : ℕ) (coming : List EntityType)
     (p : Point) : Type 0 where
   pub text_is : (p.text ≡ r.text) ⊎ (p.text ≡ r.contract)
-  -- what is left to do is typed
+  -- its tasks are typed
   pub known : Known
   pub agrees : Agrees p coming known
   pub is_typed : IsTyped s pure r p.tasks known

@@ -1,10 +1,10 @@
--- Whoever waits for one that hasn't failed has its request there, unless it is told of a failure.
+-- If a handler waits for one that hasn't failed, its request is there, unless it learns of a failure.
 use Rattle.std.specs.Prelude.{ℕ, ◌≡◌, ◌⊎◌, true, false}
 use Rattle.sc_machine_laws.specs.states.World.{Wait, Request, World, requests_of}
 use Rattle.sc_machine_laws.specs.states.Steps.{IsTold}
 use Rattle.sc_machine_laws.specs.states.Consistent.{IsOpen, IsOne}
 
--- the request that p waits for stands at its target
+-- The request that `p` waits for is at its target.
 pub record Serves (w : World) (p : ℕ) (v : Wait) : Type 0 where
   pub request : Request
   pub stands : IsOne request (requests_of (w.handlers v.target))

@@ -1,4 +1,4 @@
--- A world of rights stands for a state of the machine: it has the same rights, requests, waits and failures.
+-- A world of rights represents a state of the machine: it has the same rights, requests, waits and failures.
 use Rattle.std.specs.Prelude.{◌⊎◌, ℕ, zero, suc, ◌≡◌, ◌≤◌, Bool, true, false, List, [], ◌∷◌, map, take, drop, Option, Some, None, is_some}
 use Rattle.std.specs.Option.{option_map}
 use Rattle.sc_rules.specs.declared.entity_types.entity_type.EntityType.{EntityType}
@@ -12,12 +12,12 @@ use Rattle.sc_model.specs.Handlers as machine
 
 -- ---- requests and answers
 
--- The root request, which has no poster, counts as one for which nobody waits.
+-- The root request, which has no poster, counts as a request that no handler waits for.
 abbrev pub IsPoster : Request → Option ℕ → Type 0
 IsPoster r None = r.waited ≡ false
 IsPoster r (Some p) = r.poster ≡ p
 
--- what a request of the machine's asks for
+-- The first says what the machine's request asks for: its poster, its target and its errand.
 abbrev pub AsksFor : Option Asked → machine.Request → Type 0
 AsksFor None q = ⊥
 AsksFor (Some a) q = (q.poster ≡ Some a.poster) × (q.target ≡ a.target) × (q.errand ≡ a.errand)
@@ -55,7 +55,7 @@ IsOrigin None (machine.Called c) = Unit {0}
 IsOrigin (Some r) (machine.Requested q) = IsRequest r q
 IsOrigin o p = ⊥
 
--- the value lies on the handler, or on one of these, if it lies on any
+-- If the value lies on a handler, that is `h` or one of `ks`.
 abbrev pub IsCovered : ℕ → List ℕ → Value → Type 0
 IsCovered h ks (Attached r) = (r.handler ≡ h) ⊎ (is_among r.handler ks ≡ true)
 IsCovered h ks (Integer z) = Unit {0}
@@ -66,7 +66,7 @@ abbrev pub AreCovered : ℕ → List ℕ → List Value → Type 0
 AreCovered h ks [] = Unit {0}
 AreCovered h ks (v ∷ vs) = IsCovered h ks v × AreCovered h ks vs
 
--- past its reserve step a routine needs the handlers of its attached separate formals
+-- Past its reserve step a routine needs the handlers of its attached separate formals.
 abbrev pub NeedsOf : machine.Stage → machine.Frame → List ℕ → Type 0
 NeedsOf machine.Reserves f ks = Unit {0}
 NeedsOf machine.Runs f ks = AreCovered f.current.handler ks (separate_formals f.environment)
@@ -74,14 +74,14 @@ NeedsOf machine.ReservesBlock f ks = AreCovered f.current.handler ks (separate_f
 NeedsOf (machine.InCall gives) f ks = AreCovered f.current.handler ks (separate_formals f.environment)
 NeedsOf (machine.Awaits k gives b) f ks = AreCovered f.current.handler ks (separate_formals f.environment)
 
--- the names of the open blocks, the innermost first: what the end of a block forgets
+-- the values of the names of the open block `i`, counted from the innermost: the end of the block forgets them
 abbrev pub names_in : List Task → List Binding → ℕ → List Value
 names_in [] bs i = []
 names_in (Leave depth ∷ ts) bs zero = block_values (drop depth bs)
 names_in (Leave depth ∷ ts) bs (suc i) = names_in ts (take depth bs) i
 names_in (t ∷ ts) bs i = names_in ts bs i
 
--- past its reserve step a block needs the handlers of its names
+-- Past its reserve step a block needs the handlers of its names.
 abbrev pub NamesOf : machine.Stage → machine.Frame → ℕ → List ℕ → Type 0
 NamesOf machine.ReservesBlock f i ks = AreCovered f.current.handler ks (names_in f.tasks f.environment (suc i))
 NamesOf machine.Reserves f i ks = AreCovered f.current.handler ks (names_in f.tasks f.environment i)
@@ -89,8 +89,8 @@ NamesOf machine.Runs f i ks = AreCovered f.current.handler ks (names_in f.tasks 
 NamesOf (machine.InCall gives) f i ks = AreCovered f.current.handler ks (names_in f.tasks f.environment i)
 NamesOf (machine.Awaits k gives b) f i ks = AreCovered f.current.handler ks (names_in f.tasks f.environment i)
 
--- a frame of the machine's is its routine, under its open blocks, the innermost first, under the creation whose answer
--- it awaits
+-- A frame of the machine is here, from the top: the creation whose answer it awaits, its open blocks with the
+-- innermost first, and its routine.
 abbrev pub IsRoutine : machine.Frame → (List ℕ → Type 0) → (List Frame → Type 0) → List Frame → Type 0
 IsRoutine f Needs Below [] = ⊥
 IsRoutine f Needs Below (g ∷ gs) =
@@ -103,7 +103,7 @@ AreBlocks Names (ks ∷ kss) Below (g ∷ gs) =
     (g.origin ≡ None) × (handlers_of g.reserved ≡ ks) × (waits_for gs ≡ None)
     × AreBlocks (λ i. Names (suc i)) kss Below gs × Names 0 g.needs
 
--- what names stand for in a frame of the machine's, and what is left to do of it and of each one under it
+-- the environment of a frame of the machine, and the tasks that are left of it and of each frame below it
 pub record Place : Type 0 where
   pub environment : List Binding
   pub left : List (List Task)
@@ -111,21 +111,21 @@ pub record Place : Type 0 where
 abbrev pub left_in : List machine.Frame → List (List Task)
 left_in fs = map (λ (f : machine.Frame). f.tasks) fs
 
--- the frame's, on these
+-- the place of the frame above the frames `below`
 abbrev pub place_of : machine.Frame → List machine.Frame → Place
 place_of f below = record { environment = f.environment; left = f.tasks ∷ left_in below }
 
--- what a frame that waits takes, where names stand for these
+-- A frame that waits has the environment `bs` and takes a value of the type `gives`.
 abbrev pub TakesAs : Option Asked → List Binding → Option EntityType → Type 0
 TakesAs None bs gives = ⊥
 TakesAs (Some a) bs gives = (a.environment ≡ bs) × (a.takes ≡ gives)
 
--- it lent all that it had reserved, or not, and this was left to do
+-- `lends` says whether the poster lent all that it had reserved, and `left` are the tasks that it had left.
 abbrev pub LendsAs : Option Asked → Bool → List (List Task) → Type 0
 LendsAs None lends left = ⊥
 LendsAs (Some a) lends left = (a.lends ≡ lends) × (a.left ≡ left)
 
--- the topmost one waits for k, and takes this
+-- The topmost frame waits for `k`, and takes a value of the type `gives`.
 pub record Awaited (k : ℕ) (gives : Option EntityType) (at : Place) (gs : List Frame) : Type 0 where
   pub wait : Wait
   pub waits : waits_for gs ≡ Some wait
@@ -161,7 +161,7 @@ pub record IsHandler (g : Handler) (x : machine.Handler) : Type 0 where
   pub callback : IsCallback g.callback x.callback
   pub answer : g.answer ≡ option_map answer_of x.answer
 
--- it was never used
+-- The handler was never used.
 pub record IsNew (g : Handler) : Type 0 where
   pub failed : g.failed ≡ false
   pub stack : g.stack ≡ []

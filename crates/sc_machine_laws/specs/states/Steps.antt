@@ -1,8 +1,8 @@
--- The steps of a world of rights. A turn of the machine is some of these in a row, or none.
+-- The steps of a world of rights. A turn of the machine is a sequence of these steps, perhaps an empty one.
 use Rattle.std.specs.Prelude.{ℕ, ◌≡◌, ◌≢◌, ◌⊎◌, Bool, true, false, List, [], ◌∷◌, Option, Some, None}
 use Rattle.sc_machine_laws.specs.states.World.{Wait, Request, Reservation, Frame, Answer, SupplierFailed, Handler, World, holder, post, ask, ask_passing, take_request, take_callback, enter, take_answer, reserve, settle, release, pop, finish, fail}
 
--- ---- what a step asks of the state
+-- ---- the conditions of steps
 
 abbrev pub waits_for : List Frame → Option Wait
 waits_for [] = None
@@ -26,7 +26,7 @@ answered (Some SupplierFailed) = false
 abbrev pub Holds : World → ℕ → ℕ → Type 0
 Holds w h k = (holder (w.queue k) ≡ Some h) ⊎ (holder (w.top k) ≡ Some h)
 
--- its topmost frame has released what it reserved
+-- The topmost frame has released what it reserved.
 abbrev pub HasReleased : List Frame → Type 0
 HasReleased [] = Unit {0}
 HasReleased (f ∷ fs) = f.reserved ≡ []
@@ -46,7 +46,7 @@ pub record IsIdle (k : ℕ) (w : World) : Type 0 where
   pub requests : (w.handlers k).requests ≡ []
   pub nobodys : w.queue k ≡ []
 
--- r is waited for, and the topmost frame of h, which goes on, is its routine
+-- `r` is waited for, and the topmost frame of `h`, which goes on, is the routine of `r`.
 pub record Ends (h : ℕ) (r : Request) (w : World) : Type 0 where
   pub active : IsActive (w.handlers h)
   pub frame : Frame
@@ -55,7 +55,8 @@ pub record Ends (h : ℕ) (r : Request) (w : World) : Type 0 where
   pub begun : frame.origin ≡ Some r
   pub waited : r.waited ≡ true
 
--- the frame's end answers nobody: that of an own call, or of a request for which nobody waits
+-- The end of the frame answers no handler: the frame is an own call, or its request is one that no handler waits
+-- for.
 abbrev pub AnswersNobody : Option Request → Type 0
 AnswersNobody None = Unit {0}
 AnswersNobody (Some r) = r.waited ≡ false
@@ -94,7 +95,7 @@ pub data Step (w : World) : World → Type 0 where
       → HasReleased (w.handlers h).stack → Step w (finish a h r w)
   Fails : (h : ℕ) → MayFail h w → Step w (fail h w)
 
--- some steps in a row, or none
+-- a sequence of steps, perhaps an empty one
 pub data Steps : World → World → Type 0 where
   Still : (w : World) → Steps w w
   Then : (w v u : World) → Step w v → Steps v u → Steps w u

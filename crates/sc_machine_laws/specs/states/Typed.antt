@@ -1,4 +1,4 @@
--- What is left to do in a routine is as the rules say, where these names are known and values of these types lie there.
+-- The tasks of a routine are typed as the rules say, with the names that are known and the types of the values.
 use Rattle.std.specs.List.{list_all}
 use Rattle.std.specs.Prelude.{◌&&◌, ◌+◌, ◌++◌, ◌<◌, Bool, Contains, List, None, Option, Some, [], false, length, map, not, slice_get, true, ℕ, ◌∷◌, ◌≡◌, ◌⊎◌}
 use Rattle.sc_tree.specs.Plain.{Branches, Clause, Declaration, DeclaredType, Expr, Instrs, Name, System, Variable}
@@ -31,16 +31,16 @@ use Rattle.sc_model.specs.Routines.{Routine, Text, place_in}
 use Rattle.sc_model.specs.Tasks.{ApplyBinary, ApplyUnary, AssignTo, Bind, CallQualified, CallUnqualified, Checked, Choose, Conclude, CreateBy, Declare, Do, EndLoop, Ensured, Eval, EvalRight, Forget, In, KeepOld, Leave, Open, Print, Repeat, Require, Required, Task}
 use Rattle.sc_machine_laws.specs.states.Places.{is_routine}
 
--- What is known where tasks are left: the text that they stand in, the names, the types of the `old`s that were kept,
--- and those of the values, the last one first. Behind a condition its value is the last; where that is true the second
--- names are known, where it is false the first and perhaps more.
+-- What is known when tasks are left (`at`): their text, the names, the types of the `old`s that were kept, and
+-- those of the values, the last one first. After a condition (`after`) its value lies on top of these: if it is
+-- true the second names are known, if it is false the first and perhaps more.
 pub data Known : Type 0 where
   at : Text → Entities → List EntityType → List EntityType → Known
   after : Text → Entities → Entities → List EntityType → List EntityType → Known
 
 -- ---- tags
 
--- What the tag names, if it names a formal, is one among these that a tag may name: an attached separate one.
+-- If the tag names a formal, this formal is one that a tag may name: an attached separate one.
 abbrev pub names_formal : List Declaration → Tag → Bool
 names_formal formals (tag.With (Formal i)) = is_nameable_if_any (slice_get formals i)
 names_formal formals (tag.With (BlockName j)) = true
@@ -52,7 +52,7 @@ abbrev pub type_names : List Declaration → Option EntityType → Bool
 type_names formals None = true
 type_names formals (Some t) = names_formal formals t.tag
 
--- attached, and not of the current handler
+-- The type is attached, and not of the current handler.
 abbrev pub lent_type : Option EntityType → Bool
 lent_type None = true
 lent_type (Some t) = t.attached && is_foreign t.tag
@@ -61,55 +61,55 @@ abbrev pub is_lent : Option Entity → Bool
 is_lent None = false
 is_lent (Some e) = is_formal e.role && lent_type e.type
 
--- Each of these formals that a tag may name stands at its number among the names, attached and separate, and the tag of
--- each name names such a formal, if it names one.
+-- Each of these formals that a tag may name is at its number among the names, attached and separate. If the tag of
+-- a name's type names a formal, it names one of these.
 pub record ScopeStands (formals : List Declaration) (n : Entities) : Type 0 where
   pub formals_are : (i : ℕ) → is_nameable_if_any (slice_get formals i) ≡ true → is_lent (slice_get n i) ≡ true
   pub tags_name : list_all (λ (e : Entity). type_names formals e.type) n ≡ true
 
--- the text as the rules of well-formed systems see it
+-- the text, as the rules of well-formed systems see it
 abbrev pub context_in : System → (RoutineName → Bool) → Text → RoutineContext
 context_in s pure t = record { system = s; class = t.class; formals = t.formals; result = t.result; pure = pure }
 
--- the second names are the first and others, none of them a formal
+-- The names `m` are `n` and others, none of them a formal.
 pub record Extends (n m : Entities) : Type 0 where
   pub more : Entities
   pub is_longer : m ≡ n ++ more
   pub no_formals : list_all (λ (e : Entity). not (is_formal e.role)) more ≡ true
 
--- these operands of `old`, of which the first has this number, were kept as values of their types
+-- These operands of `old`s were kept as values of their types. The first of them has the number `i`.
 abbrev pub AreKept : System → Text → Entities → ℕ → List Expr → List EntityType → Type 0
 AreKept s t n i es os = (j : ℕ) (a : Expr) → slice_get es j ≡ Some a →
     (u : EntityType) × (b : Bool) × HasType (place_in s t) context.Old Plain n a (typing (Some u) b)
     × (slice_get os (i + j) ≡ Some u)
 
--- those of an expression were
+-- The operands of the `old`s of the expression were kept.
 abbrev pub OldsKept : System → Text → Entities → ℕ → Expr → List EntityType → Type 0
 OldsKept s t n i e os = AreKept s t n i (olds_of e) os
 
--- actuals of these types may be passed to what has the signature
+-- Actuals of these types may be passed to what has the signature.
 abbrev pub Takes : System → List EntityType → Signature → Type 0
 Takes s ts g =
     (formals_take s g.target (map (λ (t : EntityType). Some t) ts) g.formals
     (map (λ (t : EntityType). Some t) ts) ≡ true) × (length ts ≡ length g.formals)
 
--- values in the order of the text, on these
+-- the types of values in the order of the text, put on `us`
 abbrev pub stacked : List EntityType → List EntityType → List EntityType
 stacked [] us = us
 stacked (t ∷ ts) us = stacked ts (t ∷ us)
 
--- what a call leaves on these values: a value of the type that it gives, if it gives one
+-- The call puts a value of the type that it gives on these values, if it gives one.
 pub data Leaves : Option (Option EntityType) → List EntityType → List EntityType → Type 0 where
   nothing : {us : List EntityType} → Leaves None us us
   a_value : {t : EntityType} {us : List EntityType} → Leaves (Some (Some t)) us (t ∷ us)
 
--- the names of a block with heads of these types, on these names
+-- The names of a block, with heads of these types, are added to the first names and give the second.
 pub data Opens : Entities → List Name → List EntityType → Entities → Type 0 where
   no_more : {n : Entities} → Opens n [] [] n
   one_more : {n m : Entities} {x : Name} {xs : List Name} {t : EntityType} {ts : List EntityType} →
       Opens (n ++ entity x.text (block_type (blocks n) (Some t)) role.Block ∷ []) xs ts m → Opens n (x ∷ xs) (t ∷ ts) m
 
--- an object may be created for an entity of the type, on the current handler or on a new one
+-- An object may be created for an entity of the type, on the current handler or on a new one.
 pub data IsMade (s : System) (h : RoutineContext) (t : EntityType) (ts : List EntityType) : Option
     (List ℕ) → Type 0 where
   without : {k : ℕ} → k < length s.classes → t.class ≡ class.Declared k → (t.tag ≡ tag.Own) ⊎ (t.tag ≡ tag.Any) →
@@ -118,14 +118,14 @@ pub data IsMade (s : System) (h : RoutineContext) (t : EntityType) (ts : List En
       (t.tag ≡ tag.Own) ⊎ (t.tag ≡ tag.Any) →
       qualified_meaning h t x ≡ named g → g.gives ≡ None → Takes s ts g → IsMade s h t ts (Some x)
 
--- an expression that is evaluated to a value of the type
+-- The expression has the type `a`.
 abbrev pub IsOf : System → Text → Context → Position → Entities → Expr → EntityType → Type 0
 IsOf s t c k n e a = (b : Bool) × HasType (place_in s t) c k n e (typing (Some a) b)
 
 abbrev pub IsBoolean : EntityType → Type 0
 IsBoolean a = is_boolean a.class ≡ true
 
--- The routine begins, in the text of the contract that it keeps: its formals alone are known, and no `old` is kept.
+-- The routine begins, in the text of its contract: only its formals are known, and no `old` is kept.
 abbrev pub IsAtEntry : System → Routine → Text → Entities → List EntityType → Type 0
 IsAtEntry s r t n os = (t ≡ r.contract) × (n ≡ formals_known s r.text.formals) × (os ≡ [])
 
@@ -239,7 +239,7 @@ pub data IsTyped (s : System) (pure : RoutineName → Bool) (r : Routine) : List
       IsTyped s pure r k (at t n (os ++ a ∷ []) []) → IsTyped s pure r (KeepOld ∷ k) (at t n os (a ∷ []))
   ensured : {k : List Task} {t : Text} {n : Entities} {os : List EntityType} {a : EntityType} → IsBoolean a →
       IsTyped s pure r k (at t n os []) → IsTyped s pure r (Ensured ∷ k) (at t n os (a ∷ []))
-  -- the value of any expression is that of a condition that gives no names
+  -- the value of any expression may be that of a condition that gives no names
   settled_choice : {k : List Task} {t : Text} {n m : Entities} {os vs : List EntityType} {a : EntityType} {d : ℕ}
       {is other : Instrs} {bs : Branches} → IsBoolean a →
       Extends n m → IsTyped s pure r (Choose d is bs other ∷ k) (after t n m os vs) →

@@ -1,4 +1,4 @@
--- What is true of each step that a routine takes, visible or not.
+-- What holds of each step of a routine, visible or not.
 use Rattle.std.specs.Prelude.{◌<◌, Bool, Contains, List, None, Option, Some, [], false, length, true, ℕ, ◌∷◌, ◌≡◌}
 use Rattle.sc_tree.specs.Plain as tree
 use Rattle.sc_tree.specs.Plain.{DeclaredType, FeatureKind, RoutineDeclaration, System}
@@ -21,9 +21,9 @@ use Rattle.sc_machine_laws.specs.states.Places.{is_routine, no_names, of_actuals
 use Rattle.sc_machine_laws.specs.states.Points.{Each, IsAmong, PointFits, StoreFits, listed, types_of}
 use Rattle.sc_machine_laws.specs.states.Typed.{IsAtEntry}
 
--- ---- calls: what they come to on the called object's handler
+-- ---- calls, on the handler of the called object
 
--- What is given there, where it fits its declared type, fits the type that the caller sees.
+-- A result that fits its declared type there fits the type that the caller sees.
 abbrev pub GivesFit : System → ℕ → (Reserved → Option ℕ) → ℕ → Option DeclaredType → Option EntityType → Type 0
 GivesFit s me of k None None = Unit {0}
 GivesFit s me of k (Some d) (Some t) =
@@ -31,7 +31,7 @@ GivesFit s me of k (Some d) (Some t) =
     × ((v : Value) → Fits s k no_names v g → Fits s me of v t)
 GivesFit s me of k d t = ⊥
 
--- the actuals fit the formals, and what is given fits
+-- The actuals fit the formals, and the result fits.
 pub data KindFits (s : System) (me : ℕ) (of : Reserved → Option ℕ) (k : ℕ) (us : List Operand)
     (gives : Option EntityType) : FeatureKind → Type 0 where
   a_routine : {version : RoutineDeclaration} →
@@ -40,25 +40,25 @@ pub data KindFits (s : System) (me : ℕ) (of : Reserved → Option ℕ) (k : �
   an_attribute : {d : DeclaredType} → us ≡ [] → GivesFit s me of k (Some d) gives →
       KindFits s me of k us gives (tree.Attribute d)
 
--- The object's class has a version of the name, which the call fits.
+-- The class of the object has a version of the name, and the call fits this version.
 pub record CallFits (s : System) (me : ℕ) (of : Reserved → Option ℕ) (o : Reference) (x : List ℕ) (us : List Operand)
     (gives : Option EntityType) : Type 0 where
   pub version : DeclaredFeature
   pub is_version : version_of s o.class x ≡ Some version
   pub fits : KindFits s me of o.handler us gives version.feature.kind
 
--- a routine of the object is entered so
+-- The call fits, and the version that it calls is a routine.
 abbrev pub EntryFits : System → ℕ → (Reserved → Option ℕ) → Reference → List ℕ → List Operand →
     Option EntityType → Type 0
 EntryFits s me of o x us gives = (c : CallFits s me of o x us gives) × (is_routine c.version.feature.kind ≡ true)
 
--- On whichever handler the new object lies, its creation procedure takes the actuals.
+-- On any handler, the creation procedure of the new object takes the actuals.
 abbrev pub CreationFits : System → ℕ → (Reserved → Option ℕ) → ℕ → Option (List ℕ) → List Operand → Type 0
 CreationFits s me of k None us = us ≡ []
 CreationFits s me of k (Some x) us = (j : ℕ) →
     EntryFits s me of (record { handler = j; number = 1; class = k }) x us None
 
--- One of the names lies on the handler: an attached separate formal, or the name of a separate block.
+-- An attached separate formal or the name of a separate block lies on the handler `k`.
 pub data IsNamed (bs : List Binding) (k : ℕ) : Type 0 where
   by_formal : {v : Value} → Contains (separate_formals bs) v → handler_of v ≡ Some k → IsNamed bs k
   by_block : {v : Value} → Contains (block_values bs) v → handler_of v ≡ Some k → IsNamed bs k
@@ -74,11 +74,11 @@ is_excluded cause.BadCode = true
 is_excluded _ = false
 
 module _ (s : System) (pure : RoutineName → Bool) (r : Routine) (me : Reference) where
-  -- the routine stands so at the point, and the objects of its handler fit
+  -- The routine is at the point and its values fit, and the objects of its handler fit.
   abbrev pub StandsSo : List EntityType → Point → Type 0
   StandsSo coming p = PointFits s pure r me.handler coming p × StoreFits s me p.objects
 
-  -- What the act comes to fits, and after it the routine goes on.
+  -- The act fits, and the routine still fits after it.
   abbrev pub ActFits : Act → Point → Type 0
   ActFits (Fails why) p = (is_excluded why ≡ false) × StoreFits s me p.objects
   ActFits (Enters c o x us gives) p =
@@ -98,16 +98,16 @@ module _ (s : System) (pure : RoutineName → Bool) (r : Routine) (me : Referenc
   StepFits (Goes p) = StandsSo [] p
   StepFits (Does act p) = ActFits act p
 
--- ---- where references lead
+-- ---- conditions on all values
 
--- each value of an operand does
+-- `P` holds of the value of each operand.
 abbrev pub OperandsDo : (Value → Type 0) → List Operand → Type 0
 OperandsDo P us = Each (λ (u : Operand). P u.value) us
 
 abbrev pub BindingsDo : (Value → Type 0) → List Binding → Type 0
 BindingsDo P bs = Each (λ (b : Binding). P b.value) bs
 
--- each value at the point does
+-- `P` holds of each value at the point.
 pub record ValuesDo (P : Value → Type 0) (p : Point) : Type 0 where
   pub objects_do : Each (λ (o : Object). BindingsDo P o.attributes) p.objects
   pub names_do : BindingsDo P p.environment
@@ -115,6 +115,6 @@ pub record ValuesDo (P : Value → Type 0) (p : Point) : Type 0 where
   pub olds_do : OperandsDo P p.olds
   pub values_do : OperandsDo P p.values
 
--- a value that is an object of this handler is among these
+-- If the value is an object of the handler `h`, it is among `objects`.
 abbrev pub IsThereIfOwn : ℕ → List Object → Value → Type 0
 IsThereIfOwn h objects v = (o : Reference) → v ≡ Attached o → o.handler ≡ h → IsAmong objects o

@@ -1,4 +1,4 @@
--- What is said of the values of each state that is reached.
+-- Laws of the values of each state that is reached.
 use Rattle.std.specs.Option.{option_and_then}
 use Rattle.std.specs.Prelude.{◌<◌, Bool, List, None, Option, Some, [], false, true, ℕ, ◌∷◌, ◌≡◌, ◌⊎◌}
 use Rattle.sc_tree.specs.Plain.{System}
@@ -33,34 +33,34 @@ use Rattle.sc_machine_laws.specs.states.Places.{StandsAs, of_actuals, result_if_
 use Rattle.sc_machine_laws.specs.states.Points.{IsAmong, PointFits}
 use Rattle.sc_machine_laws.specs.states.ValueSteps.{IsThereIfOwn, StandsSo, StepFits, ValuesDo, is_excluded}
 
--- what the checker accepts
+-- The law holds of each system that the checker accepts.
 abbrev pub WhereAccepted : (System → Root → Type 0) → Type 0
 WhereAccepted law = (s : System) (root : Root) → IsFaultless s root → WellFormed s → law s root
 
--- Each value fits its type, wherever it stands; an attribute, a local or a Result may still be unset.
+-- Each value fits its type, wherever it is; an attribute, a local or a Result may still be unset.
 abbrev pub ValuesFit : Type 0
 ValuesFit = WhereAccepted λ s root. (most : ℕ) (w : World) → IsReached most s root w →
     (h : ℕ) (of : Reserved → Option ℕ) (v : Value) (t : EntityType) (may_be_unset : Bool) →
     StandsAs s w h of v t may_be_unset → Fits s h of v t ⊎ ((may_be_unset ≡ true) × IsUnset v t)
 
--- Whatever is typed non-separate belongs to its own handler.
+-- A reference that is typed non-separate is to an object of its own handler.
 abbrev pub NonSeparateIsOwn : Type 0
 NonSeparateIsOwn = WhereAccepted λ s root. (most : ℕ) (w : World) → IsReached most s root w →
     (h : ℕ) (of : Reserved → Option ℕ) (r : Reference) (t : EntityType) (may_be_unset : Bool) →
     StandsAs s w h of (Attached r) t may_be_unset → t.tag ≡ tag.Own → r.handler ≡ h
 
--- No handler fails so.
+-- No handler fails with an excluded cause.
 abbrev pub NoneIsExcluded : Type 0
 NoneIsExcluded = WhereAccepted λ s root. (most : ℕ) (w : World) → IsReached most s root w → (h : ℕ) (why : Cause) →
     (w.handlers h).failure ≡ Some why → is_excluded why ≡ false
 
--- Where the invariant of a turn holds, each value fits.
+-- If the invariant of a turn holds, each value fits.
 abbrev pub FitWhereWorldFits : Type 0
 FitWhereWorldFits = (s : System) (pure : RoutineName → Bool) (w : World) → WorldFits s pure w →
     (h : ℕ) (of : Reserved → Option ℕ) (v : Value) (t : EntityType) (may_be_unset : Bool) →
     StandsAs s w h of v t may_be_unset → Fits s h of v t ⊎ ((may_be_unset ≡ true) × IsUnset v t)
 
--- What fits and is typed non-separate is of its own handler.
+-- If the invariant of a turn holds, a reference that is typed non-separate is to an object of its own handler.
 abbrev pub OwnWhereWorldFits : Type 0
 OwnWhereWorldFits = (s : System) (pure : RoutineName → Bool) (w : World) → WorldFits s pure w →
     (h : ℕ) (of : Reserved → Option ℕ) (r : Reference) (t : EntityType) (may_be_unset : Bool) →
@@ -71,8 +71,8 @@ abbrev pub OpeningFits : Type 0
 OpeningFits = (s : System) (root : Root) (pure : RoutineName → Bool) → IsFaultless s root →
     WorldFits s pure (opening s root)
 
--- Where a routine stands so that what is left to do is typed and its values fit, and each of its references to its own
--- handler leads to an object, its next step fits.
+-- If the tasks of a routine are typed, its values fit, and each of its references to its own handler leads to an
+-- object, its next step fits.
 abbrev pub StepsFit : Type 0
 StepsFit = (s : System) (root : Root) (pure : RoutineName → Bool) → IsFaultless s root → WellFormed s →
     IsPurity s pure → (r : Routine) (me : Reference) →
@@ -80,7 +80,7 @@ StepsFit = (s : System) (root : Root) (pure : RoutineName → Bool) → IsFaultl
     ValuesDo (IsThereIfOwn me.handler p.objects) p →
     StepFits s pure r me (step s me p)
 
--- So does its next turn: the silent steps up to a visible one, and that one.
+-- Its next turn also fits: the silent steps up to a visible one, and that one.
 abbrev pub MovesFit : Type 0
 MovesFit = (s : System) (root : Root) (pure : RoutineName → Bool) → IsFaultless s root → WellFormed s →
     IsPurity s pure → (r : Routine) (me : Reference) →
@@ -88,14 +88,14 @@ MovesFit = (s : System) (root : Root) (pure : RoutineName → Bool) → IsFaultl
     ValuesDo (IsThereIfOwn me.handler p.objects) p →
     StepFits s pure r me (moves s me p)
 
--- The formals of the routine are bound to these actuals, and it begins typed, with values that fit.
+-- The formals of the routine are bound to the actuals `vs`, and it begins typed, with values that fit.
 pub record EntryBegins (s : System) (pure : RoutineName → Bool) (r : Routine) (me : Reference) (vs : List Value)
     (o : Origin) (objects : List Object) : Type 0 where
   pub bindings : List Binding
   pub are_bound : formals_bound s r.text.formals 0 r.text.formals vs ≡ Some bindings
   pub fits : PointFits s pure r me.handler [] (point_of (entry me r o bindings) objects)
 
--- A routine of an accepted system that is entered with actuals that fit begins so.
+-- A routine of an accepted system begins in this way, if it is entered with actuals that fit.
 abbrev pub EntriesFit : Type 0
 EntriesFit = (s : System) (root : Root) (pure : RoutineName → Bool) → IsFaultless s root → WellFormed s →
     IsPurity s pure → (r : Routine) (me : Reference) →
@@ -103,14 +103,14 @@ EntriesFit = (s : System) (root : Root) (pure : RoutineName → Bool) → IsFaul
     ActualsFit s me.handler r.text.formals (of_actuals vs) r.text.formals vs → (o : Origin) (objects : List Object) →
     EntryBegins s pure r me vs o objects
 
--- Where the invariant of a turn holds, the topmost frame of a handler makes a move that fits, if it runs.
+-- If the invariant of a turn holds and the topmost frame of a handler runs, its next move fits.
 abbrev pub RunningFramesMove : Type 0
 RunningFramesMove = (s : System) (root : Root) (pure : RoutineName → Bool) → IsFaultless s root → WellFormed s →
     IsPurity s pure → (w : World) → WorldFits s pure w →
     (h : ℕ) → h < w.count → (f : Frame) (below : List Frame) → (w.handlers h).stack ≡ f ∷ below → f.stage ≡ Runs →
     StepFits s pure f.routine f.current (moves s f.current (point_of f (w.handlers h).objects))
 
--- No such move fails for a foreign object, a Void target or a missing case.
+-- No move of these frames fails with an excluded cause.
 abbrev pub NoMoveIsExcluded : Type 0
 NoMoveIsExcluded = (s : System) (root : Root) (pure : RoutineName → Bool) → IsFaultless s root → WellFormed s →
     IsPurity s pure → (w : World) → WorldFits s pure w →
@@ -118,7 +118,7 @@ NoMoveIsExcluded = (s : System) (root : Root) (pure : RoutineName → Bool) → 
     (why : Cause) (p : Point) →
     moves s f.current (point_of f (w.handlers h).objects) ≡ Does (Fails why) p → is_excluded why ≡ false
 
--- Whoever holds whom, each value fits.
+-- The invariant doesn't depend on the rights.
 abbrev pub RightsKeepIt : Type 0
 RightsKeepIt = (s : System) (pure : RoutineName → Bool) (w : World) (x : Rights) → WorldFits s pure w →
     WorldFits s pure (record w { rights = x })
@@ -128,7 +128,7 @@ abbrev pub ReleasesKeepIt : Type 0
 ReleasesKeepIt = (s : System) (pure : RoutineName → Bool) (w : World) (how : Release) (ks : List ℕ) →
     WorldFits s pure w → WorldFits s pure (release how ks w)
 
--- So does the failure of a handler that has an object, whatever request it takes.
+-- The failure of a handler that has an object keeps the invariant, whatever requests it takes.
 abbrev pub FailuresKeepIt : Type 0
 FailuresKeepIt = (s : System) (pure : RoutineName → Bool) (w : World) (h : ℕ) (why : Cause) (taken : List Request)
     (o : Reference) → IsAmong (w.handlers h).objects o →
@@ -143,7 +143,7 @@ ReservationsKeepIt = (s : System) (pure : RoutineName → Bool) (w : World) (h :
     (f.stage ≡ Reserves → WorldFits s pure (reserves_entry h ks f below w))
     × (f.stage ≡ ReservesBlock → WorldFits s pure (reserves_block h ks f below w))
 
--- A turn in which the topmost frame makes a move that ends in such an act keeps the invariant.
+-- A turn in which the topmost frame makes a move that ends in an act of the given kind keeps the invariant.
 abbrev pub ActsKeepIt : (Act → Bool) → Type 0
 ActsKeepIt is_such = (s : System) (root : Root) (pure : RoutineName → Bool) → IsFaultless s root → WellFormed s →
     IsPurity s pure → (most : ℕ) (w : World) → WorldFits s pure w →
@@ -152,7 +152,7 @@ ActsKeepIt is_such = (s : System) (root : Root) (pure : RoutineName → Bool) �
     moves s f.current (point_of f (w.handlers h).objects) ≡ Does a p → is_such a ≡ true →
     WorldFits s pure (settles most s h (Does a p) f below w)
 
--- what concerns the own handler alone: no call, no request, no new handler, and no end of the routine
+-- The act concerns the own handler alone: it is no call, no request, no new handler, and no end of the routine.
 abbrev pub is_own_act : Act → Bool
 is_own_act (Prints text) = true
 is_own_act Until = true
@@ -167,27 +167,27 @@ is_own_act (Requests o x us t passes) = false
 is_own_act (Refuses k) = false
 is_own_act Exits = false
 
--- a routine of the own handler is called
+-- A routine of the own handler is called.
 abbrev pub is_entry : Act → Bool
 is_entry (Enters c o x us t) = true
 is_entry other = false
 
--- another handler is asked
+-- Another handler is asked.
 abbrev pub is_request : Act → Bool
 is_request (Requests o x us t passes) = true
 is_request other = false
 
--- a handler is created
+-- A handler is created.
 abbrev pub is_new_handler : Act → Bool
 is_new_handler (CreatesHandler class procedure us t passes) = true
 is_new_handler other = false
 
--- the precondition of the entry is false
+-- The precondition of the entry is false.
 abbrev pub is_refusal : Act → Bool
 is_refusal (Refuses k) = true
 is_refusal other = false
 
--- So does the exit of a routine, where whoever waits for the request that began it takes its result.
+-- The exit of a routine keeps the invariant, if a handler that waits for its request takes its result.
 abbrev pub ExitsKeepIt : Type 0
 ExitsKeepIt = (s : System) (root : Root) (pure : RoutineName → Bool) → IsFaultless s root → WellFormed s →
     IsPurity s pure → (most : ℕ) (w : World) → WorldFits s pure w →
@@ -205,15 +205,16 @@ AnswersKeepIt = (s : System) (pure : RoutineName → Bool) (w : World) → World
     (w.handlers h).answer ≡ Some a →
     WorldFits s pure (takes_answer h a k t is_creation f below w)
 
--- A turn in which a handler without frames takes the first request of its queue keeps the invariant, where whoever
--- waits for it takes what it asks for.
+-- A turn in which a handler without frames takes the first request of its queue keeps the invariant, if a handler
+-- that waits for this request takes what it asks for.
 abbrev pub NextKeepIt : Type 0
 NextKeepIt = (s : System) (root : Root) (pure : RoutineName → Bool) → IsFaultless s root → WellFormed s →
     IsPurity s pure → (w : World) → WorldFits s pure w → (h : ℕ) → h < w.count →
     (r : Request) (rs : List Request) → (w.handlers h).stack ≡ [] → (w.handlers h).queue ≡ r ∷ rs →
     IsAwaited s w h r (result_of_request s r) → WorldFits s pure (takes_next s h (r ∷ rs) w)
 
--- So does one in which it takes a callback, where no reply has come.
+-- A turn in which a handler takes a callback keeps the invariant, if no reply has come and a handler that waits for
+-- the callback takes what it asks for.
 abbrev pub CallbacksKeepIt : Type 0
 CallbacksKeepIt = (s : System) (root : Root) (pure : RoutineName → Bool) → IsFaultless s root → WellFormed s →
     IsPurity s pure → (w : World) → WorldFits s pure w → (h : ℕ) → h < w.count →
@@ -221,7 +222,7 @@ CallbacksKeepIt = (s : System) (root : Root) (pure : RoutineName → Bool) → I
     (w.handlers h).callback ≡ Some r → ((v : Option Value) → (w.handlers h).answer ≡ Some (Reply v) → ⊥) →
     IsAwaited s w h r (result_of_request s r) → WorldFits s pure (takes_callback s h r (f ∷ below) w)
 
--- Where the invariant holds, what a request asks for fits what its poster takes, and a creation of a handler gives
+-- If the invariant holds, what a request asks for fits what its poster takes, and the creation of a handler gives
 -- nothing.
 abbrev pub RequestsAreMatched : Type 0
 RequestsAreMatched = (s : System) (root : Root) (pure : RoutineName → Bool) → IsFaultless s root → WellFormed s →
@@ -235,28 +236,29 @@ RequestsAreMatched = (s : System) (root : Root) (pure : RoutineName → Bool) �
     moves s f.current (point_of f (w.handlers h).objects) ≡ Does (CreatesHandler c procedure us t passes) p → (k : ℕ) →
     Gives s k (result_if_any s (option_and_then (version_of s c) procedure)) h p.environment None)
 
--- Each turn keeps the invariant, where no callback stands beside a reply, and whoever waits for what may end takes what
--- it asks for.
+-- Each turn keeps the invariant, if no handler has both a callback and a reply, and each handler that waits for a
+-- request that may end takes what the request asks for.
 abbrev pub TurnsKeepWhereAwaited : Type 0
 TurnsKeepWhereAwaited = (s : System) (root : Root) (pure : RoutineName → Bool) → IsFaultless s root → WellFormed s →
     IsPurity s pure → (most h : ℕ) (w : World) → WorldFits s pure w →
     CallbacksStandAlone w → EndsAreAwaited s w → WorldFits s pure (turn most s h w)
 
--- Each turn keeps the invariant.
+-- Each turn keeps the invariant in a state that is reached.
 abbrev pub TurnsKeepIt : Type 0
 TurnsKeepIt = (s : System) (root : Root) (pure : RoutineName → Bool) → IsFaultless s root → WellFormed s →
     IsPurity s pure →
     (most h : ℕ) (w : World) → IsReached most s root w → WorldFits s pure w → WorldFits s pure (turn most s h w)
 
--- No callback stands beside a reply in any state that is reached.
+-- In each state that is reached, no handler has both a callback and a reply.
 abbrev pub EachStandsAlone : Type 0
 EachStandsAlone = (s : System) (root : Root) (most : ℕ) (w : World) → IsReached most s root w → CallbacksStandAlone w
 
--- In each state that an accepted system reaches, whoever waits for what may end takes what it asks for.
+-- In each state that an accepted system reaches, a handler that waits for a request that may end takes what the
+-- request asks for.
 abbrev pub EachEndIsAwaited : Type 0
 EachEndIsAwaited = WhereAccepted λ s root. (most : ℕ) (w : World) → IsReached most s root w → EndsAreAwaited s w
 
--- Then each turn keeps the invariant.
+-- If this holds, each turn keeps the invariant.
 abbrev pub TurnsFromEnds : Type 0
 TurnsFromEnds = EachEndIsAwaited → TurnsKeepIt
 

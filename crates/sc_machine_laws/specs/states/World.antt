@@ -1,4 +1,5 @@
--- Rights, waits and requests, without values: who has each right and who gets it back, and what a step makes of it.
+-- Rights, waits and requests, without values: which handler has each right, which one gets it back, and what a step
+-- changes.
 use Rattle.std.specs.Prelude.{ℕ, suc, ◌==◌, ◌&&◌, List, [], ◌∷◌, ◌++◌, Option, Some, None, is_some, Bool, true, false, if◌then◌else◌}
 use Rattle.std.specs.List.{list_any}
 use Rattle.sc_rules.specs.declared.entity_types.entity_type.EntityType.{EntityType}
@@ -9,15 +10,15 @@ use Rattle.sc_model.specs.Environments.{Binding}
 use Rattle.sc_model.specs.Handlers.{Errand}
 use Rattle.sc_model.specs.Tasks.{Task}
 
--- A handler that was granted a right: by the waited request of this number, with which the right was passed to it, or
--- by a reservation of this
--- number. Requests and reservations are numbered together, each later one higher.
+-- The grant of a right to a handler, by the waited request with which the right was passed to it, or by a
+-- reservation. Requests and reservations are numbered together, each later one higher.
 pub record Grant : Type 0 where
   pub holder : ℕ
   pub number : ℕ
 
--- What the request of a handler asks for, and what its poster takes, where names stand for these; whether its poster
--- lends all that it has reserved, and what is left to do of each routine on its stack, the topmost first.
+-- What a request asks for, and the type that its poster takes, with the environment of the poster's frame. `lends`
+-- says whether the poster lends all that it has reserved. `left` are the tasks left of each routine on its stack,
+-- the topmost first.
 pub record Asked : Type 0 where
   pub poster : ℕ
   pub target : Reference
@@ -34,7 +35,7 @@ pub record Wait : Type 0 where
   pub passing : Bool
   pub asked : Option Asked
 
--- The root request counts as one of handler 0, for which nobody waits.
+-- The root request counts as one of handler 0 that no handler waits for.
 pub record Request : Type 0 where
   pub number : ℕ
   pub poster : ℕ
@@ -47,11 +48,10 @@ pub record Reservation : Type 0 where
   pub handler : ℕ
   pub number : ℕ
 
--- A part of a stack, with what it newly reserved: a routine, a separate block that is open, or the creation of a
--- handler until that is released.
--- The last two stand above their routine, as a call on the own handler does.
+-- A part of a stack, with what it newly reserved: a routine, an open separate block, or the creation of a handler
+-- until that handler is released. The last two are above their routine, as a call on the own handler is.
 pub record Frame : Type 0 where
-  pub origin : Option Request  -- of a routine that a request began
+  pub origin : Option Request  -- the request that began the routine
   pub reserved : List Reservation  -- the newest first
   -- past its reserve step: the other handlers of its attached separate formals, or of the names of its block
   pub needs : List ℕ
@@ -69,9 +69,8 @@ pub record Handler : Type 0 where
   pub answer : Option Answer
   pub failed : Bool
 
--- For each handler, who may post to it, and who may push on its waiting stack. Each right has its trail: those who
--- have it or get it back, its
--- holder first, and behind each the one to whom it returns.
+-- For each handler, the trail of the right to post to it (`queue`), and that of the right to push on its waiting
+-- stack (`top`). A trail lists the holder of the right first, then the holder to which it returns, and so on.
 pub record World : Type 0 where
   pub handlers : ℕ → Handler
   pub queue : ℕ → List Grant
@@ -84,24 +83,24 @@ pub record World : Type 0 where
 abbrev pub put : {X : Type 0} → ℕ → X → (ℕ → X) → ℕ → X
 put h x f k = if k == h then x else f k
 
--- the first of a trail holds the right
+-- the holder of the right: the first of the trail
 abbrev pub holder : List Grant → Option ℕ
 holder [] = None
 holder (e ∷ t) = Some e.holder
 
--- who holds whom
+-- the holders of all rights
 abbrev pub rights_of : World → Rights
 rights_of w = record { queue = λ k. holder (w.queue k); top = λ k. holder (w.top k) }
 
--- the right is the handler's
+-- The handler has the right.
 abbrev pub has : ℕ → List Grant → Bool
 has h t = is_handler h (holder t)
 
--- what the handler has is granted to another
+-- If the handler has the right, it is granted to another.
 abbrev pub passed_on : ℕ → Grant → List Grant → List Grant
 passed_on h e t = if has h t then e ∷ t else t
 
--- the right was passed to its holder with the request of the number
+-- The right was passed to its holder with the request `n`.
 abbrev pub came_by : ℕ → List Grant → Bool
 came_by n [] = false
 came_by n (e ∷ t) = e.number == n
@@ -110,15 +109,15 @@ abbrev pub without_first : List Grant → List Grant
 without_first [] = []
 without_first (e ∷ t) = t
 
--- what was passed with the request returns
+-- What was passed with the request `n` returns.
 abbrev pub back : ℕ → List Grant → List Grant
 back n t = if came_by n t then without_first t else t
 
--- a right of a handler that fails is nobody's, also later
+-- When a handler fails, its rights have no holder any more.
 abbrev pub fallen : ℕ → List Grant → List Grant
 fallen h t = if has h t then [] else t
 
--- every right of the handler is granted to another, and so is that to push on its own waiting stack
+-- Every right of the handler is granted to another, and so is the right to push on its own waiting stack.
 abbrev pub pass_all : ℕ → Grant → World → World
 pass_all h e w = record w {
   queue = λ k. passed_on h e (w.queue k);
@@ -134,7 +133,7 @@ give_back_if false n w = w
 
 -- ---- posting and asking
 
--- the topmost frame waits
+-- The topmost frame waits.
 abbrev pub waiting : Wait → List Frame → List Frame
 waiting v [] = []
 waiting v (f ∷ fs) = record f { waits = Some v } ∷ fs
@@ -142,7 +141,7 @@ waiting v (f ∷ fs) = record f { waits = Some v } ∷ fs
 abbrev pub wait : Wait → Handler → Handler
 wait v h = record h { stack = waiting v h.stack }
 
--- the request stands as the callback, or at the queue's end
+-- The request becomes the callback, or the last of the queue.
 abbrev pub arrive : Bool → Request → Handler → Handler
 arrive true r h = record h { callback = Some r }
 arrive false r h = record h { requests = h.requests ++ r ∷ [] }
@@ -151,18 +150,18 @@ abbrev pub passed_if : Bool → ℕ → World → Option Passed
 passed_if true h w = Some (passed_by h (rights_of w))
 passed_if false h w = None
 
--- a request by the handler that it waits for, with lock passing or without
+-- a request that the handler waits for, with lock passing or without
 abbrev pub request : ℕ → Bool → World → Request
 request h b w = record { number = w.next; poster = h; waited = true; passed = passed_if b h w; asked = w.asks }
 
--- it was put with lock passing
+-- The request was posted with lock passing.
 abbrev pub passes : Request → Bool
 passes r = is_some r.passed
 
 abbrev pub land : Bool → ℕ → Request → World → World
 land b k r w = record w { handlers = put k (arrive b r (w.handlers k)) w.handlers }
 
--- the handler posts to k, and goes on
+-- `h` posts to `k`, and goes on.
 abbrev pub post : ℕ → ℕ → World → World
 post h k w = record w {
   handlers =
@@ -175,7 +174,7 @@ post h k w = record w {
 abbrev pub begin_wait : ℕ → Wait → World → World
 begin_wait h v w = record w { handlers = put h (wait v (w.handlers h)) w.handlers; next = suc w.next }
 
--- The handler asks k. Where it may push on k's waiting stack, its request is a callback.
+-- `h` asks `k`. If `h` may push on the waiting stack of `k`, its request is a callback.
 abbrev pub ask : ℕ → ℕ → World → World
 ask h k w =
     land (has h (w.top k)) k (request h false w)
@@ -197,7 +196,7 @@ abbrev pub rest_of : List Request → List Request
 rest_of [] = []
 rest_of (r ∷ rs) = rs
 
--- the first request of the queue is taken
+-- The handler takes the first request of its queue.
 abbrev pub take_request : ℕ → Request → World → World
 take_request h r w = record w {
   handlers =
@@ -210,7 +209,7 @@ take_callback h r w = record w {
   handlers = put h (record (w.handlers h) { stack = begun r (w.handlers h).stack; callback = None }) w.handlers;
 }
 
--- a routine of the own handler is called, a separate block opened, or a handler about to be created
+-- The handler calls one of its own routines, opens a separate block, or is about to create a handler.
 abbrev pub enter : ℕ → World → World
 enter h w = record w {
   handlers =
@@ -219,7 +218,7 @@ enter h w = record w {
       }) w.handlers;
 }
 
--- the topmost frame goes on
+-- The topmost frame goes on.
 abbrev pub resumed : List Frame → List Frame
 resumed [] = []
 resumed (f ∷ fs) = record f { waits = None } ∷ fs
@@ -233,7 +232,7 @@ take_answer h w =
 
 -- ---- reserving and releasing
 
--- the topmost frame's lists
+-- The topmost frame gets these lists.
 abbrev pub relisted : List Reservation → List ℕ → List Frame → List Frame
 relisted r n [] = []
 relisted r n (f ∷ fs) = record f { reserved = r; needs = n } ∷ fs
@@ -244,11 +243,11 @@ relist h r n next w = record w {
   next = next;
 }
 
--- the right to post to k is the handler's, by the reservation of the number
+-- `h` has the right to post to `k`, by the reservation `i`.
 abbrev pub grant : ℕ → ℕ → ℕ → World → World
 grant h k i w = record w { queue = put k (record { holder = h; number = i } ∷ []) w.queue }
 
--- it is nobody's
+-- No handler has the right to post to `k`.
 abbrev pub drop : ℕ → World → World
 drop k w = record w { queue = put k [] w.queue }
 
@@ -256,17 +255,17 @@ abbrev pub reservations : List Frame → List Reservation
 reservations [] = []
 reservations (f ∷ fs) = f.reserved
 
--- The topmost frame reserves k. What it needs is said only when it has reserved all.
+-- The topmost frame reserves `k`. Its needs are set only when it has reserved all.
 abbrev pub reserve : ℕ → ℕ → World → World
 reserve h k w =
     grant h k w.next
     (relist h (record { handler = k; number = w.next } ∷ reservations (w.handlers h).stack) [] (suc w.next) w)
 
--- past its reserve step, the topmost frame needs the handlers ks
+-- Past its reserve step, the topmost frame needs the handlers `ks`.
 abbrev pub settle : ℕ → List ℕ → World → World
 settle h ks w = relist h (reservations (w.handlers h).stack) ks w.next w
 
--- The topmost frame releases k and has reserved the others of its list. It needs nothing any more.
+-- The topmost frame releases `k` and keeps the other reservations of its list. It needs nothing any more.
 abbrev pub release : ℕ → ℕ → List Reservation → World → World
 release h k rs w = drop k (relist h rs [] w.next w)
 
@@ -297,7 +296,7 @@ finish a h r w = give_back_if (passes r) r.number (reply a r.poster (pop h w))
 
 -- ---- failure
 
--- what a handler is told by a failure: it overrides any answer, but a handler that has failed takes none
+-- A handler learns of a failure. This overrides any answer, but a handler that has failed takes none.
 abbrev pub told : Bool → Handler → Handler
 told false g = g
 told true g = record g { answer = if g.failed then g.answer else Some SupplierFailed }
@@ -308,7 +307,7 @@ ruined g = record g { stack = []; requests = []; callback = None; answer = None;
 abbrev pub is_waited_by : ℕ → Request → Bool
 is_waited_by p r = r.waited && r.poster == p
 
--- the requests that stand at a handler: its callback, those of its frames, its queue
+-- the requests at a handler: its callback, those of its frames, its queue
 abbrev pub and_this : Option Request → List Request → List Request
 and_this None rs = rs
 and_this (Some r) rs = r ∷ rs
@@ -320,8 +319,8 @@ and_begun (f ∷ fs) rs = and_this f.origin (and_begun fs rs)
 abbrev pub requests_of : Handler → List Request
 requests_of g = and_this g.callback (and_begun g.stack g.requests)
 
--- The handler fails: all that it does and has is dropped, and the posters of the waited requests that stand at it are
--- told.
+-- The handler fails and loses all that it does and has. The posters of the waited requests at it learn of the
+-- failure.
 abbrev pub fail : ℕ → World → World
 fail h w = record w {
   handlers = λ k.
