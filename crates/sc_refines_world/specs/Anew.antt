@@ -1,4 +1,4 @@
--- Turns of handlers, each made in a world that is played anew.
+-- Turns of handlers, if the world is played anew before each turn.
 use Rattle.std.specs.Prelude.{◌≡◌, ℕ, List, [], ◌∷◌}
 use Rattle.sc_lockpass.specs.Versions.{most_handlers}
 use Rattle.sc_lockpass.specs.declared.version.Version.{Version}
@@ -12,18 +12,18 @@ use Rattle.sc_world.specs.Turning.{IsTurn, Runs}
 use Rattle.sc_world.specs.Worlds.{PlainWorld, opened}
 use Rattle.sc_refines_world.specs.Standing.{StandsFor}
 
--- Turns of some handlers lead to the world, from the opening of the program.
+-- Turns of some handlers lead from the opening of the program to the world.
 abbrev pub IsPlayed : Image → Version → PlainWorld → Type 0
 IsPlayed p v w = (hs : List ℕ) × Runs hs (opened p v) w
 
--- The handlers make their turns one after the other, each in a world that was played anew and is kept alike with the
--- one that the turn before left. So is the last world.
+-- The handlers make their turns one after the other, each in a world that was played anew. That world has the same
+-- core state and regions as the world after the turn before. So has the last world `y`, which is played anew too.
 abbrev pub RunsAnew : Image → Version → List ℕ → PlainWorld → PlainWorld → Type 0
 RunsAnew p v [] x y = IsPlayed p v y × (kept y ≡ kept x)
 RunsAnew p v (h ∷ hs) x y =
     (u z : PlainWorld) × IsPlayed p v u × (kept u ≡ kept x) × IsTurn h u z × RunsAnew p v hs z y
 
--- Such turns lead a program's world to one that represents the state to which they lead the machine.
+-- These turns lead a program's world to one that represents the machine's state after the same turns.
 abbrev pub AnewRunsAsMachine : Type 0
 AnewRunsAsMachine = WhereAccepted λ s root.
     (p : Image) (v : Version) (hs : List ℕ) (y : PlainWorld) → IsProgramOf s root p → FitsRequests p →

@@ -1,5 +1,4 @@
--- Whose is what is in a state: the handlers of objects, frames and requests, and that all have what their class
--- says.
+-- Which handler objects, frames and requests belong to, and that each has what its class declares.
 use Rattle.std.specs.Prelude.{◌≡◌, ◌⊎◌, ◌<◌, ℕ, Bool, false, true, List, Option, Some, Contains, is_some, length, map}
 use Rattle.sc_tree.specs.Plain.{System}
 use Rattle.sc_rules.specs.declared.entity_types.entity_type.EntityType.{EntityType}
@@ -19,8 +18,8 @@ use Rattle.sc_machine_laws.specs.states.ValueSteps.{is_excluded}
 
 -- ---- objects
 
--- The object's class is one of the system's. It has the attributes of that class, in order, each of the name and the
--- type that the text gives it.
+-- The object's class is one of the system's. Its attributes are those of the class, in order, with the names and
+-- types that the text gives them.
 pub record IsOfClass (s : System) (o : Object) : Type 0 where
   pub is_class : o.class < length s.classes
   pub has_attributes : map known_of o.attributes ≡ map known_of (fresh_object s o.class).attributes
@@ -28,16 +27,16 @@ pub record IsOfClass (s : System) (o : Object) : Type 0 where
 abbrev pub ObjectsAreOfClasses : System → World → Type 0
 ObjectsAreOfClasses s w = (h : ℕ) (o : Object) → h < w.count → Contains (w.handlers h).objects o → IsOfClass s o
 
--- A reference leads to an object that exists, of the class that it says, or to the first one of a handler whose
--- creation waits to be taken.
+-- A reference leads to an object that exists and has the class that the reference says, or to the first object of a
+-- handler whose creation waits to be taken.
 abbrev pub ReferencesLead : System → World → Type 0
 ReferencesLead s w = (h : ℕ) (of : Reserved → Option ℕ) (r : Reference) (t : EntityType) (may_be_unset : Bool) →
     StandsAs s w h of (Attached r) t may_be_unset → IsThere w r
 
 -- ---- frames
 
--- A frame of the handler runs on one of that handler's objects, in the version of its routine that the object's class
--- has. Its Result is of the type that the routine's text gives it.
+-- A frame of handler `h` runs on one of that handler's objects. Its routine is the version that the object's class
+-- has, and its Result has the type that the routine's text gives it.
 pub record RunsOnOwn (s : System) (w : World) (h : ℕ) (f : Frame) : Type 0 where
   pub current_is_own : f.current.handler ≡ h
   pub current_is_there : IsAmong (w.handlers h).objects f.current
@@ -50,7 +49,7 @@ FramesRunOnOwn s w = (h : ℕ) (f : Frame) → h < w.count → Contains (w.handl
 
 -- ---- requests
 
--- A request at the handler has its target there, an object whose class has what the request calls.
+-- The target of a request at `h` is there, at `h` too. Its class has the feature that the request calls.
 pub record StandsAtTarget (s : System) (w : World) (h : ℕ) (r : Request) : Type 0 where
   pub target_is_here : r.target.handler ≡ h
   pub target_is_there : IsThere w r.target
@@ -62,7 +61,7 @@ RequestsStandAtTargets s w =
 
 -- ---- failures
 
--- After the next turn, of whichever handler, none has failed for a cause that is excluded.
+-- Whichever handler makes the next turn, no handler has failed after it for an excluded cause.
 abbrev pub NoTurnIsExcluded : ℕ → System → World → Type 0
 NoTurnIsExcluded most s w = (h k : ℕ) (why : Cause) → ((turn most s h w).handlers k).failure ≡ Some why →
     is_excluded why ≡ false

@@ -1,4 +1,4 @@
--- How frames and requests come and go in a turn, and what those have that wait.
+-- How frames and requests come and go in a turn, and that a handler that waits has its request.
 use Rattle.std.specs.Option.{option_map}
 use Rattle.std.specs.Prelude.{◌≡◌, ◌≢◌, ◌⊎◌, ◌<◌, ◌≤◌, ℕ, Bool, true, false, List, [], ◌∷◌, Option, None, Some, Contains, is_some}
 use Rattle.sc_tree.specs.Plain.{Attribute, Clause, DeclaredType, System}
@@ -24,29 +24,29 @@ use Rattle.sc_machine_laws.specs.Starting.{IsVerdict}
 
 -- ---- frames
 
--- In its handler's turn the frame does this, and is at this point then.
+-- In its handler's turn the frame does the act `a`, and is at the point `p` then.
 abbrev pub Acts : System → World → ℕ → Frame → Act → Point → Type 0
 Acts s w h f a p = moves s f.current (point_of f (w.handlers h).objects) ≡ Does a p
 
--- what ends neither the routine nor its precondition
+-- the act ends neither the routine nor its precondition
 abbrev pub is_plain : Act → Bool
 is_plain (Refuses k) = false
 is_plain (Fails why) = false
 is_plain Exits = false
 is_plain other = true
 
--- The frame begins so: all of its routine is left to do, the precondition first.
+-- The frame begins, by the call or the request `o`: all of its routine is left to do, the precondition first.
 pub record Begins (o : Origin) (f : Frame) : Type 0 where
   pub origin_is : f.origin ≡ o
   pub tasks_are : f.tasks ≡ tasks_of f.routine
 
--- It runs the routine of this name on this object, with these actuals.
+-- The frame runs the routine of the name `x` on the object `r`, with the actuals `vs`.
 pub record IsEntered (s : System) (r : Reference) (x : List ℕ) (vs : List Value) (f : Frame) : Type 0 where
   pub current_is : f.current ≡ r
   pub is_version : routine_named s r.class x ≡ Some f.routine
   pub has_actuals : formals_bound s f.routine.text.formals 0 f.routine.text.formals vs ≡ Some f.environment
 
--- The frame calls the other one, which begins.
+-- The frame `f` makes a call of the kind `c`, and the frame `called` begins.
 pub record IsCall (s : System) (w : World) (h : ℕ) (f : Frame) (c : Calling) (called : Frame) : Type 0 where
   pub object : Reference
   pub name : List ℕ
@@ -57,8 +57,8 @@ pub record IsCall (s : System) (w : World) (h : ℕ) (f : Frame) (c : Calling) (
   pub begins : Begins (Called c) called
   pub is_entered : IsEntered s object name (values_of actuals) called
 
--- What is left to do in a frame that goes on, and its names: what its move comes to; what it was, where it reserved or
--- was answered; or, where a wait condition was false, all of its routine again.
+-- `f` goes on as `g`. Text, names and what is left to do are as before, if it reserved or was answered; or those
+-- after its act; or, if a wait condition was false, all of its routine is left to do again.
 pub data GoesOn (s : System) (w : World) (h : ℕ) (f g : Frame) : Type 0 where
   stood : g.text ≡ f.text → g.environment ≡ f.environment → g.tasks ≡ f.tasks → GoesOn s w h f g
   moved : {a : Act} {p : Point} → Acts s w h f a p → is_plain a ≡ true →
@@ -66,8 +66,8 @@ pub data GoesOn (s : System) (w : World) (h : ℕ) (f g : Frame) : Type 0 where
   again : {k : Clause} {p : Point} → Acts s w h f (Refuses k) p → verdict_on (frame_at f p) k ≡ verdict.Wait →
       g.text ≡ p.text → g.environment ≡ p.environment → g.tasks ≡ tasks_of f.routine → GoesOn s w h f g
 
--- In a turn of the handler its topmost frame, on these, becomes this one: the same call of the same routine on the
--- same object. If it has a precondition, its body starts by the verdict on that, and in no other way.
+-- In a turn of the handler its topmost frame `f`, on top of `below`, becomes `g`: the same call of the same routine
+-- on the same object. If the routine has a precondition, its body starts only by the verdict on that precondition.
 pub record ComesTo (s : System) (w : World) (h : ℕ) (f : Frame) (below : List Frame) (g : Frame) : Type 0 where
   pub current_stays : g.current ≡ f.current
   pub routine_stays : g.routine ≡ f.routine
@@ -84,8 +84,8 @@ pub data AsksForNone (s : System) (r : Request) : Type 0 where
   attribute : {x : List ℕ} {f : DeclaredFeature} {d : DeclaredType} → r.errand ≡ Calls x →
       version_of s r.target.class x ≡ Some f → f.feature.kind ≡ Attribute d → AsksForNone s r
 
--- The request that is taken is done at once, if it asks for no routine; or it begins a frame on these, whose origin
--- it is, of what it calls on its target with its actuals.
+-- The request is taken. It is done at once, if it asks for no routine; or it begins a frame on top of `below`, which
+-- runs the routine that the request calls on its target, with its actuals.
 pub data IsTaken (s : System) (r : Request) (below stack : List Frame) : Type 0 where
   done : AsksForNone s r → stack ≡ below → IsTaken s r below stack
   begun : {f : Frame} {x : List ℕ} → stack ≡ f ∷ below → Begins (Requested r) f → called_name r.errand ≡ Some x →
@@ -93,13 +93,13 @@ pub data IsTaken (s : System) (r : Request) (below stack : List Frame) : Type 0 
 
 -- ---- a turn
 
--- what waits to be taken stays, and so does whether the handler has failed
+-- The queue, the callback and the failure stay as they are.
 pub record RequestsStay (x y : Handler) : Type 0 where
   pub queue_stays : y.queue ≡ x.queue
   pub callback_stays : y.callback ≡ x.callback
   pub failure_stays : y.failure ≡ x.failure
 
--- The handler fails: nothing is left of what it ran and of what stood at it.
+-- The handler fails: its stack and its queue are empty then, and it has no callback.
 pub record Falls (x y : Handler) : Type 0 where
   pub stood : x.failure ≡ None
   pub has_failed : is_some y.failure ≡ true
@@ -107,14 +107,14 @@ pub record Falls (x y : Handler) : Type 0 where
   pub queue_is : y.queue ≡ []
   pub callback_is : y.callback ≡ None
 
--- what a routine at the point gives
+-- the value of the Result at the point, if there is one
 abbrev pub given_at : Point → Option Value
 given_at p = option_map (λ (u : Operand). u.value) p.result
 
--- How the frames and the requests of a handler change in its turn. The frames stay; the topmost goes on, or calls;
--- it ends, and a call's result comes to the frame below, or the precondition of what was requested is refused. Or
--- the handler takes the first request of its queue if it has no frames, or its callback, which then is gone. Or it
--- fails. Nothing else drops a request.
+-- How the frames and the requests of a handler change in its turn. The frames stay; or the topmost frame goes on,
+-- or calls; or it ends, and the frame below gets the result of a call; or the precondition of a request is refused.
+-- Or the handler takes the first request of its queue, if it has no frames, or its callback. Or it fails. Nothing
+-- else removes a request.
 pub data FramesMove (s : System) (w : World) (h : ℕ) (x y : Handler) : Type 0 where
   stay : y.stack ≡ x.stack → RequestsStay x y → FramesMove s w h x y
   go_on : {f g : Frame} {below : List Frame} → x.stack ≡ f ∷ below → y.stack ≡ g ∷ below → ComesTo s w h f below g →
@@ -134,8 +134,8 @@ pub data FramesMove (s : System) (w : World) (h : ℕ) (x y : Handler) : Type 0 
       IsTaken s r x.stack y.stack → FramesMove s w h x y
   fall : Falls x y → FramesMove s w h x y
 
--- In each turn the frames and the queue of its handler change so. Each other handler keeps what it has, but that the
--- handler of the turn may have posted to it.
+-- In each turn the frames and the queue of the turn's handler change in these ways. Each other handler keeps what it
+-- has; only the handler of the turn may have posted to it.
 abbrev pub TurnsMoveRequests : ℕ → System → World → Type 0
 TurnsMoveRequests most s w = (h : ℕ) → h < w.count →
     FramesMove s w h (w.handlers h) ((turn most s h w).handlers h)
@@ -144,8 +144,8 @@ TurnsMoveRequests most s w = (h : ℕ) → h < w.count →
 
 -- ---- handlers that are created
 
--- Where h creates the handler k in its turn, k has nothing but the request for its first object, of what its creator
--- asks for.
+-- In its turn `h` creates the handler `k`. Then `k` has only the request for its first object, with the class,
+-- procedure and actuals of the creator's act.
 pub record BeginsWithOne (s : System) (w : World) (h k : ℕ) (y : Handler) : Type 0 where
   pub creator : Frame
   pub below : List Frame
@@ -169,21 +169,21 @@ pub record BeginsWithOne (s : System) (w : World) (h k : ℕ) (y : Handler) : Ty
   pub objects_are : y.objects ≡ []
   pub failure_is : y.failure ≡ None
 
--- A turn creates one handler at most, which begins so.
+-- A turn creates at most one handler. The new handler has the next number, and only the request of its creator.
 abbrev pub CreatedBeginWithOne : ℕ → System → World → Type 0
 CreatedBeginWithOne most s w = (h k : ℕ) → w.count ≤ k → k < (turn most s h w).count →
     (k ≡ w.count) × BeginsWithOne s w h k ((turn most s h w).handlers k)
 
--- ---- who waits
+-- ---- handlers that wait
 
--- the request of p, which waits for it, is at k
+-- A request of `p` is at `k`, and `p` waits for it.
 pub record HasRequestAt (w : World) (p k : ℕ) : Type 0 where
   pub request : Request
   pub stands : Contains (requests_at (w.handlers k)) request
   pub poster_is : request.poster ≡ Some p
   pub is_waited : request.is_waited ≡ true
 
--- A handler that awaits an answer of another handler has its request there, unless it has learned of a failure.
+-- A handler that awaits an answer of a handler that hasn't failed has its request there, or has learned of a failure.
 abbrev pub WaitersHaveRequests : World → Type 0
 WaitersHaveRequests w = (p k : ℕ) → AwaitsAnswer (w.handlers p) k → (w.handlers k).failure ≡ None →
     ((w.handlers p).answer ≡ Some Failed) ⊎ HasRequestAt w p k

@@ -1,4 +1,4 @@
--- What is said of each world that turns lead to, from the opening of the program of an accepted system on.
+-- What holds of each world that turns lead to from the opening of an accepted system's program.
 use Rattle.std.specs.List.{range_with_len}
 use Rattle.std.specs.Prelude.{◌≡◌, ◌≢◌, ◌⊎◌, ◌<◌, ◌≤◌, ◌+◌, ◌-◌, ◌++◌, ℕ, suc, Bool, true, false, List, [], ◌∷◌, Option, Some, None, Contains, drop, if◌then◌else◌, length, map, slice_get, take}
 use Rattle.sc_tree.specs.Plain.{System}
@@ -44,25 +44,25 @@ use Rattle.sc_refines_world.specs.Texts.{FramesAreTyped, FramesKnowTheirTexts}
 
 -- ---- the state that a world represents
 
--- From the first state to the second one in a turn of h: a request that is added to a handler was posted by h, which
--- held that one then, or created it in this turn.
+-- `h` posted each request that a handler has in `v` but not in `w`. Then `h` held that handler in `w`, or the handler
+-- is the next new one.
 abbrev pub ComeUnderRight : ℕ → World → World → Type 0
 ComeUnderRight h w v = (k : ℕ) (r : Request) → Contains (requests_at (v.handlers k)) r →
     Contains (requests_at (w.handlers k)) r ⊎ ((r.poster ≡ Some h) × ((held w.rights h k ≡ true) ⊎ (k ≡ w.count)))
 
--- So they do in each turn.
+-- So it is in the next turn of any handler `h`.
 abbrev pub PostsUnderRight : ℕ → System → World → Type 0
 PostsUnderRight most s w = (h : ℕ) → ComeUnderRight h w (turn most s h w)
 
--- In a turn of g each other handler is answered by the end of what it waits for there, or learns of a failure.
+-- In a turn of `g` any other handler keeps its answer, gets one as its request ends, or learns that `g` failed.
 abbrev pub TurnsAnswer : ℕ → System → World → Type 0
 TurnsAnswer most s w = (g k : ℕ) → k < w.count → k ≢ g → AnswerComes s w g k (turn most s g w)
 
--- What the headline claims of a state, with this limit on handlers: what is posted under which right, how frames,
--- requests and answers come and go, how handlers begin, which handler holds and waits for which, whose everything in
--- it is, that names and operands are of the types of the text, which values are where, that settled objects meet
--- their class invariants, that in the next turn a body starts only if the clauses of its precondition hold, and that
--- none of the failures that are excluded occurs.
+-- The headline's claims about a state, if there may be `most` handlers: under which right a handler posts; how
+-- frames, requests and answers come and go; how handlers begin; which handlers hold and wait for which; what belongs
+-- to which handler; that names and operands have the types of the text; that values fit; that settled objects meet
+-- their class invariants; that in the next turn a body starts only if the clauses of its precondition hold; and that
+-- no excluded failure occurs in it.
 pub record HasHeadline (most : ℕ) (s : System) (w : World) : Type 0 where
   pub posts_under_right : PostsUnderRight most s w
   pub turns_move_requests : TurnsMoveRequests most s w
@@ -94,46 +94,46 @@ pub record HasHeadline (most : ℕ) (s : System) (w : World) : Type 0 where
   pub bodies_start_where_clauses_hold : StartsWhereTheyHold s most w
   pub no_turn_is_excluded : NoTurnIsExcluded most s w
 
--- It holds of each state that the machine on an accepted system reaches.
+-- The headline holds of each state that the machine reaches on an accepted system.
 abbrev pub MachineHasHeadline : Type 0
 MachineHasHeadline = WhereAccepted λ s root. (most : ℕ) (w : World) → IsReached most s root w → HasHeadline most s w
 
 -- ---- turns one after the other
 
--- The turns of any handlers lead a program's world to one that represents the state to which they lead the machine.
+-- A program's world after turns of any handlers represents the machine's state after turns of the same handlers.
 abbrev pub WorldRunsAsMachine : Type 0
 WorldRunsAsMachine = WhereAccepted λ s root.
     (p : Image) (v : Version) (hs : List ℕ) (y : PlainWorld) → IsProgramOf s root p → FitsRequests p →
     Runs hs (opened p v) y → StandsFor s p (run (most_handlers v) s hs (opening s root)) y
 
--- So each world that turns lead to represents a state that is reached, and the headline holds of that state.
+-- So each world that turns lead to represents a reached state, and the headline holds of that state.
 abbrev pub WorldHasHeadline : Type 0
 WorldHasHeadline = WhereAccepted λ s root.
     (p : Image) (v : Version) (hs : List ℕ) (y : PlainWorld) → IsProgramOf s root p → FitsRequests p →
     Runs hs (opened p v) y →
     (w : World) × IsReached (most_handlers v) s root w × StandsFor s p w y × HasHeadline (most_handlers v) s w
 
--- ---- where memory was refused
+-- ---- when memory was refused
 
 -- A world that represents a state is near it.
 abbrev pub StandingWorldIsNear : Type 0
 StandingWorldIsNear = (s : System) (p : Image) (w : World) (x : PlainWorld) → StandsFor s p w x → StandsNear s p w x
 
--- So is one in which memory was refused to the turn of a handler of a world that represents it.
+-- If a world represents a state, it is near that state after memory was refused to a handler's turn.
 abbrev pub RefusedTurnStaysNear : Type 0
 RefusedTurnStaysNear =
     (s : System) (p : Image) (h : ℕ) (w : World) (x y : PlainWorld) → StandsFor s p w x → IsRefusedTurn h x y →
     StandsNear s p w y
 
--- If memory was refused to the turn after these, a program's world is near the state to which these turns lead the
--- machine.
+-- If memory is refused after the first `n` turns of `hs`, a program's world is near the state to which these `n`
+-- turns lead the machine.
 abbrev pub StoppedWorldStaysNear : Type 0
 StoppedWorldStaysNear = WhereAccepted λ s root.
     (p : Image) (v : Version) (n : ℕ) (hs : List ℕ) (y : PlainWorld) → IsProgramOf s root p → FitsRequests p →
     StopsBehind n hs (opened p v) y → StandsNear s p (run (most_handlers v) s (take n hs) (opening s root)) y
 
--- A world that is near a state reports what the machine reports of it, and each handler has the status that it has
--- there.
+-- A world that is near a state reports what the machine reports of that state, and each handler has the
+-- same status in both.
 abbrev pub WorldReportsAsMachine : Type 0
 WorldReportsAsMachine =
     (s : System) (p : Image) (w : World) (x : PlainWorld) → StandsNear s p w x →
@@ -141,21 +141,21 @@ WorldReportsAsMachine =
 
 -- ---- turns that were made or refused
 
--- Any turns, some made and others refused memory, lead a program's world near the state to which those that were
--- made lead the machine.
+-- Some turns are made, and memory is refused to others. They lead a program's world near the state to which the turns
+-- that were made lead the machine.
 abbrev pub AttemptsRunAsMachine : Type 0
 AttemptsRunAsMachine = WhereAccepted λ s root.
     (p : Image) (v : Version) (ts : List Attempt) (y : PlainWorld) → IsProgramOf s root p → FitsRequests p →
     Attempts ts (opened p v) y → StandsNear s p (run (most_handlers v) s (made_by ts) (opening s root)) y
 
--- So each world that they lead to is near a state that is reached, and the headline holds of that state.
+-- So each world that attempts lead to is near a reached state, and the headline holds of that state.
 abbrev pub AttemptsHaveHeadline : Type 0
 AttemptsHaveHeadline = WhereAccepted λ s root.
     (p : Image) (v : Version) (ts : List Attempt) (y : PlainWorld) → IsProgramOf s root p → FitsRequests p →
     Attempts ts (opened p v) y →
     (w : World) × IsReached (most_handlers v) s root w × StandsNear s p w y × HasHeadline (most_handlers v) s w
 
--- After a handler makes a turn, its part represents the state exactly again, whatever was refused to it before.
+-- After a handler's turn its region represents its part of the state exactly, whatever was refused before.
 abbrev pub TurnsStandExactly : Type 0
 TurnsStandExactly = WhereAccepted λ s root.
     (p : Image) (v : Version) (ts : List Attempt) (h : ℕ) (j : Job) (x y : PlainWorld) → IsProgramOf s root p →
@@ -164,24 +164,24 @@ TurnsStandExactly = WhereAccepted λ s root.
     × IsRegionFor s p h ((run (most_handlers v) s (made_by ts ++ h ∷ []) (opening s root)).handlers h)
     (y.center.state.handlers h).stage r
 
--- If memory was refused after some turns of a list, and the rest of the list follows then, the world is near the
--- state to which the whole list leads the machine.
+-- If memory is refused after `n` turns of `hs`, and the rest of `hs` follows then, the world ends near the state to
+-- which all of `hs` leads the machine, after the turns that `ts` made.
 abbrev pub RestRunsAsMachine : Type 0
 RestRunsAsMachine = WhereAccepted λ s root.
     (p : Image) (v : Version) (ts : List Attempt) (n : ℕ) (hs : List ℕ) (x y z : PlainWorld) → IsProgramOf s root p →
     FitsRequests p → Attempts ts (opened p v) x → StopsBehind n hs x y → Runs (drop n hs) y z →
     StandsNear s p (run (most_handlers v) s (made_by ts ++ hs) (opening s root)) z
 
--- ---- turns round and round
+-- ---- turns in rounds
 
--- Turns round and round are turns of handlers, one after the other, also where several are made at once.
+-- Rounds are turns of handlers, one after the other, even if a handler makes several turns at once.
 abbrev pub RoundsAreTurns : Type 0
 RoundsAreTurns =
     (limit : ℕ) (x : PlainWorld) (left : ℕ) (y : PlainWorld) → Rounds limit x left y →
     (hs : List ℕ) × (length hs + left ≡ limit) × Runs hs x y
 
--- A handler that makes several turns at once is the next one again after each that asks nothing, as it would be if each
--- turn were made for itself.
+-- A handler that may make several turns at once is the next one again after any number of turns that ask nothing, as
+-- it would be if each turn were settled on its own.
 abbrev pub HandlersComeAgain : Type 0
 HandlersComeAgain =
     (most h n : ℕ) (j : Job) (c : Center) → pick_for h c ≡ Some j →
@@ -199,22 +199,22 @@ abbrev pub first_with_turn : List ℕ → World → Option ℕ
 first_with_turn [] w = None
 first_with_turn (h ∷ hs) w = if has_turn h w then Some h else first_with_turn hs w
 
--- From the state on each of these handlers has a turn when its number is reached: it is the first that has one after
--- the handler of the turn before, round the numbers.
+-- Each of these handlers makes its turn in order, from `w` on. It is the first handler that has a turn then, counted
+-- round the numbers from the handler of the turn before.
 abbrev pub GoRound : ℕ → System → ℕ → List ℕ → World → Type 0
 GoRound most s before [] w = Unit {0}
 GoRound most s before (h ∷ hs) w =
     (first_with_turn (round w.count before) w ≡ Some h) × GoRound most s h hs (turn most s h w)
 
 -- From the opening on each of these handlers has a turn in the machine, in the order of rounds. There are at most
--- this number of them, and fewer only if no handler has a turn any more.
+-- `limit` turns, and fewer only if no handler has a turn any more.
 pub record IsRunWithin (most : ℕ) (s : System) (root : Root) (limit : ℕ) (hs : List ℕ) : Type 0 where
   pub few : length hs ≤ limit
   pub go_round : GoRound most s (most - 1) hs (opening s root)
   pub ends : let w : World = run most s hs (opening s root) in
       (length hs ≡ limit) ⊎ (machine.some_has_turn w.count w ≡ false)
 
--- Rounds that end lead a program's world to one that represents a state to which such turns lead the machine.
+-- When rounds end, a program's world represents a state to which the machine's rounds within the limit lead.
 abbrev pub RoundsRunAsMachine : Type 0
 RoundsRunAsMachine = WhereAccepted λ s root.
     (p : Image) (v : Version) (limit : ℕ) (y : PlainWorld) → IsProgramOf s root p → FitsRequests p →
@@ -222,8 +222,8 @@ RoundsRunAsMachine = WhereAccepted λ s root.
     (hs : List ℕ) × StandsFor s p (run (most_handlers v) s hs (opening s root)) y
     × IsRunWithin (most_handlers v) s root limit hs
 
--- Where memory was refused to one of their turns, the world is near the state to which those before it lead the
--- machine.
+-- If memory is refused to a turn of the rounds, the world is near the state to which the turns before
+-- it lead the machine.
 abbrev pub StoppedRoundsStayNear : Type 0
 StoppedRoundsStayNear = WhereAccepted λ s root.
     (p : Image) (v : Version) (limit : ℕ) (y : PlainWorld) → IsProgramOf s root p → FitsRequests p →

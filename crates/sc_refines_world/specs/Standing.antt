@@ -1,4 +1,4 @@
--- Which state of the machine a world that runs represents.
+-- Which state of the machine a running world represents.
 use Rattle.std.specs.Prelude.{◌≡◌, ◌⊎◌, ◌<◌, ◌≤◌, ℕ, false, List, None, Option, Some, slice_get}
 use Rattle.sc_tree.specs.Plain.{System}
 use Rattle.sc_model.specs.Handlers as machine
@@ -18,8 +18,8 @@ use Rattle.sc_world.specs.Worlds.{PlainWorld}
 abbrev pub names_in : Image → List (List ℕ)
 names_in p = (pool_of p.pool).names
 
--- The region is that of the handler of the number: its store represents the region's half of what the machine has of
--- the handler, at its stage in the core.
+-- `r` is the region of handler `h` and runs the program `p`. Its store represents the region's half of the machine's
+-- handler `x`, whose stage in the core is `stage`.
 pub record IsRegionFor (s : System) (p : Image) (h : ℕ) (x : machine.Handler) (stage : core.HandlerStage)
     (r : PlainRegion) : Type 0 where
   pub handler : r.handler ≡ h
@@ -29,8 +29,8 @@ pub record IsRegionFor (s : System) (p : Image) (h : ℕ) (x : machine.Handler) 
   pub stands : IsRegionOf s half r.store
   pub is_half : IsRegionHalf h x stage half
 
--- The world, which runs the program of the system, represents this state of the machine: the core is its half, no
--- handler is out with a job, each handler has its region, and all other regions are new.
+-- The world `x` runs the system's program and represents the state `w`: its core is the core's half, no handler is
+-- out with a job, each handler has its region, and all other regions are new.
 pub record StandsFor (s : System) (p : Image) (w : machine.World) (x : PlainWorld) : Type 0 where
   pub core : IsHalfOf (numbering_by (names_in p)) w x.center.state
   pub none_out : (h : ℕ) → x.center.out h ≡ None
@@ -39,13 +39,13 @@ pub record StandsFor (s : System) (p : Image) (w : machine.World) (x : PlainWorl
       × IsRegionFor s p h (w.handlers h) (x.center.state.handlers h).stage r
   pub others : (h : ℕ) (r : PlainRegion) → w.count ≤ h → slice_get x.regions h ≡ Some r → r ≡ new_region p h
 
--- ---- where memory was refused
+-- ---- when memory was refused
 
--- The region is the first one, or memory was refused to the first turn of that under the job that its handler has.
+-- `y` is the region `x`, or the region after memory was refused to its first turn under the job `due`.
 abbrev pub IsNear : Option Job → PlainRegion → PlainRegion → Type 0
 IsNear due x y = (y ≡ x) ⊎ ((j : Job) × (due ≡ Some j) × IsRefused j x y)
 
--- The world represents the state, but that memory may have been refused to turns that its handlers are to make next.
+-- The world represents the state, except that memory may have been refused to its handlers' next turns.
 pub record StandsNear (s : System) (p : Image) (w : machine.World) (x : PlainWorld) : Type 0 where
   pub core : IsHalfOf (numbering_by (names_in p)) w x.center.state
   pub none_out : (h : ℕ) → x.center.out h ≡ None

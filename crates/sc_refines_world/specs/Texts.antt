@@ -1,4 +1,4 @@
--- That what a frame knows and has is of the types that the text gives it.
+-- The names and operands of each frame have the types that the text gives them.
 use Rattle.std.specs.Prelude.{◌≡◌, ◌++◌, ◌<◌, ℕ, Bool, true, false, Contains}
 use Rattle.sc_tree.specs.Plain.{System}
 use Rattle.sc_rules.specs.Names.{Entities, Entity, RoutineName, formals_known, is_local, locals_known}
@@ -12,13 +12,13 @@ use Rattle.sc_machine_laws.specs.states.Typed.{IsTyped, Known}
 
 -- ---- names
 
--- The name is no formal; if it is a local, it is one that the routine declares, of the type that the text gives it.
+-- The name `e` is no formal. If it is a local, the routine declares it, with the type that the text gives it.
 pub record IsBehindFormals (s : System) (r : Routine) (e : Entity) : Type 0 where
   pub is_no_formal : is_formal e.role ≡ false
   pub local_is_declared : is_local e.role ≡ true → Contains (locals_known s r.text.formals r.locals) e
 
--- The frame knows the formals of its routine, in order, of the types that the text gives them, and others after
--- them.
+-- The frame knows the formals of its routine first, in order, with the types that the text gives them, and
+-- other names after them.
 pub record KnowsItsText (s : System) (f : Frame) : Type 0 where
   pub others : Entities
   pub names_are : scope_of f.environment ≡ formals_known s f.routine.text.formals ++ others
@@ -29,8 +29,8 @@ FramesKnowTheirTexts s w = (h : ℕ) (f : Frame) → h < w.count → Contains (w
 
 -- ---- operands
 
--- What is left to do in the frame is typed by the rules, where the names, the operands, the values that were kept for
--- `old` and the value that it waits for are of these types.
+-- The rules type what is left to do in the frame, from the types of its names, of its operands, of the values kept
+-- for `old` and of the value that it waits for.
 pub record IsTypedByRules (s : System) (w : World) (h : ℕ) (f : Frame) : Type 0 where
   pub pure : RoutineName → Bool
   pub is_purity : IsPurity s pure

@@ -1,4 +1,4 @@
--- What a turn makes of a store is what its definition makes of the half that the store stands for.
+-- A turn does to a store what its definition does to the half that the store stands for.
 use Rattle.std.specs.Prelude.{◌≡◌, ◌<◌, ◌≤◌, ℕ, suc, ℤ, ◌+◌, ◌-◌, Bool, true, false, ◌||◌, List, [], ◌∷◌, Option, Some, None, is_some, length, slice_get, slice_set, take}
 use Rattle.std.specs.Fmt.{signed_decimal}
 use Rattle.std.specs.Option.{option_map}
@@ -55,15 +55,15 @@ use Rattle.sc_acts.specs.Requesting.{call_of}
 abbrev pub TopRuns : PlainStore → Type 0
 TopRuns y = option_map (λ (a : PlainActivation). a.stage) (top_activation y.frames) ≡ Some stage.Runs
 
--- Silent operations of the topmost routine lead from the first store to the second one, where it comes to this.
+-- Silent operations of the topmost routine lead from the store `y` to `z`, and `o` comes next in `z`.
 pub record Comes (o : Hop) (y z : PlainStore) : Type 0 where
   pub runs : TopRuns y
   pub comes : ComesTo o y z
   pub remains : Remains y z
 
--- The topmost frame of the half makes this visible step next, from the point `last`, which a place of the code stands
--- for. The store has come to the operation that is that step in flat code, and is still to do it. So many silent
--- operations lead to the place.
+-- The topmost frame of the half makes the visible step `step` next, from the point `last`. The place `place` of the
+-- code stands for that point, and `silent` silent operations lead to it. In the store `z` the operation `o`, which is
+-- that step in flat code, is still to be done.
 pub record Meets (s : System) (x : Half) (o : Hop) (y z : PlainStore) : Type 0 where
   pub frame : Frame
   pub below : List Frame
@@ -95,11 +95,11 @@ pub record Meets (s : System) (x : Half) (o : Hop) (y z : PlainStore) : Type 0 w
   pub seen : Seen last.environment point.environment step shown
   pub leads : Leads (run_of s frame.routine) step point state
 
--- Silent operations that were done before are done first.
+-- If silent operations lead from `y` to `z`, and others from `z` to `w`, all together lead from `y` to `w`.
 abbrev pub SilentOperationsJoin : Type 0
 SilentOperationsJoin = (o : Hop) (y z w : PlainStore) → LeadsTo y z → Remains y z → Comes o z w → Comes o y w
 
--- What silent operations come to is what silent steps come to in the half.
+-- The silent operations in memory lead to the visible step that the half makes next.
 abbrev pub SilentOperationsFollow : Type 0
 SilentOperationsFollow = (s : System) (x : Half) (o : Hop) (y z : PlainStore) → IsProgramFor s y.program →
     IsRegionOf s x y → Comes o y z → Meets s x o y z
@@ -111,7 +111,7 @@ abbrev pub AreWhole : PlainStore → Type 0
 AreWhole y = (number : ℕ) (o : PlainObject) → object_numbered number y.objects ≡ Some o →
     length (defaults_of (class_at y.program o.class)) ≤ length o.attributes
 
--- A caller that takes a value gets this one, and has room for it. The caller is the first of the frames.
+-- If the caller takes a value, `v` is one, and the caller has room for it. The caller is the first of the frames.
 abbrev pub TakesAs : Option Value → List PlainFrame → Type 0
 TakesAs v [] = Unit {0}
 TakesAs v (g ∷ gs) = g.activation.stage ≡ stage.InCall true →
@@ -125,57 +125,57 @@ is_called origin.Creation = true
 is_called origin.Requested = false
 is_called origin.RequestedCreation = false
 
--- The topmost routine has a Result where it was called and its caller takes a value, and the caller has room for it.
+-- If the topmost routine was called for a value, it has a Result, and its caller has room for it.
 abbrev pub TakesResult : List PlainFrame → Type 0
 TakesResult [] = Unit {0}
 TakesResult (f ∷ below) = is_called f.activation.origin ≡ true → TakesAs f.activation.result below
 
 -- ---- turns
 
--- Whatever half the first store stands for, the second one stands for what a turn makes of it.
+-- Whatever half `y` stands for, `z` stands for that half after a turn.
 abbrev pub TurnsInto : PlainStore → PlainStore → Type 0
 TurnsInto y z = (s : System) (h : ℕ) (x : Half) → IsProgramFor s y.program → IsRegionOf s x y →
     IsRegionOf s (turn s h x) z
 
--- An integer is printed.
+-- Printing an integer does what its definition says.
 abbrev pub IntegersArePrinted : Type 0
 IntegersArePrinted = (v : ℤ) (y z : PlainStore) → Comes (hop.Comes (act.PrintInteger v)) y z →
     TurnsInto y (on_top (past 1) (printed (signed_decimal v) z))
 
--- A truth value is printed.
+-- Printing a truth value does what its definition says.
 abbrev pub BooleansArePrinted : Type 0
 BooleansArePrinted = (b : Bool) (y z : PlainStore) → Comes (hop.Comes (act.PrintBoolean b)) y z →
     TurnsInto y (on_top (past 1) (printed (boolean_text b) z))
 
--- The text of the number is printed.
+-- Printing the text of the number `k` does what its definition says.
 abbrev pub TextsArePrinted : Type 0
 TextsArePrinted = (k : ℕ) (y z : PlainStore) → Comes (hop.Comes (act.PrintText k)) y z →
     TurnsInto y (on_top (past 0) (printed (listed (pool_of z.program.pool).texts k) z))
 
--- A loop ends, or its body comes again.
+-- The end of a loop's round does what its definition says: the loop ends, or its body comes again.
 abbrev pub RoundsEnd : Type 0
 RoundsEnd = (n : Option ℕ) (y z : PlainStore) → Comes (hop.Comes (act.Until n)) y z →
     TurnsInto y (on_top (round_ended n) z)
 
--- A body begins behind its precondition.
+-- The start of a body after its precondition does what its definition says.
 abbrev pub BodiesStart : Type 0
 BodiesStart = (y z : PlainStore) → Comes (hop.Comes act.Start) y z → TurnsInto y (on_top (past 0) z)
 
--- A routine fails.
+-- The failure of a routine does what its definition says.
 abbrev pub RoutinesFail : Type 0
 RoutinesFail = (why : Cause) (y z : PlainStore) → Comes (hop.Failed why) y z → TurnsInto y (failed why z)
 
--- A routine ends.
+-- The end of a routine does what its definition says.
 abbrev pub RoutinesEnd : Type 0
 RoutinesEnd = (y z : PlainStore) → Comes (hop.Comes act.Exit) y z → AreWhole z → TakesResult z.frames →
     TurnsInto y (exited z)
 
--- The clause that is found false isn't waited for.
+-- A clause on the formals in these slots isn't waited for.
 abbrev pub IsNotWaitedFor : List ℕ → Option PlainActivation → Type 0
 IsNotWaitedFor slots None = Unit {0}
 IsNotWaitedFor slots (Some a) = is_waited_for a slots ≡ false
 
--- A request is refused, or an own call fails, where a clause of the precondition is false that isn't waited for.
+-- If a clause is false and isn't waited for, a request is refused or an own call fails, as defined.
 abbrev pub CallsAreRefused : Type 0
 CallsAreRefused =
     (k : ℕ) (y z : PlainStore) → Comes (hop.Comes (act.Refuse k)) y z → AreWhole z →
@@ -183,52 +183,52 @@ CallsAreRefused =
 
 -- ---- requests, handlers and blocks
 
--- The routine waits for the answer of this supplier, if it does.
+-- with the flag, the routine waits for the answer of the supplier `k`
 abbrev pub awaiting_if : Bool → ℕ → Bool → Bool → PlainActivation → PlainActivation
 awaiting_if false k gives is_creation a = a
 awaiting_if true k gives is_creation a = record a { stage = stage.Awaits k gives is_creation }
 
--- The actuals are gone, and the target.
+-- The actuals and the target are gone. The routine waits if it passes its rights or is to be given a value.
 abbrev pub sending : Reference → ℕ → Bool → Bool → PlainActivation → PlainActivation
 sending r n gives passes a = awaiting_if (passes || gives) r.handler gives false (without_last (past n a))
 
--- A request goes to another handler.
+-- A request to another handler does what its definition says.
 abbrev pub RequestsAreMade : Type 0
 RequestsAreMade = (r : Reference) (k n : ℕ) (gives passes : Bool) (y z : PlainStore) →
     Comes (hop.Comes (act.Request (call_of r k n gives passes))) y z →
     TurnsInto y (on_top (sending r n gives passes) z)
 
--- the first object of the handler that is made, which has the creator's number until it is told
+-- the first object of the new handler, with the creator's number until the creator learns the new one
 abbrev pub first_object : ℕ → ℕ → Reference
 first_object h class = record { handler = h; number = 1; class = class }
 
--- The actuals are gone, and the reference comes in their place.
+-- The reference takes the place of the actuals. The creator waits if it passes its rights.
 abbrev pub creating : ℕ → ℕ → ℕ → Bool → PlainActivation → PlainActivation
 creating h class n passes a = awaiting_if passes h false true (with_reference (first_object h class) (past n a))
 
--- The handler of this number creates another.
+-- The creation of a handler by `h` does what its definition says.
 abbrev pub HandlersAreCreated : Type 0
 HandlersAreCreated = (h class : ℕ) (k : Option ℕ) (n : ℕ) (passes : Bool) (y z : PlainStore) →
     Comes (hop.Comes (act.CreateHandler (creation_with class k n passes))) y z →
     (s : System) (x : Half) → IsProgramFor s y.program → IsRegionOf s x y →
     IsRegionOf s (turn s h x) (on_top (creating h class n passes) z)
 
--- the values go into the slots, from this one on
+-- the slots, with the values in them from slot `k` on
 abbrev pub written : ℕ → List Value → List Value → List Value
 written k [] slots = slots
 written k (v ∷ vs) slots = written (suc k) vs (slice_set slots k v)
 
--- The heads, so many, go into the slots from this one on, and the reserve step comes next.
+-- The `n` heads go into the slots from `first` on, and the reserve step comes next.
 abbrev pub opening : ℕ → ℕ → PlainActivation → PlainActivation
 opening first n a =
     record (past n a) { slots = written first (last_values n a.operands.values) a.slots; stage = stage.ReservesBlock }
 
--- A separate block begins.
+-- The beginning of a separate block does what its definition says.
 abbrev pub BlocksBegin : Type 0
 BlocksBegin = (first n : ℕ) (y z : PlainStore) → Comes (hop.Comes (act.Open first n)) y z →
     TurnsInto y (on_top (opening first n) z)
 
--- The innermost block is open no more.
+-- The innermost block is closed.
 abbrev pub closing : PlainActivation → PlainActivation
 closing a = record (past 0 a) { blocks = take (length a.blocks - 1) a.blocks }
 
@@ -240,19 +240,19 @@ abbrev pub HasNoBlock : Option PlainActivation → Type 0
 HasNoBlock None = Unit {0}
 HasNoBlock (Some a) = a.blocks ≡ []
 
--- A separate block ends.
+-- The end of a separate block does what its definition says.
 abbrev pub BlocksEnd : Type 0
 BlocksEnd = (y z : PlainStore) → Comes (hop.Comes act.Leave) y z → HasBlock (top_activation z.frames) →
     TurnsInto y (on_top closing z)
 
--- None is open.
+-- If no block is open, the end of a block is a failure, as defined.
 abbrev pub NoBlockEnds : Type 0
 NoBlockEnds = (y z : PlainStore) → Comes (hop.Comes act.Leave) y z → HasNoBlock (top_activation z.frames) →
     TurnsInto y (failed cause.BadCode z)
 
 -- ---- routines that are entered
 
--- The routine of the name of this number is entered on top of the frames.
+-- Entering the routine whose name has the number `k`, on top of the frames, does what its definition says.
 abbrev pub RoutinesAreEntered : Type 0
 RoutinesAreEntered =
     (s : System) (x : Half) (y : PlainStore) (me : Reference) (k : ℕ) (name : List ℕ) (from : Origin)
@@ -261,7 +261,7 @@ RoutinesAreEntered =
     IsRegionOf s (enters s (reference_of me) (routine_named s me.class name) from x.stack (values_of us) x)
     (entered_if (routine_in (version_in y.program me.class k)) me (origin_of from) us y)
 
--- A routine of the same handler is called, whose name has the number, and whose operands are there.
+-- A call on the same handler does what its definition says, if its name has the number `k`, with its operands there.
 abbrev pub CallsAreMade : Type 0
 CallsAreMade = (c : Calling) (r : Reference) (k n : ℕ) (gives : Bool) (name : List ℕ) (y z : PlainStore) →
     Comes (hop.Comes (act.Enter c r k n gives)) y z →
@@ -280,14 +280,14 @@ pub record IsCreator (h : ℕ) (z : PlainStore) : Type 0 where
   pub handler : RunsOn h z
   pub unborn : is_current (length z.objects + 1) z.frames ≡ false
 
--- An object of the class is created without a procedure, by the handler of this number.
+-- The creation of an object by handler `h` without a procedure does what its definition says.
 abbrev pub ObjectsAreCreated : Type 0
 ObjectsAreCreated = (h class n : ℕ) (y z : PlainStore) → Comes (hop.Comes (act.Create class None n)) y z →
     IsCreator h z →
     TurnsInto y (created (next_reference h class z) n z)
 
--- The same by the procedure of the name of this number, which is a routine, where the operands are there and have room
--- for the reference.
+-- So does the creation by the procedure whose name has the number `k`, if that is a routine, and its operands are
+-- there with room for the reference.
 abbrev pub ObjectsAreCreatedBy : Type 0
 ObjectsAreCreatedBy = (h class k n routine : ℕ) (name : List ℕ) (y z : PlainStore) →
     Comes (hop.Comes (act.Create class (Some k) n)) y z → RunsOn h z →
@@ -297,7 +297,7 @@ ObjectsAreCreatedBy = (h class k n routine : ℕ) (name : List ℕ) (y z : Plain
 
 -- ---- what turns ask
 
--- An integer, a truth value or a text is printed, a loop's end tested, or a body begun.
+-- The operation prints, tests a loop's end, or starts a body.
 abbrev pub asks_nothing : Act → Bool
 asks_nothing (act.PrintInteger v) = true
 asks_nothing (act.PrintBoolean b) = true
@@ -306,14 +306,14 @@ asks_nothing (act.Until n) = true
 asks_nothing act.Start = true
 asks_nothing other = false
 
--- These ask nothing of the core, unless the store that the turn leaves has failed.
+-- These operations ask nothing of the core, unless the store after the turn has failed.
 abbrev pub SimpleStepsAskNothing : Type 0
 SimpleStepsAskNothing = (a : Act) (y z w : PlainStore) → asks_nothing a ≡ true → Comes (hop.Comes a) y z →
     TurnsInto y w →
     (n : Numbering) (s : System) (h : ℕ) (x : Half) → IsProgramFor s y.program → IsRegionOf s x y →
     next_want n s h x ≡ unless_failed w.failure want.Continue
 
--- A turn that leaves a store that has failed tells why.
+-- A turn after which the store has failed reports the cause.
 abbrev pub FailuresAreTold : Type 0
 FailuresAreTold = (why : Cause) (y w : PlainStore) → TurnsInto y w → w.failure ≡ Some why →
     (n : Numbering) (s : System) (h : ℕ) (x : Half) → IsProgramFor s y.program → IsRegionOf s x y →

@@ -1,4 +1,4 @@
--- Core and regions together are the machine: what a turn makes of them, and what it asks.
+-- Core and regions together are the machine, at the opening and after each turn.
 use Rattle.std.specs.Prelude.{◌≡◌, ◌<◌, ◌≤◌, ◌==◌, ℕ, List, Option, if◌then◌else◌}
 use Rattle.sc_tree.specs.Plain.{System}
 use Rattle.sc_class.specs.ClassNames.{Root}
@@ -19,8 +19,8 @@ use Rattle.sc_refines_world.specs.regions.Order.{AreInOrder, EachInOrder}
 
 -- ---- the handler of the turn
 
--- What the handler's turn under its job makes of the region's half is that of the machine's turn, beside what the
--- core's settlement leaves.
+-- After the handler's turn under its job, the region's half is that of the machine after its turn, with the stage
+-- that the core's settlement leads to.
 abbrev pub RegionsFollow : Type 0
 RegionsFollow =
     (most : ℕ) (names : List (List ℕ)) (s : System) (h : ℕ) (w : machine.World) (c : core.State) (x : Half) →
@@ -32,7 +32,7 @@ RegionsFollow =
 
 -- ---- the others
 
--- The half of any other handler stays that, beside what the core's settlement leaves.
+-- The half of any other handler is still its region's half, with its stage after the core's settlement.
 abbrev pub OthersKeepHalves : Type 0
 OthersKeepHalves =
     (most : ℕ) (n : Numbering) (s : System) (h k : ℕ) (w : machine.World) (c : core.State) (x : Half) →
@@ -40,14 +40,14 @@ OthersKeepHalves =
     IsRegionHalf k (w.handlers k) (c.handlers k).stage x →
     IsRegionHalf k ((turn most s h w).handlers k) ((stepped most n s h w (job_of h c) c).handlers k).stage x
 
--- The half of a handler that is created in the turn is that of one that was asked for nothing yet.
+-- A handler that the turn creates has the half of a handler that was asked for nothing yet.
 abbrev pub CreatedAreNew : Type 0
 CreatedAreNew =
     (most : ℕ) (s : System) (h k : ℕ) (w : machine.World) (stage : core.HandlerStage) →
     w.count ≤ k → k < (turn most s h w).count →
     IsRegionHalf k ((turn most s h w).handlers k) stage new_half
 
--- So is that of each handler at the opening.
+-- So has each handler at the opening.
 abbrev pub OpensAsNew : Type 0
 OpensAsNew =
     (s : System) (root : Root) (k : ℕ) (stage : core.HandlerStage) →
@@ -55,7 +55,7 @@ OpensAsNew =
 
 -- ---- all regions
 
--- Each handler's half is its region's, and that of one that isn't there yet is new.
+-- `xs k` is the region's half of handler `k`. If there is no handler `k` yet, it is new.
 pub record AreRegionHalves (w : machine.World) (c : core.State) (xs : ℕ → Half) : Type 0 where
   pub halves : (k : ℕ) → k < w.count → IsRegionHalf k (w.handlers k) (c.handlers k).stage (xs k)
   pub rest : (k : ℕ) → w.count ≤ k → xs k ≡ new_half
@@ -64,11 +64,11 @@ pub record AreRegionHalves (w : machine.World) (c : core.State) (xs : ℕ → Ha
 abbrev pub halves_after : System → ℕ → List (List ℕ) → Option Job → (ℕ → Half) → ℕ → Half
 halves_after s h names j xs k = if k == h then taken_if s h names j (xs h) else xs k
 
--- At the opening all halves are new,
+-- At the opening all halves are new.
 abbrev pub OpensAsHalves : Type 0
 OpensAsHalves = (s : System) (root : Root) (c : core.State) → AreRegionHalves (runs.opening s root) c (λ k. new_half)
 
--- and after each turn they are the regions'.
+-- After each turn the halves are still those of the regions.
 abbrev pub TurnsKeepHalves : Type 0
 TurnsKeepHalves =
     (most : ℕ) (names : List (List ℕ)) (s : System) (h : ℕ) (w : machine.World) (c : core.State) (xs : ℕ → Half) →

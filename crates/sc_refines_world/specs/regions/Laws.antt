@@ -1,4 +1,4 @@
--- What the laws of regions stand on.
+-- Facts that the laws of regions use.
 use Rattle.sc_tree.specs.Plain.{System}
 use Rattle.sc_class.specs.ClassNames.{Root}
 use Rattle.sc_class.specs.Faults.ClassRules.{IsFaultless}
@@ -10,7 +10,7 @@ use Rattle.sc_interp.specs.Serving.{Serves}
 use Rattle.sc_refines_world.specs.regions.RegionHalves.{IsRegionOf}
 use Rattle.sc_refines_world.specs.regions.RegionTurns.{new_half}
 
--- The tables of a program serve its system, where that has no fault and its types are declared without fault.
+-- The tables of a program serve its system, if the system has no fault and its types are declared without fault.
 abbrev pub ProgramsServe : Type 0
 ProgramsServe = (s : System) (root : Root) (p : Image) → IsFaultless s root → AllDeclared s →
     IsProgramOf s root p → Serves s p

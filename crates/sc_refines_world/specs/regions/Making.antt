@@ -1,4 +1,4 @@
--- What the number of a handler that was made makes of its creator's store.
+-- How a creator's store changes when the creator learns the number of its new handler.
 use Rattle.std.specs.Prelude.{◌≡◌, ℕ, true, false, Some}
 use Rattle.sc_tree.specs.Plain.{System}
 use Rattle.sc_region.specs.declared.frame.Stage.TheVariants as stage
@@ -8,16 +8,16 @@ use Rattle.sc_refines_world.specs.regions.RegionTurns.{Half, Made, taken_turn, t
 use Rattle.sc_region.specs.Calls.{on_top}
 use Rattle.sc_play.specs.Answering.{runs, told, top_stage}
 
--- the half, whose topmost frame has been told the number of the handler that it made
+-- the half after its topmost frame has learned the number of the handler that it made
 abbrev pub told_half : ℕ → Half → Half
 told_half k x = with_stack (told_frames k x.stack) x
 
--- The creator is told it in memory as in the half.
+-- The creator learns the number in memory as in the half.
 abbrev pub CreatorsAreTold : Type 0
 CreatorsAreTold = (k : ℕ) (y : PlainStore) (s : System) (x : Half) → IsRegionOf s x y →
     IsRegionOf s (told_half k x) (told k y)
 
--- With lock passing this is the answer: a creator that waits for it goes on. The creation of a handler gives no value.
+-- With lock passing the number is the answer: a creator that waits goes on. A creation gives no value.
 abbrev pub MadeAreAnswers : Type 0
 MadeAreAnswers = (h j k : ℕ) (y : PlainStore) (s : System) (x : Half) → IsRegionOf s (told_half k x) y →
     top_stage y ≡ Some (stage.Awaits j false true) →

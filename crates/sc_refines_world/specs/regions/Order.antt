@@ -1,4 +1,4 @@
--- How the frames of a handler stand on each other, in each state that is reached.
+-- How the frames of a handler lie on each other, in each state that is reached.
 use Rattle.std.specs.Prelude.{◌≡◌, ◌<◌, ℕ, true, List, [], ◌∷◌, None}
 use Rattle.sc_tree.specs.Plain.{System}
 use Rattle.sc_class.specs.ClassNames.{Root}
@@ -6,23 +6,23 @@ use Rattle.sc_model.specs.Handlers.{Origin, Called, Requested, Stage, Awaits, Fr
 use Rattle.sc_model.specs.Runs.{opening}
 use Rattle.sc_model.specs.Turns.{turn}
 
--- it waits for a supplier's answer
+-- a frame in this stage waits for a supplier's answer
 abbrev pub IsAwaiting : Stage → Type 0
 IsAwaiting (Awaits k gives is_creation) = Unit {0}
 IsAwaiting stage = ⊥
 
--- A frame that serves a request stands on none, or on one that waits for an answer.
+-- A frame that serves a request is the lowest one, or the frame below it waits for an answer.
 abbrev pub StandsOver : Origin → List Frame → Type 0
 StandsOver (Called c) below = Unit {0}
 StandsOver (Requested r) [] = Unit {0}
 StandsOver (Requested r) (f ∷ below) = IsAwaiting f.stage
 
--- The answer to a creation gives no value.
+-- A frame that waits for the answer to a creation takes no value.
 abbrev pub TakesNone : Stage → Type 0
 TakesNone (Awaits k gives true) = gives ≡ None
 TakesNone stage = Unit {0}
 
--- It is so of each of these frames.
+-- Both hold of each of these frames.
 abbrev pub AreInOrder : List Frame → Type 0
 AreInOrder [] = Unit {0}
 AreInOrder (f ∷ below) = StandsOver f.origin below × TakesNone f.stage × AreInOrder below
@@ -33,10 +33,10 @@ EachInOrder w = (k : ℕ) → k < w.count → AreInOrder (w.handlers k).stack
 
 -- ---- laws
 
--- They are so at the opening,
+-- The frames are in order at the opening.
 abbrev pub OpensInOrder : Type 0
 OpensInOrder = (s : System) (root : Root) → EachInOrder (opening s root)
 
--- and after each turn.
+-- They are still in order after each turn.
 abbrev pub TurnsKeepOrder : Type 0
 TurnsKeepOrder = (most : ℕ) (s : System) (h : ℕ) (w : World) → EachInOrder w → EachInOrder (turn most s h w)

@@ -1,5 +1,5 @@
--- Turns on sound stores that stand for halves that fit: they leave what the definition makes of the half, and ask the
--- same.
+-- Turns on a sound store that stands for a half that fits: they do to the store what the definition does to the
+-- half, and ask the same.
 use Rattle.std.specs.Prelude.{◌≡◌, ◌≤◌, ℕ, Bool, true, false}
 use Rattle.sc_tree.specs.Plain.{System}
 use Rattle.sc_region.specs.declared.job.Job.{Job}
@@ -24,8 +24,8 @@ abbrev pub told_when : Bool → ℕ → Half → Half
 told_when true k x = told_half k x
 told_when false k x = x
 
--- What the store of a region stands for where the job is to be taken in this half: the creator of a handler may have
--- been told it, where a turn that was refused memory had begun the job.
+-- What a region's store stands for when the job is to be taken in the half `x`. With `is_told`, a turn that was
+-- refused memory has begun the job: the creator of a handler has the new number already.
 abbrev pub begun_when : Bool → Job → Half → Half
 begun_when is_told (job.Made k) x = told_when is_told k x
 begun_when is_told (job.Take r) x = x
@@ -37,20 +37,20 @@ begun_when is_told job.Go x = x
 
 -- ---- laws
 
--- A turn from where silent operations of a routine have led is its turn from where they began, and so it is where it
--- was told the handler that it made: a turn that was refused memory may have done such operations.
+-- A turn that was refused memory may have done silent operations of the routine. A turn from the store after them is
+-- also a turn from the store before them. So it is for a turn of a creator that has got its new handler's number.
 abbrev pub TurnsJoin : Type 0
 TurnsJoin = (h : ℕ) (y a z : PlainStore) (w : Want) → LeadsTo y a → Remains y a → TopRuns y →
     (TurnOf h a z w → TurnOf h y z w) × ((k : ℕ) → TurnUnder h (job.Made k) a z w → TurnUnder h (job.Made k) y z w)
 
--- A turn.
+-- A turn leads to a sound store that stands for the half after the defined turn, and asks the same.
 abbrev pub SoundTurnsAreMade : Type 0
 SoundTurnsAreMade =
     (h : ℕ) (y z : PlainStore) (w : Want) → TurnOf h y z w → IsSound y → FitsRequests y.program →
     (s : System) (x : Half) → IsProgramFor s y.program → IsRegionOf s x y → HalfFits s h x →
     IsSound z × IsRegionOf s (turn s h x) z × (w ≡ next_want (numbering_by (names_of y)) s h x)
 
--- The first turn under a job.
+-- So does the first turn under a job.
 abbrev pub SoundJobsAreTaken : Type 0
 SoundJobsAreTaken =
     (h : ℕ) (is_told : Bool) (j : Job) (y z : PlainStore) (w : Want) → FirstTurn h is_told j y z w → IsSound y →
@@ -59,7 +59,7 @@ SoundJobsAreTaken =
     IsSound z × IsRegionOf s (taken_turn s h (task_of (names_of y) j) x) z
     × (w ≡ first_want (numbering_by (names_of y)) s h (task_of (names_of y) j) x)
 
--- So many turns under a job.
+-- So do `n` turns under a job.
 abbrev pub SoundTurnsArePlayed : Type 0
 SoundTurnsArePlayed =
     (h : ℕ) (is_told : Bool) (j : Job) (limit n : ℕ) (y z : PlainStore) (w : Want) → Turns h is_told j y n z w →

@@ -1,5 +1,5 @@
--- The turns of a handler under a job: what they make of a store is what the definition makes of the half that the store
--- stands for, and they ask the same.
+-- The turns of a handler under a job do to a store what the definition does to the half that the store stands
+-- for, and ask the same.
 use Rattle.std.specs.Prelude.{◌<◌, ◌≤◌, ℕ, false}
 use Rattle.sc_tree.specs.Plain.{System}
 use Rattle.sc_region.specs.declared.job.Job.{Job}
@@ -19,12 +19,12 @@ abbrev pub MayPlay : (h : ℕ) (j : Job) (start : PlainStore) (n : ℕ) (z : Pla
 MayPlay h j start _ _ _ (first {y} {w} t) = MayTurnUnder h j (begun false j start) y w t
 MayPlay h j start _ _ _ (more {n} {y} {z} {w} before t) = MayPlay h j start n y want.Continue before × MayTurn h y z w t
 
--- Before each of so many turns a routine that finds a clause false stands in its contract.
+-- If a routine finds a clause false in one of the `n` turns under the job, it is in its contract.
 pub record PlaysInContract (s : System) (h : ℕ) (j : Job) (task : Task) (n : ℕ) (x : Half) : Type 0 where
   pub first : RefusesUnder s j x
   pub later : (k : ℕ) → 0 < k → k < n → RefusesInContract s (played s h task k x).objects (played s h task k x).stack
 
--- So many turns under a job that hasn't begun.
+-- If the job hasn't begun, `n` turns under it do to the store and ask what the definition says.
 abbrev pub TurnsArePlayed : Type 0
 TurnsArePlayed =
     (h : ℕ) (j : Job) (limit n : ℕ) (y z : PlainStore) (w : Want) (t : Turns h false j y n z w) → n ≤ limit →

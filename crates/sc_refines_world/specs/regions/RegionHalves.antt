@@ -1,4 +1,4 @@
--- What stands for a region's half: a store in memory, and the half of a handler of the machine.
+-- A region's half: the store that stands for it, and the handler of the machine that it is a part of.
 use Rattle.std.specs.Prelude.{◌≡◌, ◌⊎◌, ℕ, Bool, true, false, List, [], ◌∷◌, Option, Some, None, reverse, slice_get}
 use Rattle.std.specs.Option.{option_and_then}
 use Rattle.sc_tree.specs.Plain.{System}
@@ -52,7 +52,7 @@ stage_of ReservesBlock = stage.ReservesBlock
 stage_of (InCall gives) = stage.InCall (gives_value gives)
 stage_of (Awaits k gives is_creation) = stage.Awaits k (gives_value gives) is_creation
 
--- The place stands for the point, or for that with the value that the routine is to be given.
+-- The place stands for the point, with the value that the routine is to be given, if it is given one.
 abbrev pub StandsIn : Stage → Run → ℕ → List Value → Point → Type 0
 StandsIn Runs g place tail p = Stands g place tail p
 StandsIn Reserves g place tail p = Stands g place tail p
@@ -60,8 +60,8 @@ StandsIn ReservesBlock g place tail p = Stands g place tail p
 StandsIn (InCall gives) g place tail p = StandsWith g place tail gives p
 StandsIn (Awaits k gives is_creation) g place tail p = StandsWith g place tail gives p
 
--- The frame of a store is this one, of a handler with these objects. Its routine is the feature of its number; `tail`
--- lies behind the slots of its names.
+-- `g` in a store is the frame `f` of a handler with these objects. Its routine is the feature of its number; `tail`
+-- is in the slots after those of its names.
 pub record IsFrame (s : System) (objects : List Object) (f : Frame) (g : PlainFrame) : Type 0 where
   pub current : reference_of g.current ≡ f.current
   pub routine : option_and_then (routine_of s) (slice_get (all_features s) g.activation.routine) ≡ Some f.routine
@@ -79,7 +79,7 @@ AreFrames s objects [] [] = Unit {0}
 AreFrames s objects (f ∷ fs) (g ∷ gs) = IsFrame s objects f g × AreFrames s objects fs gs
 AreFrames s objects fs gs = ⊥
 
--- The store stands for the half.
+-- The store `y` stands for the half `x`.
 pub record IsRegionOf (s : System) (x : Half) (y : PlainStore) : Type 0 where
   pub objects : objects_in s y.objects ≡ x.objects
   pub frames : AreFrames s x.objects x.stack y.frames
@@ -88,38 +88,39 @@ pub record IsRegionOf (s : System) (x : Half) (y : PlainStore) : Type 0 where
 
 -- ---- in the machine
 
--- what was passed the core knows
+-- the origin without what was passed, which only the core knows
 abbrev pub unpassed : Origin → Origin
 unpassed (Called c) = Called c
 unpassed (Requested r) = Requested (record r { passed = None })
 
--- The region doesn't know the handler that it makes, and goes on after a command that it posts as a callback.
+-- The region's stage is the machine's, with two exceptions. While it waits for a handler that it makes, the region
+-- doesn't know the new number. After a command that it posts as a callback, the region goes on.
 abbrev pub IsStageFor : ℕ → Stage → Stage → Type 0
 IsStageFor h (Awaits k gives true) g = g ≡ Awaits h gives true
 IsStageFor h (Awaits k gives false) g = (g ≡ Awaits k gives false) ⊎ ((gives ≡ None) × (g ≡ Runs))
 IsStageFor h f g = g ≡ f
 
--- the handler that the frame is still to be told of
+-- The machine's operands `us` are the region's `vs`, but for the number of a new handler not yet known there.
 abbrev pub IsToldOf : Stage → core.HandlerStage → List Operand → List Operand → Type 0
 IsToldOf (Awaits k gives true) stage us vs = us ≡ told k vs
 IsToldOf Runs (core.HasMade k) us vs = us ≡ told k vs
 IsToldOf f stage us vs = us ≡ vs
 
--- The region of the handler of the number has `g` where the machine has `f` and the core this stage.
+-- The region of handler `h` has the frame `g`, if the machine has `f` and the core has this stage.
 pub record IsHalfOfFrame (h : ℕ) (stage : core.HandlerStage) (f g : Frame) : Type 0 where
   pub same : f ≡ record g { origin = f.origin; stage = f.stage; values = f.values; mark = f.mark }
   pub origin : g.origin ≡ unpassed f.origin
   pub stands : IsStageFor h f.stage g.stage
   pub values : IsToldOf f.stage stage f.values g.values
 
--- below the topmost one none is to be told of a handler without an answer
+-- The region's frames match the machine's. Below the topmost, only a waiting creator lacks its handler's number.
 abbrev pub AreHalvesOf : ℕ → core.HandlerStage → List Frame → List Frame → Type 0
 AreHalvesOf h stage [] [] = Unit {0}
 AreHalvesOf h stage (f ∷ fs) (g ∷ gs) = IsHalfOfFrame h stage f g × AreHalvesOf h core.Runs fs gs
 AreHalvesOf h stage fs gs = ⊥
 
--- The region's half of the handler of the number is this one. In the machine the stack of a handler that has failed is
--- empty; a failure that the core finds isn't told to the region.
+-- `x` is the region's half of the machine's handler `y`, which has the number `h`. In the machine a handler that has
+-- failed has no frames. The region doesn't learn of a failure that the core finds.
 pub record IsRegionHalf (h : ℕ) (y : machine.Handler) (stage : core.HandlerStage) (x : Half) : Type 0 where
   pub objects : x.objects ≡ y.objects
   pub output : x.output ≡ y.output

@@ -1,4 +1,4 @@
--- Jobs and wants of a region, what `play` does, and that a region's turns are the machine's.
+-- Jobs and wants of a region, what `play` does, and that a region's turn asks what the machine's turn asks.
 use Rattle.std.specs.Prelude.{◌≡◌, ◌<◌, ◌≤◌, ℕ, zero, suc, List, [], ◌∷◌, ◌++◌, All, Option, Some, None, length, slice_get, bytes_eq, if◌then◌else◌}
 use Rattle.std.specs.Option.{option_map}
 use Rattle.sc_tree.specs.Plain.{System}
@@ -31,7 +31,7 @@ use Rattle.sc_refines_world.specs.regions.RegionHalves.{IsRegionOf, IsRegionHalf
 
 -- ---- names by number
 
--- the number of the first of the names that is this one
+-- the number of the first name in the list that is `x`
 abbrev pub number_among : List ℕ → List (List ℕ) → ℕ
 number_among x [] = zero
 number_among x (y ∷ ys) = if bytes_eq y x then zero else suc (number_among x ys)
@@ -60,7 +60,7 @@ abbrev pub taking : Request → Option machine.Errand → Task
 taking r None = Misfits
 taking r (Some e) = Takes (request_with r e)
 
--- what the job is, where names have these numbers
+-- the job, with the names that have its numbers
 abbrev pub task_of : List (List ℕ) → Job → Task
 task_of names (job.Take r) = taking r (errand_in names r.errand)
 task_of names (job.Reply v) = Replied (option_map value_of v)
@@ -82,7 +82,7 @@ asks_beginning n s h (Made k) x = asks_on n s h (told_frames k x.stack) x.object
 asks_beginning n s h GoesOn x = asks_on n s h x.stack x.objects
 asks_beginning n s h job x = want.Continue
 
--- What the first turn under the job asks of the core.
+-- what the first turn under the job asks of the core
 abbrev pub first_want : Numbering → System → ℕ → Task → Half → Want
 first_want n s h job x = unless_failed (taken_turn s h job x).failure (asks_beginning n s h job x)
 
@@ -90,7 +90,7 @@ first_want n s h job x = unless_failed (taken_turn s h job x).failure (asks_begi
 abbrev pub next_want : Numbering → System → ℕ → Half → Want
 next_want n s h x = unless_failed (turn s h x).failure (asks_on n s h x.stack x.objects)
 
--- What the last of so many turns under the job asks.
+-- what the last of the turns asks, if this number of turns is made under the job
 abbrev pub want_after : Numbering → System → ℕ → Task → ℕ → Half → Want
 want_after n s h job zero x = want.Continue
 want_after n s h job (suc zero) x = first_want n s h job x
@@ -98,9 +98,9 @@ want_after n s h job (suc (suc k)) x = next_want n s h (played s h job (suc k) x
 
 -- ---- what `play` does
 
--- So many turns under the job, at most the limit, lead from one half to the other, and the last asks this. None of
--- those before it asks anything: so none is skipped, and where there is memory they end early only at a step that needs
--- the core.
+-- This number of turns under the job, at most `limit`, leads from the half `x` to `y`, and the last turn asks `w`.
+-- No turn before it asks anything: so none is skipped, and if there is memory, the turns end early only at a step
+-- that needs the core.
 pub record MakesTurns (n : Numbering) (s : System) (h : ℕ) (job : Task) (limit : ℕ) (turns : ℕ) (w : Want)
     (x y : Half) : Type 0 where
   pub some : 0 < turns
@@ -109,7 +109,7 @@ pub record MakesTurns (n : Numbering) (s : System) (h : ℕ) (job : Task) (limit
   pub asks : w ≡ want_after n s h job turns x
   pub none_skipped : (k : ℕ) → 0 < k → k < turns → want_after n s h job k x ≡ want.Continue
 
--- A log of jobs, with their turns and wants, leads from one half to the other.
+-- A log of jobs, with their turns and wants, leads from the half `x` to `y`.
 abbrev pub Replays : Numbering → List (List ℕ) → System → ℕ → List (Job × ℕ × Want) → Half → Half → Type 0
 Replays n names s h [] x y = x ≡ y
 Replays n names s h (e ∷ es) x y =
@@ -117,7 +117,7 @@ Replays n names s h (e ∷ es) x y =
 
 -- ---- stores
 
--- The program is that of the system, which is well formed.
+-- `p` is the program of the system, which has no fault and is well formed.
 pub record IsProgramFor (s : System) (p : Image) : Type 0 where
   pub root : Root
   pub faultless : IsFaultless s root
@@ -127,26 +127,26 @@ pub record IsProgramFor (s : System) (p : Image) : Type 0 where
 abbrev pub names_of : PlainStore → List (List ℕ)
 names_of x = (pool_of x.program.pool).names
 
--- What `play` does to a store: whatever half the first one stands for, the second one stands for what so many turns
--- make of it, and the last asks this.
+-- What `play` does to a store: whatever half `x` stands for, `y` stands for that half after this number of turns, and
+-- the last turn asks `w`.
 abbrev pub PlaysOn : ℕ → Job → ℕ → ℕ → Want → PlainStore → PlainStore → Type 0
 PlaysOn h j limit turns w x y = (s : System) (a : Half) → IsProgramFor s x.program → IsRegionOf s a x →
     (let b : Half = played s h (task_of (names_of x) j) turns a in
     IsRegionOf s b y × MakesTurns (numbering_by (names_of x)) s h (task_of (names_of x) j) limit turns w a b)
 
--- The store stands for what the log replays to, from the half of a handler that was asked for nothing yet.
+-- The log replays from the half of a handler that was asked for nothing yet to a half that the store stands for.
 abbrev pub ReplaysTo : ℕ → List (Job × ℕ × Want) → PlainStore → Type 0
 ReplaysTo h log x = (s : System) → IsProgramFor s x.program →
     (a : Half) × Replays (numbering_by (names_of x)) (names_of x) s h log new_half a × IsRegionOf s a x
 
 -- ---- the machine's turn
 
--- what the region makes of the job that the core gives
+-- the half after the first turn under the job that the core gives, if it gives one
 abbrev pub taken_if : System → ℕ → List (List ℕ) → Option Job → Half → Half
 taken_if s h names None x = x
 taken_if s h names (Some j) x = taken_turn s h (task_of names j) x
 
--- The names of the request have numbers.
+-- The name in the errand, if there is one, has a number.
 abbrev pub IsNamed : List (List ℕ) → machine.Errand → Type 0
 IsNamed names (machine.Calls x) = slice_get names (number_among x names) ≡ Some x
 IsNamed names (machine.Makes None) = Unit {0}
@@ -155,7 +155,7 @@ IsNamed names (machine.Makes (Some x)) = slice_get names (number_among x names) 
 abbrev pub AreNamed : List (List ℕ) → machine.Handler → Type 0
 AreNamed names y = All (λ (r : machine.Request). IsNamed names r.errand) (y.queue ++ to_list y.callback)
 
--- Where core and region are the machine's halves, what the region asks is what the machine's turn asks.
+-- If core and region are the machine's halves, the region's turn asks what the machine's turn asks.
 abbrev pub RegionsAsk : Type 0
 RegionsAsk =
     (most : ℕ) (names : List (List ℕ)) (s : System) (h : ℕ) (w : World) (c : core.State) (x : Half) (j : Job) →

@@ -1,5 +1,5 @@
--- The region's half of a handler: its objects, its frames, its output and its failure; and what a turn under a job
--- makes of it.
+-- The region's half of a handler: its objects, its frames, its output and its failure; and the half
+-- after a turn under a job.
 use Rattle.std.specs.Prelude.{ℕ, zero, suc, ◌+◌, Bool, true, false, not, ◌&&◌, ◌||◌, List, [], ◌∷◌, ◌++◌, Option, Some, None, is_some, length, nat_lt, ◌==◌, if◌then◌else◌}
 use Rattle.std.specs.Option.{is_none, option_map}
 use Rattle.sc_tree.specs.Plain as tree
@@ -26,8 +26,7 @@ use Rattle.sc_model.specs.Entries.{entry}
 use Rattle.sc_model.specs.Preconditions.{verdict_on, is_creation, object_meets}
 use Rattle.sc_model.specs.Exits.{is_unset_value, is_unset, is_untested, handed, handed_as}
 
--- The frames that a region keeps have no mark, and the requests that they serve tell nothing of what was passed; these
--- are the core's.
+-- The frames of a region have no mark, and the requests that they serve don't say what was passed: the core has both.
 pub record Half : Type 0 where
   pub objects : List Object
   pub stack : List Frame  -- the topmost first
@@ -38,7 +37,7 @@ pub record Half : Type 0 where
 abbrev pub new_half : Half
 new_half = record { objects = []; stack = []; output = []; failure = None }
 
--- Its frames are dropped; objects and output stay.
+-- The half fails: its frames are dropped; objects and output stay.
 abbrev pub failed : Cause → Half → Half
 failed why x = record x { stack = []; failure = Some why }
 
@@ -51,18 +50,18 @@ abbrev pub is_current : ℕ → List Frame → Bool
 is_current number [] = false
 is_current number (f ∷ below) = f.current.number == number || is_current number below
 
--- there is such an object, and it breaks its class invariant
+-- there is an object, and it breaks its class invariant
 abbrev pub object_breaks : System → Option Object → Bool
 object_breaks s None = false
 object_breaks s (Some o) = not (meets_invariant s o)
 
--- Where the object of the number is settled now, it is tested.
+-- If the object of the number is settled now, its class invariant is tested.
 abbrev pub settles : System → ℕ → Half → Half
 settles s number x =
     if is_none x.failure && not (is_current number x.stack) && object_breaks s (object_numbered number x.objects)
     then failed cause.Invariant x else x
 
--- the frame on this object goes, and these are left
+-- the frame `f` is dropped, and `below` stays
 abbrev pub leaves : System → Frame → List Frame → Half → Half
 leaves s f below x = settles s f.current.number (with_stack below x)
 
@@ -101,7 +100,7 @@ false_clause verdict.Start s f below x = failed cause.BadCode x
 
 -- ---- ends
 
--- the caller goes on, with the value, if there is one; a request's value is the core's
+-- The caller goes on, with the value if there is one. The value of a request goes to the core.
 abbrev pub hands : Origin → Option Value → Half → Half
 hands (Called c) v x = with_stack (handed v x.stack) x
 hands (Requested r) v x = x
@@ -119,7 +118,7 @@ leaves_block (ks ∷ kss) f below x = with_stack (record f { blocks = kss } ∷ 
 
 -- ---- handlers that are made
 
--- The last value refers to an object of this handler.
+-- a reference refers to an object of handler `k` then
 abbrev pub told_value : ℕ → Value → Value
 told_value k (Attached r) = Attached (record r { handler = k })
 told_value k v = v
@@ -132,7 +131,7 @@ abbrev pub told_frames : ℕ → List Frame → List Frame
 told_frames k [] = []
 told_frames k (f ∷ below) = record f { values = told k f.values } ∷ below
 
--- The creator goes on with a reference whose handler it is told later, until then its own.
+-- The creator has a reference to the new handler's first object, with its own number until it learns the new one.
 abbrev pub creates_handler : ℕ → ℕ → EntityType → Bool → Frame → List Frame → Half → Half
 creates_handler h class t passing f below x =
     with_stack (awaits_if passing h None true (record f {
@@ -142,7 +141,7 @@ creates_handler h class t passing f below x =
 
 -- ---- turns
 
--- What a visible step does, where `f` stands on `below` after it.
+-- What a visible step does. `f` is the topmost frame after the step, on top of `below`.
 abbrev pub acts : System → ℕ → Act → Frame → List Frame → Half → Half
 acts s h (Prints text) f below x = record x { output = x.output ++ text }
 acts s h Until f below x = x
@@ -176,7 +175,7 @@ abbrev pub turn_on : System → ℕ → List Frame → Half → Half
 turn_on s h [] x = x
 turn_on s h (f ∷ below) x = goes_on s h f.stage f below x
 
--- the handler, of this number, goes on
+-- handler `h` goes on
 abbrev pub turn : System → ℕ → Half → Half
 turn s h x = turn_on s h x.stack x
 
@@ -195,7 +194,7 @@ abbrev pub takes_version : System → Request → List ℕ → Option Object →
 takes_version s r name (Some o) (Some f) x = takes_kind s r name o f f.feature.kind x
 takes_version s r name o f x = failed cause.BadCode x
 
--- without a procedure the object is tested at once
+-- If there is no procedure, the object is tested at once.
 abbrev pub takes_creation : System → Request → Option (List ℕ) → Half → Half
 takes_creation s r (Some name) x =
     enters s r.target (routine_named s r.target.class name) (Requested r) x.stack r.actuals x
@@ -216,7 +215,7 @@ takes s h r x = takes_errand s h r r.errand x
 
 -- ---- an answer, a reserve step, a handler that was made
 
--- A frame that goes on takes the end of a callback that it posted as a command.
+-- A frame that waits gets the answer. For one that goes on, the end of a callback that it posted changes nothing.
 abbrev pub takes_reply : Stage → Option Value → Frame → List Frame → Half → Half
 takes_reply (Awaits k gives is_creation) v f below x = with_stack (handed_as gives v f ∷ below) x
 takes_reply Runs v f below x = x
@@ -227,14 +226,14 @@ takes_grant Reserves ks f below x = with_stack (record f { stage = Runs; reserve
 takes_grant ReservesBlock ks f below x = with_stack (record f { stage = Runs; blocks = ks ∷ f.blocks } ∷ below) x
 takes_grant stage ks f below x = failed cause.BadCode x
 
--- With lock passing this is the answer, and a turn of its own; else the creator goes on.
+-- With lock passing the new number is the answer, and takes a turn of its own. Otherwise the creator goes on.
 abbrev pub takes_made : System → ℕ → Stage → Frame → List Frame → Half → Half
 takes_made s h (Awaits k gives true) f below x = with_stack (record f { stage = Runs } ∷ below) x
 takes_made s h stage f below x = goes_on s h stage f below (with_stack (f ∷ below) x)
 
 -- ---- jobs
 
--- a job as the machine names things
+-- a job, with names as the machine has them
 pub data Task : Type 0 where
   Takes : (request : Request) → Task
   Replied : (value : Option Value) → Task
@@ -243,9 +242,9 @@ pub data Task : Type 0 where
   Granted : (handlers : List ℕ) → Task
   Made : (handler : ℕ) → Task
   GoesOn : Task
-  Misfits : Task  -- it names what no program has
+  Misfits : Task  -- it names what the program doesn't have
 
--- the first turn under the job, where the stack is this
+-- the first turn under the job, if this is the stack
 abbrev pub begins : System → ℕ → Task → List Frame → Half → Half
 begins s h (Takes r) stack x = takes s h r x
 begins s h SupplierFailed stack x = failed cause.SupplierFailed x
@@ -257,16 +256,16 @@ begins s h (Replied v) (f ∷ below) x = takes_reply f.stage v f below x
 begins s h (Granted ks) (f ∷ below) x = takes_grant f.stage ks f below x
 begins s h (Made k) (f ∷ below) x = takes_made s h f.stage (record f { values = told k f.values }) below x
 
--- What the first turn under the job makes of the half of the handler of the number.
+-- the half of handler `h` after the first turn under the job
 abbrev pub taken_turn : System → ℕ → Task → Half → Half
 taken_turn s h job x = begins s h job x.stack x
 
--- so many turns more
+-- the half after this number of further turns
 abbrev pub turns_on : ℕ → System → ℕ → Half → Half
 turns_on zero s h x = x
 turns_on (suc n) s h x = turns_on n s h (turn s h x)
 
--- so many turns under the job, of which the first is that of the job
+-- the half after this number of turns under the job; the first is `taken_turn`
 abbrev pub played : System → ℕ → Task → ℕ → Half → Half
 played s h job zero x = x
 played s h job (suc n) x = turns_on n s h (taken_turn s h job x)

@@ -1,5 +1,4 @@
--- What turns of a handler ask that end before a reserve step: calls and creations of the same handler, and separate
--- blocks.
+-- What a turn asks if a reserve step may come next: calls and creations on the same handler, and separate blocks.
 use Rattle.std.specs.Prelude.{◌≡◌, ℕ, Bool, true, Option, Some, None}
 use Rattle.sc_region.specs.declared.value.Reference.{Reference}
 use Rattle.sc_region.specs.Frames.{PlainActivation, top_activation}
@@ -13,21 +12,21 @@ use Rattle.sc_acts.specs.CreatingObjects.{asks_created}
 use Rattle.sc_refines_world.specs.regions.Acting.{Comes}
 use Rattle.sc_refines_world.specs.regions.Wanting.{TurnAsks}
 
--- A call of a routine of the same handler asks for the reserve step of the routine that begins, where it has attached
--- separate formals.
+-- A call of a routine of the same handler asks for the reserve step of the routine that begins, if that has
+-- attached separate formals.
 abbrev pub CallsAsk : Type 0
 CallsAsk =
     (h : ℕ) (c : Calling) (r : Reference) (k n : ℕ) (gives : Bool) (y z w : PlainStore) →
     Comes (hop.Comes (act.Enter c r k n gives)) y z → w.program ≡ y.program →
     TurnAsks h y w (asks_beginning w.program (top_activation w.frames))
 
--- The creation of an object of the same handler asks so for its procedure, and nothing where there is none.
+-- The creation of an object asks for the reserve step of its procedure, and for nothing if it has none.
 abbrev pub ObjectCreationsAsk : Type 0
 ObjectCreationsAsk =
     (h class : ℕ) (k : Option ℕ) (n : ℕ) (y z w : PlainStore) → Comes (hop.Comes (act.Create class k n)) y z →
     w.program ≡ y.program → TurnAsks h y w (asks_created k w)
 
--- The heads of the block are there, and slots for them.
+-- The heads of the block are there, and there are slots for them.
 abbrev pub MayOpen : ℕ → ℕ → Option PlainActivation → Type 0
 MayOpen first n None = ⊥
 MayOpen first n (Some a) = may_open first n a ≡ true

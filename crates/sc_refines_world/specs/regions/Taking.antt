@@ -1,5 +1,4 @@
--- What a request that is taken makes of a store, and what it asks, is what its definition makes of the half that the
--- store stands for, and asks.
+-- Taking a request does to a store what the definition does to the half that the store stands for, and asks the same.
 use Rattle.std.specs.Prelude.{◌≡◌, ℕ, ◌+◌, false, List, None, Some, length, slice_get}
 use Rattle.sc_tree.specs.Plain.{System}
 use Rattle.sc_region.specs.declared.job.Errand.{Errand}
@@ -18,13 +17,12 @@ use Rattle.sc_acts.specs.Turning.{unless_failed}
 use Rattle.sc_play.specs.Taking.{asks_taking, taken}
 use Rattle.sc_refines_world.specs.regions.Acting.{AreWhole}
 
--- Whatever half the first store stands for, the second one stands for what the handler's first turn under the job makes
--- of it.
+-- Whatever half `y` stands for, `z` stands for that half after the handler's first turn under the job.
 abbrev pub JobBecomes : ℕ → Job → PlainStore → PlainStore → Type 0
 JobBecomes h j y z = (s : System) (x : Half) → IsProgramFor s y.program → IsRegionOf s x y →
     IsRegionOf s (taken_turn s h (task_of (names_of y) j) x) z
 
--- What that turn asks is this, unless the second store has failed.
+-- The handler's first turn under the job asks `v`, unless `z` has failed.
 abbrev pub JobAsks : ℕ → Job → PlainStore → PlainStore → Want → Type 0
 JobAsks h j y z v = (s : System) (x : Half) → IsProgramFor s y.program → IsRegionOf s x y →
     first_want (numbering_by (names_of y)) s h (task_of (names_of y) j) x ≡ unless_failed z.failure v
@@ -39,16 +37,16 @@ IsNamed names (errand.Calls k) = IsNameOf names k
 IsNamed names (errand.Makes (Some k)) = IsNameOf names k
 IsNamed names (errand.Makes None) = Unit {0}
 
--- What is asked of a request, and of the store where it is taken.
+-- What a request needs to be taken, of itself and of the store.
 pub record IsTakeable (y : PlainStore) (r : Request) : Type 0 where
   pub named : IsNamed (names_of y) r.errand
-  -- The reference to an object tells its class.
+  -- If the target is there, it has the class that the reference says.
   pub of_class : (o : PlainObject) → object_numbered r.target.number y.objects ≡ Some o → o.class ≡ r.target.class
   pub whole : AreWhole y
   -- No routine runs on the next object.
   pub unborn : is_current (length y.objects + 1) y.frames ≡ false
 
--- A request is taken: a feature is called, or an object created.
+-- A request that is taken calls a feature or creates an object, as defined.
 abbrev pub RequestsAreTaken : Type 0
 RequestsAreTaken = (h : ℕ) (r : Request) (y : PlainStore) → IsTakeable y r → JobBecomes h (job.Take r) y (taken h r y)
 

@@ -1,5 +1,5 @@
--- One whole turn of a handler: what it makes of a store is what the definition of a turn makes of the half that the
--- store stands for, and it asks the same.
+-- One whole turn of a handler does to a store what the definition of a turn does to the half that the store stands
+-- for, and asks the same.
 use Rattle.std.specs.Prelude.{◌≡◌, ℕ, true, false, Option, Some, None, length, nat_lt}
 use Rattle.sc_tree.specs.Plain.{System}
 use Rattle.sc_region.specs.declared.frame.Stage.{Stage}
@@ -29,10 +29,10 @@ use Rattle.sc_refines_world.specs.regions.Taking.{IsNameOf, IsTakeable}
 use Rattle.sc_refines_world.specs.regions.Waiting.{RefusesInContract}
 use Rattle.sc_refines_world.specs.regions.Wanting.{IsNumbered, IsProcedure, MayCreate, MayRequest}
 
--- ---- what is asked of a store where an operation is done
+-- ---- what an operation needs of a store
 
--- The store may create. A procedure's operands are there, with room for the reference, and its name is that of a
--- routine where there is room for one more object.
+-- The store may create an object. A creation by a procedure needs a name with the procedure's number, the operands
+-- and room for the reference. If there is room for one more object, the procedure must be a routine.
 abbrev pub MayCreateHere : ℕ → ℕ → Option ℕ → ℕ → PlainStore → Type 0
 MayCreateHere h class None n z = IsCreator h z
 MayCreateHere h class (Some k) n z =
@@ -41,8 +41,8 @@ MayCreateHere h class (Some k) n z =
     × (nat_lt (length z.objects) max_objects ≡ true →
     (routine : ℕ) × (routine_in (version_in z.program class k) ≡ Some routine)) × RunsOn h z
 
--- The numbers of the operation are those of names, and its operands are there. Where objects are tested,
--- they are whole, and a routine that ends has a Result for its caller.
+-- The numbers of the operation are those of names, and its operands are there. If it tests objects, they are whole;
+-- if it ends a routine, that has a Result for its caller.
 abbrev pub MayAct : ℕ → Act → PlainStore → Type 0
 MayAct h (act.Enter c r k n gives) z = IsNameOf (names_of z) k × HasCall c n (top_activation z.frames)
 MayAct h (act.Request q) z = IsNumbered z q.name × MayRequest q.count (top_activation z.frames)
@@ -59,17 +59,17 @@ MayAct h (act.Until n) z = Unit {0}
 MayAct h act.Start z = Unit {0}
 MayAct h act.Leave z = Unit {0}
 
--- The operation may be done by the handler of the number, where it is visible.
+-- Handler `h` may do the operation, if it is visible.
 abbrev pub MayDo : ℕ → Hop → PlainStore → Type 0
 MayDo h hop.Passed z = Unit {0}
 MayDo h (hop.Failed why) z = Unit {0}
 MayDo h (hop.Comes a) z = MayAct h a z
 
--- Where its silent operations have come, the operation that comes next may be done.
+-- The operation that comes after the silent ones may be done.
 abbrev pub MayGoOn : (h : ℕ) (y z : PlainStore) (w : Want) → GoesOn h y z w → Type 0
 MayGoOn h y z w t = MayDo h t.operation t.before
 
--- The turn of a handler whose topmost routine is in this stage may be made.
+-- A handler whose topmost routine is in the stage `o` may make the turn.
 abbrev pub MayTurnIn : (o : Option Stage) (h : ℕ) (y z : PlainStore) (w : Want) → TurnIn o h y z w → Type 0
 MayTurnIn None h y z w t = Unit {0}
 MayTurnIn (Some stage.Runs) h y z w t = MayGoOn h y z w t
@@ -83,7 +83,7 @@ MayTurn h y z w t = MayTurnIn (top_stage y) h y z w t
 
 -- ---- turns
 
--- A turn of a handler.
+-- A turn of a handler leads to a store that stands for the half after the defined turn, and asks the same.
 abbrev pub TurnsAreMade : Type 0
 TurnsAreMade =
     (h : ℕ) (y z : PlainStore) (w : Want) (t : TurnOf h y z w) → MayTurn h y z w t → (s : System) (x : Half) →
@@ -93,7 +93,7 @@ TurnsAreMade =
 
 -- ---- jobs
 
--- the half in which the job has begun: the creator of a handler has been told its number
+-- the half in which the job has begun: the creator of a handler has the new number
 abbrev pub begun_half : Job → Half → Half
 begun_half (job.Made k) x = told_half k x
 begun_half (job.Take r) x = x
@@ -103,7 +103,7 @@ begun_half job.Refused x = x
 begun_half (job.Granted ks) x = x
 begun_half job.Go x = x
 
--- The turn of a handler that is told the number of another may be made. A creation that is waited for gives no value.
+-- A creator that gets the number of its new handler may make the turn. A creation that is waited for gives no value.
 abbrev pub MayTurnMade : (o : Option Stage) (h : ℕ) (y z : PlainStore) (w : Want) → TurnMade o h y z w → Type 0
 MayTurnMade None h y z w t = Unit {0}
 MayTurnMade (Some (stage.Awaits k gives true)) h y z w t = gives ≡ false
@@ -113,7 +113,7 @@ MayTurnMade (Some stage.Reserves) h y z w t = Unit {0}
 MayTurnMade (Some stage.ReservesBlock) h y z w t = Unit {0}
 MayTurnMade (Some (stage.InCall gives)) h y z w t = Unit {0}
 
--- The first turn under the job may be made, in a store in which it has begun.
+-- The first turn under the job may be made, in a store in which the job has begun.
 abbrev pub MayTurnUnder : (h : ℕ) (j : Job) (y z : PlainStore) (w : Want) → TurnUnder h j y z w → Type 0
 MayTurnUnder h (job.Take r) y z w t = IsTakeable y r
 MayTurnUnder h (job.Reply v) y z w t = TakesAnswer v y.frames
@@ -123,7 +123,7 @@ MayTurnUnder h (job.Granted ks) y z w t = Unit {0}
 MayTurnUnder h (job.Made k) y z w t = MayTurnMade (top_stage y) h y z w t
 MayTurnUnder h job.Go y z w t = MayTurn h y z w t
 
--- Where a routine goes on in the first turn under the job, it stands in its contract where it finds a clause false.
+-- If a routine goes on in the first turn under the job and finds a clause false, it is in its contract.
 abbrev pub RefusesUnder : System → Job → Half → Type 0
 RefusesUnder s (job.Made k) x = RefusesInContract s x.objects (told_half k x).stack
 RefusesUnder s job.Go x = RefusesInContract s x.objects x.stack
@@ -133,7 +133,7 @@ RefusesUnder s job.Failed x = Unit {0}
 RefusesUnder s job.Refused x = Unit {0}
 RefusesUnder s (job.Granted ks) x = Unit {0}
 
--- The first turn under a job, in a store in which it has begun.
+-- The first turn under a job that has begun in the store does and asks what the definition says.
 abbrev pub JobsAreTaken : Type 0
 JobsAreTaken =
     (h : ℕ) (j : Job) (y z : PlainStore) (w : Want) (t : TurnUnder h j y z w) → MayTurnUnder h j y z w t →
@@ -142,7 +142,7 @@ JobsAreTaken =
     IsRegionOf s (taken_turn s h (task_of (names_of y) j) x) z
     × (w ≡ first_want (numbering_by (names_of y)) s h (task_of (names_of y) j) x)
 
--- The first turn under a job that hasn't begun.
+-- So does the first turn under a job that hasn't begun.
 abbrev pub FirstTurnsAreMade : Type 0
 FirstTurnsAreMade =
     (h : ℕ) (j : Job) (y z : PlainStore) (w : Want)

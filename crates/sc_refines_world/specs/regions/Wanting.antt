@@ -21,54 +21,54 @@ use Rattle.sc_acts.specs.Operands.{has_call}
 use Rattle.sc_acts.specs.Requesting.{asks_requesting, call_of}
 use Rattle.sc_refines_world.specs.regions.Acting.{AreWhole, Comes}
 
--- Whatever half the first store stands for, a turn of the handler of the number that leaves the second store asks this,
--- unless that has failed. Names have the numbers of the program.
+-- Whatever half `y` stands for: a turn of handler `h` to a half that `w` stands for asks `v`, unless `w` has failed.
+-- Names have the numbers of the program.
 abbrev pub TurnAsks : ℕ → PlainStore → PlainStore → Want → Type 0
 TurnAsks h y w v = (s : System) (x : Half) → IsProgramFor s y.program → IsRegionOf s x y → IsRegionOf s (turn s h x) w →
     next_want (numbering_by (names_of y)) s h x ≡ unless_failed w.failure v
 
 -- ---- names
 
--- Among distinct names each has the number at which it stands.
+-- If the names are distinct, each has the number of its place in the list.
 abbrev pub DistinctNamesHaveNumbers : Type 0
 DistinctNamesHaveNumbers = (names : List (List ℕ)) (k : ℕ) (name : List ℕ) → AreDistinct names →
     slice_get names k ≡ Some name → number_among name names ≡ k
 
--- The number is that of the name which stands there.
+-- The name at `k` has the number `k`.
 abbrev pub IsNumbered : PlainStore → ℕ → Type 0
 IsNumbered z k = number_among (name_at z.program k) (names_of z) ≡ k
 
--- the same of a procedure's number, if there is one
+-- The procedure has a name with its number, if there is a procedure.
 abbrev pub IsProcedure : PlainStore → Option ℕ → Type 0
 IsProcedure z None = Unit {0}
 IsProcedure z (Some k) = IsNumbered z k
 
 -- ---- ends
 
--- The end of a routine asks that what its entry newly reserved is released, and that a request ends with the Result.
+-- The end of a routine asks to release what its entry newly reserved, and to end its request with the Result.
 abbrev pub RoutineEndsAsk : Type 0
 RoutineEndsAsk = (h : ℕ) (y z : PlainStore) → Comes (hop.Comes act.Exit) y z → AreWhole z →
     TurnAsks h y (exited z) (asks_exiting (top_activation z.frames))
 
--- A clause of a precondition that is false asks that the entry waits, or that its request is refused.
+-- If a clause of a precondition is false, the turn asks that the entry waits, or that its request is refused.
 abbrev pub RefusalsAsk : Type 0
 RefusalsAsk =
     (h k : ℕ) (y z : PlainStore) → Comes (hop.Comes (act.Refuse k)) y z → AreWhole z →
     TurnAsks h y (refused k z) (asks_refusing (formals_at z.program k) (top_activation z.frames))
 
--- The end of a separate block asks that what it newly reserved is released.
+-- The end of a separate block asks to release what the block newly reserved.
 abbrev pub BlockEndsAsk : Type 0
 BlockEndsAsk = (h : ℕ) (y z w : PlainStore) → Comes (hop.Comes act.Leave) y z →
     TurnAsks h y w (asks_leaving (top_activation z.frames))
 
 -- ---- requests and handlers
 
--- The operands are there.
+-- The operands of a call with `n` actuals are there.
 abbrev pub MayRequest : ℕ → Option PlainActivation → Type 0
 MayRequest n None = ⊥
 MayRequest n (Some a) = has_call n a ≡ true
 
--- A call on an object of another handler asks for its request.
+-- A call on an object of another handler asks the core to post its request.
 abbrev pub RequestsAsk : Type 0
 RequestsAsk =
     (h : ℕ) (r : Reference) (k n : ℕ) (gives passes : Bool) (y z w : PlainStore) →
@@ -76,12 +76,12 @@ RequestsAsk =
     MayRequest n (top_activation z.frames) →
     TurnAsks h y w (asks_requesting h (call_of r k n gives passes) (top_activation z.frames))
 
--- The operands are there, with room for the reference.
+-- The `n` operands are there, with room for the reference.
 abbrev pub MayCreate : ℕ → Option PlainActivation → Type 0
 MayCreate n None = ⊥
 MayCreate n (Some a) = may_create n a ≡ true
 
--- The creation of a handler asks for it.
+-- The creation of a handler asks the core to create it.
 abbrev pub CreationsAsk : Type 0
 CreationsAsk =
     (h class : ℕ) (k : Option ℕ) (n : ℕ) (passes : Bool) (y z w : PlainStore) →
