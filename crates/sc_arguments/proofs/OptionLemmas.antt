@@ -1,7 +1,7 @@
 -- What words say of one option.
 use Rattle.std.proofs.Common.{◌≡◌, ◌∙◌, ℕ, ◌==◌, ◌<◌, ◌≤◌, Bool, true, false, List, [], ◌∷◌, ◌++◌, Bor, MatchOption, Option, Some, None, length, map, drop, option_map, slice_index_or, refl, sym, ap, subst, arith, eq-eqb, eqb-true, ne_eqb, if◌then◌else◌}
 use Rattle.std.specs.Str.Pattern.{StripsPrefix, FindsTextPrefix}
-use Rattle.sc_arguments.specs.Words.{behind, ends_options, ends_use, has_value, uses, value_by, words_from}
+use Rattle.sc_arguments.specs.Words.{after, ends_options, ends_use, has_value, uses, value_by, words_from}
 
 yes : {X : Type 0} (b : Bool) (x y : X) → b ≡ true → (if b then x else y) ≡ x
 yes true x y e = refl
@@ -66,25 +66,25 @@ pub none-used : {X : Type 0} (text : X → List ℕ) (option : List ℕ) (all le
 none-used text option all [] v none so-far = sym (so-far ∙ none-from option v)
 none-used text option all (x ∷ xs) v none so-far = absurd (omega (arith, none))
 
--- ---- what is behind an option's name
+-- ---- what is after an option's name
 
-behind-is : (option rest : List ℕ) → behind option (option ++ rest) ≡ Some rest
-behind-is [] rest = refl
-behind-is (c ∷ cs) rest = yes (c == c) (behind cs (cs ++ rest)) None (eq-eqb c c refl) ∙ behind-is cs rest
+after-is : (option rest : List ℕ) → after option (option ++ rest) ≡ Some rest
+after-is [] rest = refl
+after-is (c ∷ cs) rest = yes (c == c) (after cs (cs ++ rest)) None (eq-eqb c c refl) ∙ after-is cs rest
 
-pub behind-found : (option word rest : List ℕ) → StripsPrefix (FindsTextPrefix option) word rest → behind option word ≡ Some rest
-behind-found option word rest is =
-    ap (behind option) is.1.1 ∙ behind-is option (drop is.0 word) ∙ ap (λ xs. Some xs) (sym is.2)
+pub after-found : (option word rest : List ℕ) → StripsPrefix (FindsTextPrefix option) word rest → after option word ≡ Some rest
+after-found option word rest is =
+    ap (after option) is.1.1 ∙ after-is option (drop is.0 word) ∙ ap (λ xs. Some xs) (sym is.2)
 
 none-next : (c d : ℕ) (cs ds : List ℕ) (b : Bool) → (c == d) ≡ b → ((rest : List ℕ) → d ∷ ds ≡ c ∷ (cs ++ rest) → ⊥) →
-    (((rest : List ℕ) → ds ≡ cs ++ rest → ⊥) → behind cs ds ≡ None) → (if b then behind cs ds else None) ≡ None
+    (((rest : List ℕ) → ds ≡ cs ++ rest → ⊥) → after cs ds ≡ None) → (if b then after cs ds else None) ≡ None
 none-next c d cs ds true e none next = next (λ rest same. none rest (ap (λ xs. d ∷ xs) same ∙ ap (λ x. x ∷ (cs ++ rest)) (sym (eqb-true c d e))))
 none-next c d cs ds false e none next = refl
 
-pub behind-none : (option word : List ℕ) → ((rest : List ℕ) → word ≡ option ++ rest → ⊥) → behind option word ≡ None
-behind-none [] word none = absurd (none word refl)
-behind-none (c ∷ cs) [] none = refl
-behind-none (c ∷ cs) (d ∷ ds) none = none-next c d cs ds (c == d) refl none (behind-none cs ds)
+pub after-none : (option word : List ℕ) → ((rest : List ℕ) → word ≡ option ++ rest → ⊥) → after option word ≡ None
+after-none [] word none = absurd (none word refl)
+after-none (c ∷ cs) [] none = refl
+after-none (c ∷ cs) (d ∷ ds) none = none-next c d cs ds (c == d) refl none (after-none cs ds)
 
 -- ---- whether a word uses an option
 
@@ -95,7 +95,7 @@ whole-use is_short (c ∷ cs) short = absurd (omega (arith, short))
 pub uses-whole : (option word rest bytes : List ℕ) → StripsPrefix (FindsTextPrefix option) word rest → bytes ≡ rest → length bytes < 1 →
     true ≡ uses option word
 uses-whole option word rest bytes is same short =
-    sym (ap (ends_use (length option == 2)) (behind-found option word rest is)
+    sym (ap (ends_use (length option == 2)) (after-found option word rest is)
     ∙ whole-use (length option == 2) rest (subst (λ (b : List ℕ). length b < 1) same short))
 
 longer-use : (is_short : Bool) (rest : List ℕ) → is_short ≡ false → 1 ≤ length rest → (slice_index_or rest 0 0 == 61) ≡ ends_use is_short (Some rest)
@@ -108,20 +108,20 @@ pub uses-longer : (option word rest bytes : List ℕ) → StripsPrefix (FindsTex
 uses-longer option word rest bytes is same long free =
     ap (λ b. slice_index_or b 0 0 == 61) same
     ∙ longer-use (length option == 2) rest (ne_eqb (length option) 2 free) (subst (λ (b : List ℕ). 1 ≤ length b) same long)
-    ∙ sym (ap (ends_use (length option == 2)) (behind-found option word rest is))
+    ∙ sym (ap (ends_use (length option == 2)) (after-found option word rest is))
 
 pub uses-none : (option word : List ℕ) → ((rest : List ℕ) → word ≡ option ++ rest → ⊥) → false ≡ uses option word
-uses-none option word none = sym (ap (ends_use (length option == 2)) (behind-none option word none))
+uses-none option word none = sym (ap (ends_use (length option == 2)) (after-none option word none))
 
 -- ---- the value of an option
 
 pub value-none : (option word : List ℕ) (words : List (List ℕ)) → ((rest : List ℕ) → word ≡ option ++ rest → ⊥) →
-    None ≡ value_by words (behind option word)
-value-none option word words none = sym (ap (value_by words) (behind-none option word none))
+    None ≡ value_by words (after option word)
+value-none option word words none = sym (ap (value_by words) (after-none option word none))
 
 pub value-found : (option word rest : List ℕ) (words : List (List ℕ)) (r : Option (List ℕ)) → StripsPrefix (FindsTextPrefix option) word rest →
-    r ≡ value_by words (Some rest) → r ≡ value_by words (behind option word)
-value-found option word rest words r is value = value ∙ sym (ap (value_by words) (behind-found option word rest is))
+    r ≡ value_by words (Some rest) → r ≡ value_by words (after option word)
+value-found option word rest words r is value = value ∙ sym (ap (value_by words) (after-found option word rest is))
 
 other-sign : (c : ℕ) (cs : List ℕ) (b : Bool) → (c == 61) ≡ b → ((xs : List ℕ) → c ∷ cs ≡ 61 ∷ xs → ⊥) → None ≡ (if b then Some cs else None)
 other-sign c cs true e none = absurd (none cs (ap (λ x. x ∷ cs) (eqb-true c 61 e)))

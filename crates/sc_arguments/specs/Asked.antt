@@ -1,4 +1,4 @@
--- What arguments ask for.
+-- What the program's arguments ask for.
 use Rattle.std.specs.Prelude.{ℕ, ◌≡◌, ◌==◌, ◌||◌, Bool, true, false, List, [], ◌∷◌, Option, Some, None, codes, if◌then◌else◌, map, slice_get, string_bytes}
 use Rattle.std.specs.Borrow.{Bor}
 use Rattle.std.specs.Option.{option_map}
@@ -20,11 +20,11 @@ use Rattle.sc_arguments.specs.declared.arguments.searching.Sought.TheVariants.{A
 
 -- ---- what options say
 
--- the format that a word names
+-- the format that the word names: JSON for `json`, or else text
 abbrev pub format_named : List ℕ → Format
 format_named word = if bytes_eq word (codes "json") then Json else Text
 
--- what is looked for, named by a word
+-- what a search looks for, by the value of `--for`: `stuck`, `fails`, or else either of them
 abbrev pub sought_named : List ℕ → Sought
 sought_named word =
     if bytes_eq word (codes "stuck") then Stuck else if bytes_eq word (codes "fails") then Fails else Any
@@ -35,16 +35,16 @@ IsRootIn words root =
     NamesRoot (value_or (codes "--root") (codes "APPLICATION.make") words)
     (string_bytes root.class) (string_bytes root.procedure)
 
--- the format that `--format` names, or else that of lines
+-- the format that `--format` names, or else text
 abbrev pub format_in : List (List ℕ) → Format
 format_in words = format_named (value_or (codes "--format") (codes "text") words)
 
--- The most bytes are those that the value of an option writes; there is no such number if it isn't used.
+-- `limit` is the number that the value of the option writes, or none if the option isn't used.
 abbrev pub IsLimitBy : Option (List ℕ) → Option ℕ → Type 0
 IsLimitBy None limit = limit ≡ None
 IsLimitBy (Some text) limit = (n : ℕ) × (limit ≡ Some n) × Writes text n
 
--- ---- what commands take
+-- ---- the options of each command
 
 pub record AreCheckOptions (words : List (List ℕ)) (options : CheckOptions) : Type 0 where
   pub root : IsRootIn words options.root
@@ -71,17 +71,17 @@ pub record AreSearchOptions (words : List (List ℕ)) (options : SearchOptions) 
   pub record_name : option_map (λ name. name.now) options.record ≡ value_of (codes "--record") words
   pub lists_outcomes : options.lists_outcomes ≡ has_option (codes "--outcomes") words
 
--- ---- what they ask for
+-- ---- what a command asks for
 
 abbrev pub texts_of : List (Bor (List ℕ)) → List (List ℕ)
 texts_of names = map (λ name. name.now) names
 
--- These are the files that the words give.
+-- `names` are the files that the words give.
 abbrev pub AreGivenIn : List (List ℕ) → List (Bor (List ℕ)) → Type 0
 AreGivenIn words names = texts_of names ≡ given_in false words
 
--- It is what a command of this name asks for with these words behind it: files and options; a record, files and
--- options; or a code or a name.
+-- The command of this name asks for this with these words after it: files and options; a record, files and options;
+-- or the page of a code or a name, if one is given.
 abbrev pub IsAskedOf : List ℕ → List (List ℕ) → Invocation → Type 0
 IsAskedOf name words (invocation.OnFiles (command.Check options) names) =
     (name ≡ codes "check") × AreGivenIn words names.items × AreCheckOptions words options
@@ -98,19 +98,19 @@ IsAskedOf name words (invocation.Explain word) =
 
 -- ---- help
 
--- the word begins as the short option for help, or for the version
+-- the word begins with `-h` or `-V`, the short options for help and for the version
 abbrev pub begins_help : List ℕ → Bool
 begins_help [] = false
 begins_help (c ∷ []) = false
 begins_help (c ∷ d ∷ cs) = if c == 45 then d == 104 || d == 86 else false
 
--- the word that may name a command asks for help, or for the version
+-- the word, in the place of a command's name, asks for help or for the version
 abbrev pub is_help : List ℕ → Bool
 is_help word =
     begins_help word
     || (bytes_eq word (codes "help") || (bytes_eq word (codes "--help") || bytes_eq word (codes "--version")))
 
--- The arguments ask for help, or for the version: instead of a command, or by an option behind it.
+-- The arguments ask for help or for the version in place of a command, or for help by an option after a command.
 abbrev pub asks_for_help : List (List ℕ) → Bool
 asks_for_help [] = false
 asks_for_help (program ∷ []) = false
@@ -122,7 +122,7 @@ AskForHelp arguments = asks_for_help arguments ≡ true
 
 -- ---- all arguments
 
--- The arguments ask for it and not for help: the first is the program's name, and the second is that of the command.
+-- The arguments ask for `what`, and not for help. The first is the program's name, the second the command's name.
 abbrev pub IsAskedFor : List (List ℕ) → Invocation → Type 0
 IsAskedFor [] what = ⊥
 IsAskedFor (program ∷ []) what = ⊥

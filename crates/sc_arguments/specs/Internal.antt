@@ -1,3 +1,3 @@
--- What the code holds and looks for, one definition for a function. No public contract speaks of these: what they come
--- to is said in the files beside this folder.
+-- What the code holds and looks for, one definition for each function. No public contract mentions these: the files
+-- beside this folder have the rules, and the proofs show that the functions follow them.
 pub mod SoleName

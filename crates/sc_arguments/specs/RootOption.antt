@@ -7,12 +7,12 @@ use Rattle.sc_text.specs.Words.{reserved}
 abbrev pub dot : ℕ
 dot = 46
 
--- A letter, then letters, digits and underscores, which is no reserved word.
+-- The text is a name: a letter, then letters, digits and underscores, and no reserved word.
 pub record IsName (text : List ℕ) : Type 0 where
   pub word : IsWord text
   pub free : reserved text ≡ None
 
--- The text is two names with a dot between. These are the names in lower case.
+-- The text is two names with a dot between them. `class` and `procedure` are these names in lower case.
 pub record NamesRoot (text class procedure : List ℕ) : Type 0 where
   pub before : List ℕ
   pub after : List ℕ

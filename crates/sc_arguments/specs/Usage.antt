@@ -1,4 +1,4 @@
--- Why arguments ask for nothing that can be done.
+-- Why the program can't do what its arguments ask for.
 use Rattle.std.specs.Prelude.{◌≡◌, ◌≢◌}
 use Rattle.clap.specs.declared.error.Error.{Error}
 use Rattle.clap.specs.declared.error.kind.ErrorKind.TheVariants as kind
@@ -9,7 +9,7 @@ use Rattle.sc_arguments.specs.declared.arguments.UsageFault.TheVariants as usage
 abbrev pub usage_out_of_memory : UsageFault
 usage_out_of_memory = usage.OutOfMemory
 
--- What the reader of arguments reports is returned unchanged, and running out of memory as that.
+-- The error `e` of the reader of arguments is returned unchanged, or as `OutOfMemory` if that is its kind.
 abbrev pub TellsError : Error → UsageFault → Type 0
 TellsError e usage.OutOfMemory = kind_of e ≡ kind.OutOfMemory
 TellsError e (usage.Arguments said) = (said ≡ e) × (kind_of e ≢ kind.OutOfMemory)

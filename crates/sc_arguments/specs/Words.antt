@@ -1,9 +1,9 @@
--- The words behind a command: options with their values, and what is given beside them.
+-- The words after a command: options with their values, and what is given besides them.
 use Rattle.std.specs.Prelude.{ℕ, ◌≡◌, ◌==◌, ◌||◌, Bool, true, false, List, [], ◌∷◌, Option, Some, None, codes, if◌then◌else◌, length, slice_get, unwrap_or}
 use Rattle.std.specs.Str.{bytes_eq}
 use Rattle.std.specs.Str.Parse.{IsNumeral, digits_value, without_leading_plus}
 
--- there are no options behind the word
+-- the word is `--`: there are no options after it
 abbrev pub ends_options : List ℕ → Bool
 ends_options word = bytes_eq word (codes "--")
 
@@ -14,16 +14,16 @@ has_value word =
     || (bytes_eq word (codes "--output-limit") || (bytes_eq word (codes "--record") || (bytes_eq word (codes "--format")
     || (bytes_eq word (codes "--for") || bytes_eq word (codes "--states")))))))
 
--- The word is an option: it begins with `-`, which alone is a file.
+-- The word is an option: it begins with `-`. A `-` alone is a file.
 abbrev pub is_option : List ℕ → Bool
 is_option [] = false
 is_option (c ∷ []) = false
 is_option (c ∷ d ∷ cs) = c == 45
 
--- ---- what is given beside options
+-- ---- what is given besides options
 
--- What is given to a command by the words behind it: all but options and their values; behind `--`, all. Of the first
--- it is said whether it is the value of the option before it.
+-- What is given to a command by the words after it: all but options and their values, and everything after `--`. If
+-- `is_value`, the first word is the value of the option before it.
 abbrev pub given_in : Bool → List (List ℕ) → List (List ℕ)
 given_in is_value [] = []
 given_in true (word ∷ words) = given_in false words
@@ -35,13 +35,14 @@ given_in false (word ∷ words) =
 
 -- ---- one option
 
--- what is behind a text in a word that begins with it
-abbrev pub behind : List ℕ → List ℕ → Option (List ℕ)
-behind [] word = Some word
-behind (c ∷ cs) [] = None
-behind (c ∷ cs) (d ∷ ds) = if c == d then behind cs ds else None
+-- the rest of a word after a text, if the word begins with the text
+abbrev pub after : List ℕ → List ℕ → Option (List ℕ)
+after [] word = Some word
+after (c ∷ cs) [] = None
+after (c ∷ cs) (d ∷ ds) = if c == d then after cs ds else None
 
--- a word with this behind an option's name uses it: nothing, or `=` and a value; anything behind a short option
+-- A word with this rest after an option's name uses the option: the rest is empty, or `=` and a value. If the option
+-- is short, the rest may be anything.
 abbrev pub ends_use : Bool → Option (List ℕ) → Bool
 ends_use is_short None = false
 ends_use is_short (Some []) = true
@@ -49,10 +50,10 @@ ends_use is_short (Some (c ∷ cs)) = is_short || c == 61
 
 -- the word uses the option
 abbrev pub uses : List ℕ → List ℕ → Bool
-uses option word = ends_use (length option == 2) (behind option word)
+uses option word = ends_use (length option == 2) (after option word)
 
--- The words from the first that uses the option on; none if it isn't used. A value of another option doesn't use it,
--- nor does a word behind `--`. Of the first word it is said whether it is such a value.
+-- The words from the first one that uses the option on; none if it isn't used. The value of another option doesn't
+-- use the option, nor does a word after `--`. If `is_value`, the first word is the value of the option before it.
 abbrev pub words_from : List ℕ → Bool → List (List ℕ) → List (List ℕ)
 words_from option is_value [] = []
 words_from option true (word ∷ words) = words_from option false words
@@ -69,7 +70,8 @@ is_any (word ∷ words) = true
 abbrev pub has_option : List ℕ → List (List ℕ) → Bool
 has_option option words = is_any (words_from option false words)
 
--- the value that a word with this behind the option's name gives: what is behind `=`, or else the next word
+-- the value of an option, by the rest of the word after the option's name: what follows `=`, or the next word if the
+-- rest is empty
 abbrev pub value_by : List (List ℕ) → Option (List ℕ) → Option (List ℕ)
 value_by words None = None
 value_by words (Some []) = slice_get words 0
@@ -77,13 +79,13 @@ value_by words (Some (c ∷ cs)) = if c == 61 then Some cs else None
 
 abbrev pub value_at : List ℕ → List (List ℕ) → Option (List ℕ)
 value_at option [] = None
-value_at option (word ∷ words) = value_by words (behind option word)
+value_at option (word ∷ words) = value_by words (after option word)
 
 -- the value of the option, if it is used
 abbrev pub value_of : List ℕ → List (List ℕ) → Option (List ℕ)
 value_of option words = value_at option (words_from option false words)
 
--- the value of the option, or this one if it isn't used
+-- the value of the option, or else `default`
 abbrev pub value_or : List ℕ → List ℕ → List (List ℕ) → List ℕ
 value_or option default words = unwrap_or (value_of option words) default
 

@@ -54,7 +54,7 @@ fn words_from<'a, S: AsStr>(words: &'a [S], option: &str) -> &'a [S]
 /// The value of the option that a word uses.
 fn value_at<'a, S: AsStr>(word: &'a str, words: &'a [S], option: &str) -> Option<&'a str>
     ensures { option_map (λ value. value.now) result
-        ≡ spec.value_by (map S.text words.entry.now) (spec.behind option.now word.entry.now) }
+        ≡ spec.value_by (map S.text words.entry.now) (spec.after option.now word.entry.now) }
 {
     match word.strip_prefix(option) {
         Some(behind) => value_by(behind, words),
