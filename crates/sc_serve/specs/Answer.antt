@@ -53,32 +53,32 @@ is_unfinished status.Busy = true
 is_unfinished status.Waiting = true
 is_unfinished status.Free = false
 
--- what the program ends with where the handlers stand so
+-- the program's exit if the handlers have these statuses
 abbrev pub exit_of : List Status → Exit
 exit_of hows = if list_any has_failed hows then Failed else if list_any is_unfinished hows then Unfinished else Done
 
--- Where the text isn't refused: `ok`, or its canonical text.
+-- The text isn't refused, and the output is `ok`, or for `print` the canonical text.
 abbrev pub IsAnswerTo : Command → List ℕ → List ℕ → Exit → Type 0
 IsAnswerTo (command.Check options) text output exit =
     IsAccepted text (root_of options.root) × (output ≡ codes "ok\n") × (exit ≡ Done)
 IsAnswerTo command.Print text output exit = IsPrinted text output × (exit ≡ Done)
 
--- What keeps a source text from an answer is true of it.
+-- The rejection `why`, for which the command is refused on this text, is true of the text.
 abbrev pub IsRejectedFor : Command → List ℕ → Rejection → Type 0
 IsRejectedFor (command.Check options) text why = IsRefusedFor text (root_of options.root) why
 IsRejectedFor command.Print text why = IsUnreadable text why
 
--- the line that tells the rejection, with its place in the files, if it is a refusal
+-- the line that reports the rejection, with its place in the files, if it is a refusal
 abbrev pub line_of : List File → Rejection → Option (List ℕ)
 line_of source rejection.CodeTooLong = Some too_long_line
 line_of source why = option_map (λ t. refusal_line t.code t.name (place_at source t.span)) (told why)
 
--- Where the text is refused: the line that tells the rejection.
+-- The answer is a refusal: the line that reports the rejection, and the exit `Refused`.
 pub record IsRefusalOf (source : List File) (why : Rejection) (output : List ℕ) (exit : Exit) : Type 0 where
   pub line : line_of source why ≡ Some output
   pub status : exit ≡ Refused
 
--- What is answered on the source text of these files: what was asked for, or the refusal of what is at fault in it.
+-- The answer to a command on the source text of these files: what was asked for, or the refusal of the text.
 abbrev pub IsAnswerOf : Command → List File → List ℕ → Exit → Type 0
 IsAnswerOf command source output exit =
     IsAnswerTo command (joined source) output exit
@@ -87,17 +87,19 @@ IsAnswerOf command source output exit =
 abbrev pub too_long : Rejection
 too_long = rejection.Text lexing.SourceTooLong
 
--- The source text of files of these names, which hold this: their texts, where it is known what each of them holds.
+-- `source` has the files of these names. If `held` says what each of the files holds, they are sound and these are
+-- their texts.
 pub record IsSourceOf (names : List (List ℕ)) (held : List (Option (List ℕ))) (source : List File) : Type 0 where
   pub named : names_of source ≡ names
   pub texts : (files : List (List ℕ)) → AreTold held files → AreJoined files source
 
--- It is told that their source text is too long, and it is, where it is known what each of them holds.
+-- The answer is that the source text of the files is too long, which is true if `held` says what each of them holds.
 pub record TellsTooLong (held : List (Option (List ℕ))) (output : List ℕ) (exit : Exit) : Type 0 where
   pub long : (files : List (List ℕ)) → AreTold held files → max_source_bytes < length (source_text files)
   pub refused : IsRefusalOf [] too_long output exit
 
--- What is answered on files of these names, which are read in order and hold this: their source text may be too long.
+-- The answer to a command on files of these names, which hold `held`: an answer on their source text, or the refusal
+-- of a source text that is too long.
 abbrev pub IsAnswerOn : Command → List (List ℕ) → List (Option (List ℕ)) → List ℕ → Exit → Type 0
 IsAnswerOn command names held output exit =
     ((source : List File) × IsSourceOf names held source × IsAnswerOf command source output exit)
@@ -105,7 +107,7 @@ IsAnswerOn command names held output exit =
 
 -- ---- no answer
 
--- A reader failed, for good.
+-- A reader failed for good.
 abbrev pub IsReaderFailure : FileFault → Type 0
 IsReaderFailure (of_file.Unreadable error) = IsForGood (error_kind error)
 IsReaderFailure (of_file.NotUtf8 offset) = ⊥
@@ -122,8 +124,8 @@ IsOfFile (of_file.NotUtf8 offset) = Unit {0}
 IsOfFile of_file.TooLong = ⊥
 IsOfFile of_file.OutOfMemory = ⊥
 
--- The file of this number among those of these names is told with what is wrong with it; or memory ran out, perhaps as
--- it was to be told that the files are too long.
+-- The fault reports the name of the file that is at fault, and what is wrong with it; or memory ran out, perhaps
+-- when the answer was to be that the files are too long.
 abbrev pub IsUnread : List (List ℕ) → JoinFault → Fault → Type 0
 IsUnread names why (fault.CannotRead name reading) =
     (reading ≡ why.fault) × IsOfFile reading × (name.now ≡ get_or names why.file [])
@@ -137,8 +139,8 @@ IsUnread names why fault.NoThread = ⊥
 IsUnread names why fault.LogsDiffer = ⊥
 IsUnread names why fault.NotText = ⊥
 
--- This keeps files of these names, which hold this, from being read: one of them is told with what is wrong with it. If
--- its reader failed, it did so for good, and what is told is true where it is known what each of them holds.
+-- The file `name`, one of the files of these names, can't be read, and `reading` is what is wrong with it. If its
+-- reader failed, it failed for good. If `held` says what each of the files holds, `reading` is true of the file.
 pub record IsFileAtFault (names : List (List ℕ)) (held : List (Option (List ℕ))) (name : List ℕ) (reading : FileFault)
     : Type 0 where
   pub why : JoinFault
@@ -149,7 +151,7 @@ pub record IsFileAtFault (names : List (List ℕ)) (held : List (Option (List �
   pub for_good : FailsForGood reading
   pub true_of_it : (files : List (List ℕ)) → AreTold held files → IsJoinFault files why
 
--- Why nothing is answered on files of these names, which hold this: one of them can't be read, or memory ran out.
+-- Why there is no answer on files of these names, which hold `held`: one of them can't be read, or memory ran out.
 abbrev pub IsUnansweredOn : List (List ℕ) → List (Option (List ℕ)) → Fault → Type 0
 IsUnansweredOn names held (fault.CannotRead name reading) = IsFileAtFault names held name.now reading
 IsUnansweredOn names held fault.OutOfMemory = Unit {0}
@@ -164,45 +166,47 @@ IsUnansweredOn names held fault.NotText = ⊥
 
 -- ---- run
 
--- the name of the file and the lines of a record that is to be written
+-- the name of the file and the lines of the record that is to be written, if there is one
 abbrev pub kept_of : Option Recording → Option (List ℕ × List RecordLine)
 kept_of recording = option_map (λ (r : Recording). (r.name.now, r.lines.items)) recording
 
--- the same, of what was asked for: of the file of this name, if one was named, and of these lines
+-- the name of the file that was asked for, if there is one, and the lines of the record
 abbrev pub asked_of : Option (List ℕ) → List RecordLine → Option (List ℕ × List RecordLine)
 asked_of name lines = option_map (λ n. (n, lines)) name
 
--- the line of an audit that doesn't say yes
+-- the line that reports what an audit found at fault
 abbrev pub audit_line : AuditFault → List ℕ
 audit_line (auditing.BadRecord line) = codes "audit A1 BadRecord " ++ (decimal line ++ (line_feed ∷ []))
 audit_line (auditing.Differs handler) = codes "audit A2 Differs " ++ (decimal handler ++ (line_feed ∷ []))
 audit_line auditing.OutOfMemory = []
 
--- The audit of what a run left says yes; or what is at fault, which is true, and then the status says so too.
+-- The output is the report and the audit of what the run left: `audit yes`; or what is at fault, which is true, and
+-- then the exit is `Broken`.
 abbrev pub IsAuditedAs : Image → Left → List ℕ → List Status → List ℕ → Exit → Type 0
 IsAuditedAs program left report hows output exit =
     (IsAudited program left × (output ≡ report ++ codes "audit yes\n") × (exit ≡ exit_of hows))
     ⊎ ((fault : AuditFault) × TellsWhy program left fault × (output ≡ report ++ audit_line fault) × (exit ≡ Broken))
 
--- What is told of what a run left: the report alone, with the status that goes with how the handlers stand; or an audit
--- too.
+-- The output on what a run left: the report alone, with the exit for the statuses of the handlers; or the report and
+-- an audit, if one is asked for.
 abbrev pub IsJudged : Image → Bool → Left → List ℕ → List Status → List ℕ → Exit → Type 0
 IsJudged program false left report hows output exit = (output ≡ report) × (exit ≡ exit_of hows)
 IsJudged program true left report hows output exit = IsAuditedAs program left report hows output exit
 
--- where a run is to end in any case
+-- the bounds at which a run ends in any case
 abbrev pub bounds_of : RunOptions → Bounds
 bounds_of options = record { turns = options.turns; output = options.output_limit }
 
--- The same of a run that ends behind so many turns at most, and whose record has these lines. These turns are those
--- that are asked for; or fewer, where the handlers have printed more than an output limit that is asked for.
+-- The output on what is left by a run that ends after at most `turns` turns, and whose record has these lines.
+-- `turns` is the number that is asked for; or less, if the handlers have printed more than the output limit that is
+-- asked for.
 abbrev pub IsTold : Image → Bounds → ℕ → Bool → List RecordLine → List ℕ → List Status → List ℕ → Exit → Type 0
 IsTold program bounds turns is_audited lines report hows output exit =
     (left : Left) × IsBoundedRun program bounds turns left × (left.lines.items ≡ lines)
     × IsJudged program is_audited left report hows output exit
 
--- The answer to a run of the program: the report, the audit of it where one is asked for, the status that goes with
--- that, and the lines of the record for the file, where one was named.
+-- The answer to a run of the program: the report, the audit if one is asked for, the exit that goes with them, and
+-- the lines of the record if a file is named for it.
 pub record IsRanOf (program : Image) (options : RunOptions) (output : List ℕ) (exit : Exit)
     (recording : Option Recording) : Type 0 where
   pub turns : ℕ
@@ -213,7 +217,7 @@ pub record IsRanOf (program : Image) (options : RunOptions) (output : List ℕ) 
   pub told : IsTold program (bounds_of options) turns options.is_audited lines report hows output exit
   pub kept : kept_of recording ≡ asked_of (option_map (λ n. n.now) options.record) lines
 
--- The same, of the text's program.
+-- The answer to a run of the program of this text, with the parts that `IsRanOf` has.
 pub record IsRanFrom (options : RunOptions) (text output : List ℕ) (exit : Exit) (recording : Option Recording)
     : Type 0 where
   pub turns : ℕ
@@ -224,7 +228,8 @@ pub record IsRanFrom (options : RunOptions) (text output : List ℕ) (exit : Exi
   pub told : IsTold is_run.program (bounds_of options) turns options.is_audited lines report hows output exit
   pub kept : kept_of recording ≡ asked_of (option_map (λ n. n.now) options.record) lines
 
--- Where the text is refused nothing is to be written.
+-- The text isn't run. The answer is the refusal for the rejection `why`, which is true of the text, and no record is
+-- to be written.
 pub record IsNotRan (options : RunOptions) (source : List File) (output : List ℕ) (exit : Exit)
     (recording : Option Recording) : Type 0 where
   pub why : Rejection
@@ -232,12 +237,13 @@ pub record IsNotRan (options : RunOptions) (source : List File) (output : List �
   pub refused : IsRefusalOf source why output exit
   pub unkept : recording ≡ None
 
--- What is answered to a run on the source text of these files: its program is run, or something is at fault in it.
+-- The answer to a run on the source text of these files: its program is run, or the text is refused.
 abbrev pub IsRunOfSource : RunOptions → List File → List ℕ → Exit → Option Recording → Type 0
 IsRunOfSource options source output exit recording =
     IsRanFrom options (joined source) output exit recording ⊎ IsNotRan options source output exit recording
 
--- What is answered to a run of files of these names, which hold this.
+-- The answer to a run of files of these names, which hold `held`: an answer on their source text, or the refusal of
+-- a source text that is too long.
 abbrev pub IsRunOn : RunOptions → List (List ℕ) → List (Option (List ℕ)) → List ℕ → Exit → Option Recording → Type 0
 IsRunOn options names held output exit recording =
     ((source : List File) × IsSourceOf names held source × IsRunOfSource options source output exit recording)
@@ -256,7 +262,7 @@ IsUnrun (fault.CannotRecord name error remains) = ⊥
 IsUnrun (fault.NoRecord name) = ⊥
 IsUnrun fault.NotText = ⊥
 
--- Why files of these names, which hold this, aren't run.
+-- Why files of these names, which hold `held`, aren't run.
 abbrev pub IsUnrunOn : List (List ℕ) → List (Option (List ℕ)) → Fault → Type 0
 IsUnrunOn names held f = IsUnansweredOn names held f ⊎ IsUnrun f
 
@@ -265,29 +271,29 @@ IsUnrunOn names held f = IsUnansweredOn names held f ⊎ IsUnrun f
 abbrev pub bad_record : List ℕ
 bad_record = codes "refused A1 BadRecord" ++ (line_feed ∷ [])
 
--- Nothing is read of a record since it is none.
+-- A record can't be read since the file holds none.
 abbrev pub IsBadRecord : ReadFault → Type 0
 IsBadRecord (reading.BadRecord line) = Unit {0}
 IsBadRecord (reading.Unreadable error) = ⊥
 IsBadRecord reading.OutOfMemory = ⊥
 
--- the answer that a file holds no record
+-- The answer is that a file holds no record.
 pub record TellsBadRecord (output : List ℕ) (exit : Exit) : Type 0 where
   pub line : output ≡ bad_record
   pub status : exit ≡ Refused
 
--- It is told that the file holds no record, and what it holds is none, as far as that is known.
+-- The answer is that the file holds no record. If `held` says what it holds, that is true.
 abbrev pub IsNoRecord : Option (List ℕ) → List ℕ → Exit → Type 0
 IsNoRecord held output exit = IfSome held (λ bytes. ¬ IsRecordText bytes) × TellsBadRecord output exit
 
--- The program is played by the lines of a record: the report of the replay, and the status that goes with how the
--- handlers stand.
+-- The lines of a record are played with the program. The output is the report of the replay, and the exit is that
+-- for the statuses of the handlers.
 abbrev pub IsReplayed : Image → Version → List RecordLine → List ℕ → Exit → Type 0
 IsReplayed program version lines output exit =
     (hows : List Status) × IsReplay program version lines output hows × (exit ≡ exit_of hows)
 
--- The program is played by the lines of a record, which is what the file holds, as far as that is known: the report of
--- the replay, and the status that goes with how the handlers stand.
+-- A record is played with the program. If `held` says what the file holds, that is the text of this record. The
+-- output is the report of the replay, and the exit is that for the statuses of the handlers.
 pub record IsPlayed (program : Image) (held : Option (List ℕ)) (output : List ℕ) (exit : Exit) : Type 0 where
   pub version : Version
   pub lines : List RecordLine
@@ -297,26 +303,27 @@ pub record IsPlayed (program : Image) (held : Option (List ℕ)) (output : List 
   pub replay : IsReplay program version lines output hows
   pub status : exit ≡ exit_of hows
 
--- What is answered where the record that a file holds is played with the program.
+-- The answer to a replay, with the program, of the record in a file that holds `held`: that the file holds no
+-- record, or the report of the replay.
 abbrev pub IsReplayTo : Image → Option (List ℕ) → List ℕ → Exit → Type 0
 IsReplayTo program held output exit = IsNoRecord held output exit ⊎ IsPlayed program held output exit
 
--- What is answered on the source text of these files, which is run from this root: a record is played with its program,
--- or something is at fault in it.
+-- The answer to a replay on the source text of these files, with this root: what `IsReplayTo` says of the program of
+-- the text and the file of the record, or the refusal of the text.
 abbrev pub IsReplayOf : Root → Option (List ℕ) → List File → List ℕ → Exit → Type 0
 IsReplayOf root held source output exit =
     ((program : Image) × IsLoaded (joined source) root program × IsReplayTo program held output exit)
     ⊎ ((why : Rejection) × IsNotRunFor (joined source) root why × IsRefusalOf source why output exit)
 
--- What is answered on files of these names, which hold this, where the file of the record holds that, as far as it is
--- known.
+-- The answer to a replay on files of these names, which hold `held`, of the record in a file that holds `recorded`:
+-- an answer on their source text, or the refusal of a source text that is too long.
 abbrev pub IsReplayOn : Root → Option (List ℕ) → List (List ℕ) → List (Option (List ℕ)) → List ℕ → Exit → Type 0
 IsReplayOn root recorded names held output exit =
     ((source : List File) × IsSourceOf names held source × IsReplayOf root recorded source output exit)
     ⊎ TellsTooLong held output exit
 
--- Why the file of this name holds nothing that is played: its reader failed, with the error that is told; or memory ran
--- out, perhaps as it was to be told that it holds no record.
+-- The fault reports why no record in the file of this name is played: its reader failed with this error; or memory
+-- ran out, perhaps when the answer was to be that the file holds no record.
 abbrev pub IsRecordUnread : List ℕ → ReadFault → Fault → Type 0
 IsRecordUnread name why (fault.CannotRead named (of_file.Unreadable error)) =
     (named.now ≡ name) × (why ≡ reading.Unreadable error)
@@ -333,7 +340,7 @@ IsRecordUnread name why fault.NoThread = ⊥
 IsRecordUnread name why fault.LogsDiffer = ⊥
 IsRecordUnread name why fault.NotText = ⊥
 
--- Why the record of the file of this name isn't played: it can't be read, or memory ran out.
+-- Why the record in the file of this name isn't played: the file can't be read, or memory ran out.
 abbrev pub IsUnplayedRecord : List ℕ → Fault → Type 0
 IsUnplayedRecord name (fault.CannotRead named reading) = (named.now ≡ name) × IsReaderFailure reading
 IsUnplayedRecord name fault.OutOfMemory = Unit {0}
@@ -346,6 +353,7 @@ IsUnplayedRecord name fault.NoThread = ⊥
 IsUnplayedRecord name fault.LogsDiffer = ⊥
 IsUnplayedRecord name fault.NotText = ⊥
 
--- Why no record of this name is played: it can't be read, or nothing is answered on the files.
+-- Why no record in the file of the name `record_name` is played: that file can't be read, memory ran out, or there
+-- is no answer on the files of `names`.
 abbrev pub IsUnplayed : List ℕ → List (List ℕ) → List (Option (List ℕ)) → Fault → Type 0
 IsUnplayed record_name names held f = IsUnansweredOn names held f ⊎ IsUnplayedRecord record_name f

@@ -18,8 +18,8 @@ abbrev pub is_heading : Version → List ℕ → Bool
 is_heading One text = bytes_eq text (codes "scoop record 1") || bytes_eq text (codes "scoop record 1\n")
 is_heading Two text = bytes_eq text (codes "scoop record 2") || bytes_eq text (codes "scoop record 2\n")
 
--- A file that begins with these bytes, as many as a heading has or all of its own, is empty, or a record by its first
--- line.
+-- A file with this beginning is empty, or a record by its first line. The beginning is as long as a heading, or is
+-- the whole file if that is shorter.
 abbrev pub begins_replaceable : List ℕ → Bool
 begins_replaceable beginning = bytes_eq beginning [] || (is_heading One beginning || is_heading Two beginning)
 
@@ -35,12 +35,12 @@ recorded_to (invocation.Replay options names) = None
 recorded_to (invocation.Search options names) = option_map (λ n. n.now) options.record
 recorded_to (invocation.Explain word) = None
 
--- What the record of this name would replace may be replaced, where it is known.
+-- If a record is named and the bytes that it would replace are known, they may be replaced.
 abbrev pub MayBeWritten : (List ℕ → Option (List ℕ)) → Option (List ℕ) → Type 0
 MayBeWritten replaced_by name = IfSome name (λ n. IfSome (replaced_by n) (λ bytes. may_be_replaced bytes ≡ true))
 
--- Why no record can be written to the file of this name: it is there and is none, or one of the files that are read;
--- what it holds can't be read; it can't be written; or memory ran out.
+-- Why no record can be written to the file of this name: the file exists and is no record, or is one of the files
+-- that are read; what it holds can't be read; it can't be written; or memory ran out.
 abbrev pub IsUnwritable : Option (List ℕ) → Fault → Type 0
 IsUnwritable name (fault.NoRecord told) = name ≡ Some told.now
 IsUnwritable name (fault.CannotRead told reading) = name ≡ Some told.now

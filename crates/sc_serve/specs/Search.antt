@@ -33,7 +33,7 @@ aim_of sought.Stuck = aim.Stuck
 aim_of sought.Fails = aim.Fails
 aim_of sought.Any = aim.Any
 
--- what the program ends with where this was found
+-- the program's exit for this finding
 abbrev pub exit_for : Finding → Exit
 exit_for finding.Nothing = Done
 exit_for (finding.Stuck order) = Unfinished
@@ -42,14 +42,14 @@ exit_for finding.Undecided = Undecided
 
 -- ---- the lines of a verdict
 
--- some order goes on for ever, as far as that is known
+-- it is known that some order goes on for ever
 abbrev pub is_endless : Length → Bool
 is_endless (span.AtMost turns) = false
 is_endless span.Endless = true
 is_endless span.Unknown = false
 
--- That no order at all does what was looked for. A handler that waits for good while another one goes on for ever isn't
--- looked for, which is said if some order goes on for ever.
+-- The line that says that no order does what was looked for. If stuck orders were looked for and some order goes on
+-- for ever, it adds that a handler that waits for good while another goes on for ever was not looked for.
 abbrev pub none_line : Sought → Bool → List ℕ
 none_line sought.Fails is_endless = codes "none fails (proved)\n"
 none_line sought.Stuck false = codes "none stuck (proved)\n"
@@ -59,15 +59,15 @@ none_line sought.Any false = codes "none stuck, none fails (proved)\n"
 none_line sought.Any true =
     codes "none stuck, none fails (proved): handlers that wait beside one that goes on were not looked for\n"
 
--- how many turns lines are, as far as 64 bits tell
+-- the number of turns of these lines, or the largest number of 64 bits if that is smaller
 abbrev pub told_turns : List RecordLine → ℕ
 told_turns lines = min (turns_of lines) (2 ^ 64 - 1)
 
--- what an order leads to, and how many turns it has
+-- the line that says what an order leads to, and after how many turns
 abbrev pub found_line : List ℕ → Order → List ℕ
 found_line what order = what ++ (codes " after " ++ (decimal (told_turns order.lines.items) ++ codes " turns\n"))
 
--- that none was found: there is none where every order was played
+-- the line for the finding `Nothing`: if every order was played, it says that there is none
 abbrev pub nothing_line : Sought → Bool → Length → List ℕ
 nothing_line what true length = none_line what (is_endless length)
 nothing_line what false length = codes "none found\n"
@@ -78,13 +78,13 @@ finding_line what is_whole length (finding.Stuck order) = found_line (codes "stu
 finding_line what is_whole length (finding.Fails order) = found_line (codes "fails") order
 finding_line what is_whole length finding.Undecided = codes "undecided\n"
 
--- whether orders end, as far as that is known
+-- the line that says whether orders end; nothing if that isn't known
 abbrev pub length_line : Length → List ℕ
 length_line (span.AtMost turns) = codes "orders end after " ++ (decimal turns ++ codes " turns at most\n")
 length_line span.Endless = codes "some order goes on for ever\n"
 length_line span.Unknown = []
 
--- how many outcomes there are: as many were met, where nothing was found
+-- how many outcomes were met, if the finding is `Nothing`
 abbrev pub outcomes_line : Finding → ℕ → List ℕ
 outcomes_line finding.Nothing count = codes "outcomes " ++ (decimal count ++ codes "\n")
 outcomes_line (finding.Stuck order) count = []
@@ -101,23 +101,23 @@ verdict_lines what verdict =
     ++ (length_line verdict.length
     ++ (outcomes_line verdict.finding (length verdict.ends.items) ++ states_line verdict.states))
 
--- The lines of the verdict, and behind them the outcomes where they are to be listed.
+-- The output is the lines of the verdict, and after them the outcomes if they are to be listed.
 abbrev pub IsTold : Sought → Bool → Verdict → List ℕ → Type 0
 IsTold what false verdict output = output ≡ verdict_lines what verdict
 IsTold what true verdict output = (outcomes : List ℕ) × (output ≡ verdict_lines what verdict ++ outcomes)
 
 -- ---- the answer
 
--- the record that is to be written: the order that was found, where a file of this name was named for it
+-- the record that is to be written: the order that was found, if there is one and a file is named for the record
 abbrev pub found_for : Option (List ℕ) → Finding → Option (List ℕ × List RecordLine)
 found_for name (finding.Stuck order) = asked_of name order.lines.items
 found_for name (finding.Fails order) = asked_of name order.lines.items
 found_for name finding.Nothing = None
 found_for name finding.Undecided = None
 
--- The answer to a search of the program: a verdict on its orders of turns, of which the order that was found leads to
--- what is said, and there is none where it is whole; the status that goes with it; and the order that was found for the
--- file of the record, where one was named.
+-- The answer to a search of the program: a verdict on its orders of turns, and the exit for its finding. An order
+-- that was found leads to what the verdict says. If every order was played, nothing was found and there is nothing
+-- to find. The order that was found is to be written as a record if a file is named for it.
 pub record IsSearchOf (program : Image) (options : SearchOptions) (output : List ℕ) (exit : Exit)
     (recording : Option Recording) : Type 0 where
   pub verdict : Verdict
@@ -127,14 +127,15 @@ pub record IsSearchOf (program : Image) (options : SearchOptions) (output : List
   pub status : exit ≡ exit_for verdict.finding
   pub kept : kept_of recording ≡ found_for (option_map (λ n. n.now) options.record) verdict.finding
 
--- The same, of the text's program.
+-- The answer to a search of the program of this text.
 pub record IsSearchFrom (options : SearchOptions) (text output : List ℕ) (exit : Exit) (recording : Option Recording)
     : Type 0 where
   pub program : Image
   pub loaded : IsLoaded text (root_of options.root) program
   pub searched : IsSearchOf program options output exit recording
 
--- Where the text is refused nothing is to be written.
+-- The text isn't searched. The answer is the refusal for the rejection `why`, which is true of the text, and no
+-- record is to be written.
 pub record IsNotSearched (root : Root) (source : List File) (output : List ℕ) (exit : Exit)
     (recording : Option Recording) : Type 0 where
   pub why : Rejection
@@ -142,13 +143,14 @@ pub record IsNotSearched (root : Root) (source : List File) (output : List ℕ) 
   pub refused : IsRefusalOf source why output exit
   pub unkept : recording ≡ None
 
--- What is answered to a search on the source text of these files: its program is searched, or something is at fault in it.
+-- The answer to a search on the source text of these files: its program is searched, or the text is refused.
 abbrev pub IsSearchOfSource : SearchOptions → List File → List ℕ → Exit → Option Recording → Type 0
 IsSearchOfSource options source output exit recording =
     IsSearchFrom options (joined source) output exit recording
     ⊎ IsNotSearched (root_of options.root) source output exit recording
 
--- What is answered to a search of files of these names, which hold this.
+-- The answer to a search of files of these names, which hold `held`: an answer on their source text, or the refusal
+-- of a source text that is too long.
 abbrev pub IsSearchOn :
     SearchOptions → List (List ℕ) → List (Option (List ℕ)) → List ℕ → Exit → Option Recording → Type 0
 IsSearchOn options names held output exit recording =

@@ -38,7 +38,8 @@ pub fn check_target<'a, F: Files>(
     }
 }
 
-/// The same of the record of this name, if there is one, where files of these names are read.
+/// Checks that the record of the name `asked`, if there is one, can be written. It may replace only an empty file or
+/// another record, and none of the files of `names`, which are read.
 fn check_record<'a, F: Files>(
     alloc: Global,
     files: &F,
