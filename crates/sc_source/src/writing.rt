@@ -99,7 +99,7 @@ impl<'r, R: Files + AllocGlobal> SystemWriter<'r, R> {
         }
     }
 
-    /// The same, of a file that is there: links stay, and so do its permissions.
+    /// A writer of the file of this name, which exists. Links to the file stay, and the file keeps its permissions.
     #[inline(never)]
     fn over(rt: &'r R, name: &str, metadata: Metadata) -> io::Result<Self> {
         OpenOptions::new().write(true).open(rt, name)?;
@@ -110,7 +110,7 @@ impl<'r, R: Files + AllocGlobal> SystemWriter<'r, R> {
         Self::beside(rt, path, Some(metadata.permissions()))
     }
 
-    /// The same, by a new file beside that of the name.
+    /// A writer of the file of this name by a new file beside it, which gets these permissions if there are any.
     fn beside(rt: &'r R, name: &str, permissions: Option<Permissions>) -> io::Result<Self> {
         let mut new = String::from_str(rt.alloc(), name)?;
         new.reserve(ENDING)?;
