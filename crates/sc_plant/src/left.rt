@@ -39,7 +39,8 @@ pub enum RunFault<'p> {
     OutOfMemory(Option<Left<'p>>),
     /// U2: a thread was refused.
     ThreadRefused,
-    /// U3: the region of this handler played other jobs, or turns, than were settled of it. The workers never cause this.
+    /// U3: the region of this handler played other jobs, or turns, than were settled of it. Workers settle what they play,
+    /// so this isn't expected, but no proof excludes it.
     LogsDiffer(HandlerNumber, LoggedLeft<'p>),
 }
 

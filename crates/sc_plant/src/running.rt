@@ -40,8 +40,8 @@ const TURNS_BETWEEN_OUTPUTS: u32 = 4_096;
 ///
 /// # Errors
 /// U1 if memory is refused, with what is left then, unless the run hadn't begun; U2 if a thread is refused;
-/// and U3 if a region played other jobs than were settled, which the workers never cause. With one worker it is
-/// always U1. All threads have ended then, too.
+/// and U3 if a region played other jobs than were settled, which isn't expected: workers settle what they play. With
+/// one worker it is always U1. All threads have ended then, too.
 pub fn run<'p, R: Threads + Wait + Sync, G: Gate>(
     rt: &R,
     alloc: Global,
