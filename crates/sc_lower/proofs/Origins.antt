@@ -7,47 +7,54 @@ use Rattle.std.proofs.lemmas.List.{at_drop_more}
 use Rattle.std.proofs.lemmas.Option.{slice_get_past}
 use Rattle.sc_tree.specs.Plain as tree
 use Rattle.sc_tree.specs.Plain.{System, Class, FeatureKind, RoutineDeclaration}
-use Rattle.sc_class.specs.Names.{is_listed}
+use Rattle.sc_class.specs.declared.identity.ClassId.TheVariants as class
+use Rattle.sc_class.specs.ClassNames.{Root}
+use Rattle.sc_class.specs.Faults.ClassRules.{IsFaultless}
 use Rattle.sc_class.specs.Tables.Ancestors.{ancestors, ancestors_within, parent_of}
-use Rattle.sc_class.specs.Tables.Features.{DeclaredFeature, declared_features, declared_in, redefined_by, redefined_names, named_among}
+use Rattle.sc_class.specs.Tables.ByClass.{ancestors_of}
+use Rattle.sc_class.specs.Tables.Features.{DeclaredFeature, declared_features, declared_in, named_among}
+use Rattle.sc_class.specs.Tables.Heirs.{topmost_along}
 use Rattle.sc_model.specs.Routines as model
-use Rattle.sc_model.specs.Routines.{origin_along, origin_of, routine_with, routine_from, routine_of}
-use Rattle.sc_lower.specs.Origins.{original, routine_declared}
+use Rattle.sc_model.specs.Routines.{origin_of, routine_with, routine_from, routine_of}
+use Rattle.sc_code.proofs.TypingOrigins.{origin_is}
+use Rattle.sc_lower.specs.Origins.{routine_declared}
 
 -- ---- the origin
 
--- the first class decides where it declares the name anew
-origin_then : (s : System) (x : List ℕ) (k : ℕ) (ks : List ℕ) → origin_along s x (k ∷ ks) ≡ option_or (original s x k) (origin_along s x ks)
-origin_then s x k ks = by (is_listed x (redefined_names s k))
-  where
-    by : (b : Bool) → (if b then origin_along s x ks else option_or (named_among x (declared_features s k)) (origin_along s x ks))
-        ≡ option_or (if b then None else named_among x (declared_features s k)) (origin_along s x ks)
-    by true = refl
-    by false = refl
+-- one class further up the name isn't declared, so this class has the topmost declaration, if it has one
+pub topmost_here : (s : System) (x : List ℕ) (ks : List ℕ) (i : ℕ) (o : Option DeclaredFeature) → i < length ks → o ≡ named_among x (declared_features s (get_or ks i 0)) →
+    topmost_along s x (drop (i + 1) ks) ≡ None → topmost_along s x (drop i ks) ≡ o
+topmost_here s x ks i o l e none =
+    at_drop_more (topmost_along s x) ks i 0 l ∙ ap (λ p. option_or p (named_among x (declared_features s (get_or ks i 0)))) none ∙ sym e
 
-pub origin_here : (s : System) (x : List ℕ) (ks : List ℕ) (i : ℕ) (o : Option DeclaredFeature) → i < length ks → o ≡ original s x (get_or ks i 0) →
-    origin_along s x (drop i ks) ≡ option_or o (origin_along s x (drop (i + 1) ks))
-origin_here s x ks i o l e =
-    at_drop_more (origin_along s x) ks i 0 l ∙ origin_then s x (get_or ks i 0) (drop (i + 1) ks)
-    ∙ ap (λ p. option_or p (origin_along s x (drop (i + 1) ks))) (sym e)
+-- what is topmost of the upper classes is topmost of all
+pub topmost_below : (s : System) (x : List ℕ) (ks : List ℕ) (i : ℕ) (d : DeclaredFeature) → topmost_along s x (drop i ks) ≡ Some d → topmost_along s x ks ≡ Some d
+topmost_below s x ks zero d e = e
+topmost_below s x [] (suc i) d e = cc
+topmost_below s x (k ∷ ks) (suc i) d e = ap (λ o. option_or o (named_among x (declared_features s k))) (topmost_below s x ks i d e)
 
 -- what stands at no number declares nothing
-none_along : (s : System) (x : List ℕ) (n k : ℕ) → slice_get s.classes k ≡ None → origin_along s x (ancestors_within n s k) ≡ None
+none_along : (s : System) (x : List ℕ) (n k : ℕ) → slice_get s.classes k ≡ None → topmost_along s x (ancestors_within n s k) ≡ None
 none_along s x zero k e = refl
 none_along s x (suc n) k e =
-    ap (λ (o : Option Class). if is_listed x (option_map_or redefined_by o []) then origin_along s x (option_map_or (ancestors_within n s) (option_and_then (parent_of s) o) [])
-    else option_or (named_among x (option_map_or (λ (c : Class). map (declared_in k) c.features) o [])) (origin_along s x (option_map_or (ancestors_within n s) (option_and_then (parent_of s) o) []))) e
+    ap (λ (o : Option Class). option_or (topmost_along s x (option_map_or (ancestors_within n s) (option_and_then (parent_of s) o) []))
+    (named_among x (option_map_or (λ (c : Class). map (declared_in k) c.features) o []))) e
 
 past : {A : Type 0} (xs : List A) (k : ℕ) → nat_lt k (length xs) ≡ false → slice_get xs k ≡ None
 past xs k e = let l : length xs ≤ k = grind (arith, nat_tests) in slice_get_past xs k l
 
 -- the same along the ancestors that tables know of
-pub along_ancestors : (s : System) (x : List ℕ) (k : ℕ) → origin_along s x (if nat_lt k (length s.classes) then ancestors s k else []) ≡ origin_along s x (ancestors s k)
+along_ancestors : (s : System) (x : List ℕ) (k : ℕ) → topmost_along s x (if nat_lt k (length s.classes) then ancestors s k else []) ≡ topmost_along s x (ancestors s k)
 along_ancestors s x k = by (nat_lt k (length s.classes)) (past s.classes k)
   where
-    by : (b : Bool) → (b ≡ false → slice_get s.classes k ≡ None) → origin_along s x (if b then ancestors s k else []) ≡ origin_along s x (ancestors s k)
+    by : (b : Bool) → (b ≡ false → slice_get s.classes k ≡ None) → topmost_along s x (if b then ancestors s k else []) ≡ topmost_along s x (ancestors s k)
     by true m = refl
     by false m = sym (none_along s x (length s.classes) k (m refl))
+
+-- the topmost declaration among the ancestors that tables know of is the origin
+pub topmost_is_origin : (s : System) (root : Root) → IsFaultless s root → (f : DeclaredFeature) →
+    topmost_along s f.feature.name.text (ancestors_of s (class.Declared f.class)) ≡ origin_of s f
+topmost_is_origin s root w f = along_ancestors s f.feature.name.text f.class ∙ sym (origin_is s root w f)
 
 -- ---- the routine
 

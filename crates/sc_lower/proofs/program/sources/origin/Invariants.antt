@@ -1,7 +1,8 @@
-use Rattle.std.proofs.Common.{◌≡◌, drop}
+use Rattle.std.proofs.Common.{◌≡◌, ◌-◌, None, drop}
 use Rattle.sc_class.specs.SystemIn.{system_in}
-use Rattle.sc_model.specs.Routines.{origin_along}
+use Rattle.sc_class.specs.Tables.Heirs.{topmost_along}
 use Rattle.sc_lower.proofs.program.sources.origin.Given as goal
 
-abbrev pub invariant-loop-class : goal.invariant-loop-class
-invariant-loop-class l = origin_along (system_in l.tables) l.name l.classes ≡ origin_along (system_in l.tables) l.name (drop l.class-index l.classes)
+-- none of the upper classes declares it
+abbrev pub invariant-loop-done : goal.invariant-loop-done
+invariant-loop-done l = topmost_along (system_in l.tables) l.name (drop (l.count - l.done) l.classes) ≡ None
