@@ -50,6 +50,38 @@ impl Lines {
         }
     }
 
+    /// Adds a text in which this name takes the place of `~`.
+    pub fn fill_name(&mut self, template: &str, name: &str) {
+        self.fill(template, &[name])
+    }
+
+    /// Adds a text in which this number takes the place of `~`.
+    pub fn fill_number(&mut self, template: &str, number: u64) {
+        match template.split_once('~') {
+            Some((before, behind)) => {
+                self.push(before);
+                self.push_number(number);
+                self.push(behind)
+            }
+            None => self.push(template),
+        }
+    }
+
+    /// Adds a text in which these names take the places of the first `~`, of the next one, and so on. What a name
+    /// contains is no place, and a name without a place is not written.
+    pub fn fill(&mut self, template: &str, names: &[&str]) {
+        let mut rest = template;
+        for name in names {
+            let Some((before, behind)) = rest.split_once('~') else {
+                break;
+            };
+            self.push(before);
+            self.push(*name);
+            rest = behind;
+        }
+        self.push(rest)
+    }
+
     /// Adds a part of a text on one line: what separates its words is one space, and what is too long ends by two dots.
     pub fn push_flat(&mut self, part: &str) {
         let mut is_first = true;
