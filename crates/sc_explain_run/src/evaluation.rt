@@ -78,9 +78,14 @@ impl<'r> Evaluation<'r> {
         start: Start,
         goal: Goal,
     ) -> Option<Evaluation<'r>> {
-        let store = world.region(handler)?.store();
-        let top = store.top()?;
-        let current = store.current()?;
+        let Some(region) = world.region(handler) else {
+            return None;
+        };
+        let store = region.store();
+        let (Some(top), Some(current)) = (store.top(), store.current()) else {
+            return None;
+        };
+        let alloc = origin.alloc;
         let mut evaluation = Evaluation {
             world,
             program: store.program(),
@@ -94,10 +99,10 @@ impl<'r> Evaluation<'r> {
                 olds: 0,
                 result: top.result,
             },
-            callers: Vec::new(origin.alloc),
-            values: Values::of(origin.alloc, top),
-            seen: Vec::new(origin.alloc),
-            writes: Vec::new(origin.alloc),
+            callers: Vec::new(alloc),
+            values: Values::of(alloc, top),
+            seen: Vec::new(alloc),
+            writes: Vec::new(alloc),
             is_reached: false,
             is_lacking: false,
         };
@@ -190,11 +195,10 @@ impl<'r> Evaluation<'r> {
 
     /// The operation at a place of the routine that runs.
     fn operation_at(&self, place: usize) -> Option<Operation> {
-        self.program
-            .routine(self.frame.routine)?
-            .operations
-            .get(place)
-            .copied()
+        match self.program.routine(self.frame.routine) {
+            Some(routine) => routine.operations.get(place).copied(),
+            None => None,
+        }
     }
 
     /// Goes on with the routine after skipping this number of operations.
@@ -331,12 +335,19 @@ impl<'r> Evaluation<'r> {
 
 /// What a feature of this name is in the class of an object.
 pub fn version_in(program: &Program, object: Reference, name: NameNumber) -> Option<FeatureCode> {
-    let class = program.classes().get(object.class as usize)?;
-    *class.features.get(name as usize)?
+    if let Some(class) = program.classes().get(object.class as usize)
+        && let Some(version) = class.features.get(name as usize)
+    {
+        *version
+    } else {
+        None
+    }
 }
 
 /// The attribute of this number that an object has in a world.
 pub fn stored(world: &World<'_>, object: Reference, number: usize) -> Option<Value> {
-    let region = world.region(object.handler)?;
-    region.store().read(object.number, number)
+    match world.region(object.handler) {
+        Some(region) => region.store().read(object.number, number),
+        None => None,
+    }
 }

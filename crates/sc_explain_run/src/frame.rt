@@ -110,7 +110,10 @@ impl Values {
 
     /// The value of a slot of a routine.
     pub fn slot(&self, frame: &Frame, slot: usize) -> Option<Value> {
-        self.at(self.slot_place(frame, slot)?)
+        match self.slot_place(frame, slot) {
+            Some(place) => self.at(place),
+            None => None,
+        }
     }
 
     /// A value goes into a slot of a routine: whether it has that.
@@ -127,12 +130,17 @@ impl Values {
 
     /// The last operand of the routine that runs.
     pub fn last(&self, frame: &Frame) -> Option<Value> {
-        self.at(self.first_of(frame, 1)?)
+        match self.first_of(frame, 1) {
+            Some(place) => self.at(place),
+            None => None,
+        }
     }
 
     /// Takes the last operand of the routine that runs.
     pub fn pop(&mut self, frame: &Frame) -> Option<Value> {
-        let place = self.first_of(frame, 1)?;
+        let Some(place) = self.first_of(frame, 1) else {
+            return None;
+        };
         let value = self.at(place);
         self.values.truncate(place);
         value
@@ -140,11 +148,9 @@ impl Values {
 
     /// The place of the first of the last `count` operands of the routine that runs, if it has as many.
     pub fn first_of(&self, frame: &Frame, count: usize) -> Option<usize> {
-        let place = self.values.len().checked_sub(count)?;
-        if place < frame.operands {
-            None
-        } else {
-            Some(place)
+        match self.values.len().checked_sub(count) {
+            Some(place) if place >= frame.operands => Some(place),
+            _ => None,
         }
     }
 }

@@ -77,8 +77,18 @@ impl Turn {
 
 /// The turn at a place of a log in which each is settled by itself.
 pub fn turn_at(log: &Log, place: usize) -> Option<Turn> {
-    let settlement = log.get(place)?;
-    let begun = match &settlement.job {
+    match log.get(place) {
+        Some(settlement) => Some(Turn {
+            begun: begun_by(&settlement.job, place),
+            ended: ended_by(&settlement.want),
+        }),
+        None => None,
+    }
+}
+
+/// What a handler had to do by this job, at the turn at a place.
+fn begun_by(job: &Job, place: usize) -> Begun {
+    match job {
         Job::Take(request) => Begun::Takes(Served {
             asked: asked_by(request),
             is_waited: request.is_waited,
@@ -88,8 +98,12 @@ pub fn turn_at(log: &Log, place: usize) -> Option<Turn> {
         Job::Go | Job::Granted(_) => Begun::GoesOn(None),
         Job::Made(_) => Begun::HasCreated,
         Job::Failed | Job::Refused => Begun::Fails,
-    };
-    let ended = match &settlement.want {
+    }
+}
+
+/// The result of a turn that asked for this.
+fn ended_by(want: &Want) -> Ended {
+    match want {
         Want::Post(request) => asks_by(request, false),
         Want::Ask { request, .. } => asks_by(request, true),
         Want::Create { class, .. } => Ended::Creates(*class),
@@ -102,8 +116,7 @@ pub fn turn_at(log: &Log, place: usize) -> Option<Turn> {
         },
         Want::Fail(cause) => Ended::Fails(*cause),
         _ => Ended::GoesOn,
-    };
-    Some(Turn { begun, ended })
+    }
 }
 
 fn asks_by(request: &Request, is_waited: bool) -> Ended {
@@ -116,19 +129,34 @@ fn asks_by(request: &Request, is_waited: bool) -> Ended {
 
 /// The handler at a number, from 0, of those that had been newly reserved for the turn at a place.
 pub fn granted_at(log: &Log, place: usize, number: usize) -> Option<HandlerNumber> {
-    let settlement = log.get(place)?;
-    match &settlement.job {
-        Job::Granted(handlers) => handlers.as_slice().get(number).copied(),
-        _ => None,
+    if let Some(settlement) = log.get(place)
+        && let Job::Granted(handlers) = &settlement.job
+    {
+        handlers.as_slice().get(number).copied()
+    } else {
+        None
+    }
+}
+
+/// Whether a handler is one of those that had been newly reserved for the turn at a place.
+pub fn has_granted(log: &Log, place: usize, handler: HandlerNumber) -> bool {
+    if let Some(settlement) = log.get(place)
+        && let Job::Granted(handlers) = &settlement.job
+    {
+        handlers.as_slice().contains(&handler)
+    } else {
+        false
     }
 }
 
 /// The handler at a number, from 0, of those that were to be reserved by the turn at a place.
 pub fn wanted_at(log: &Log, place: usize, number: usize) -> Option<HandlerNumber> {
-    let settlement = log.get(place)?;
-    match &settlement.want {
-        Want::Reserve(handlers) => handlers.as_slice().get(number).copied(),
-        _ => None,
+    if let Some(settlement) = log.get(place)
+        && let Want::Reserve(handlers) = &settlement.want
+    {
+        handlers.as_slice().get(number).copied()
+    } else {
+        None
     }
 }
 
@@ -148,10 +176,13 @@ pub fn refused_before(log: &Log, handler: HandlerNumber, end: usize) -> Option<u
     for behind in 0..end {
         let place = end - 1 - behind;
         if log.handler_at(place) == Some(handler)
-            && let Ended::Done { is_refused: true } = turn_at(log, place)?.ended
+            && let Some(turn) = turn_at(log, place)
+            && let Ended::Done { is_refused: true } = turn.ended
         {
-            let served = served_before(log, handler, place)?;
-            return if served.is_waited { Some(place) } else { None };
+            return match served_before(log, handler, place) {
+                Some(served) if served.is_waited => Some(place),
+                _ => None,
+            };
         }
     }
     None
@@ -162,8 +193,9 @@ pub fn served_before(log: &Log, handler: HandlerNumber, end: usize) -> Option<Se
     let mut ended = 0_usize;
     for behind in 0..end {
         let place = end - 1 - behind;
-        if log.handler_at(place) == Some(handler) {
-            let turn = turn_at(log, place)?;
+        if log.handler_at(place) == Some(handler)
+            && let Some(turn) = turn_at(log, place)
+        {
             if let Ended::Done { .. } = turn.ended {
                 ended = ended.saturating_add(1);
             }
@@ -183,7 +215,8 @@ pub fn created_last(log: &Log, creator: HandlerNumber) -> Option<HandlerNumber> 
     let end = log.len();
     for behind in 0..end {
         let place = end - 1 - behind;
-        if let Begun::Takes(served) = turn_at(log, place)?.begun
+        if let Some(turn) = turn_at(log, place)
+            && let Begun::Takes(served) = turn.begun
             && served.asked.poster == Some(creator)
             && matches!(served.asked.errand, Errand::Makes(_))
         {

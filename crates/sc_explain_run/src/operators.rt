@@ -9,9 +9,10 @@ pub fn unary_value(operator: UnaryOperator, operand: Value) -> Option<Value> {
     match (operator, operand) {
         (UnaryOperator::Not, Value::Boolean(value)) => Some(Value::Boolean(!value)),
         (UnaryOperator::Plus, Value::Integer(value)) => Some(Value::Integer(value)),
-        (UnaryOperator::Minus, Value::Integer(value)) => {
-            Some(Value::Integer(arithmetic::opposite(value).ok()?))
-        }
+        (UnaryOperator::Minus, Value::Integer(value)) => match arithmetic::opposite(value) {
+            Ok(value) => Some(Value::Integer(value)),
+            Err(_) => None,
+        },
         _ => None,
     }
 }
@@ -23,7 +24,10 @@ pub fn binary_value(operator: BinaryOperator, left: Value, right: Value) -> Opti
             return of_integers(operator, left, right);
         }
         (Value::Boolean(left), Value::Boolean(right)) => {
-            return Some(Value::Boolean(connective_of(operator)?.apply(left, right)));
+            return match connective_of(operator) {
+                Some(connective) => Some(Value::Boolean(connective.apply(left, right))),
+                None => None,
+            };
         }
         (Value::Attached(left), Value::Attached(right)) => {
             left.handler == right.handler && left.number == right.number
@@ -41,8 +45,8 @@ pub fn binary_value(operator: BinaryOperator, left: Value, right: Value) -> Opti
 
 /// What the left operand of an operator decides, if it does.
 pub fn decided_by(operator: BinaryOperator, left: Value) -> Option<bool> {
-    match left {
-        Value::Boolean(value) => connective_of(operator)?.decision(value),
+    match (left, connective_of(operator)) {
+        (Value::Boolean(value), Some(connective)) => connective.decision(value),
         _ => None,
     }
 }
@@ -62,7 +66,10 @@ fn of_integers(operator: BinaryOperator, left: i64, right: i64) -> Option<Value>
         BinaryOperator::GreaterEqual => return Some(Value::Boolean(left >= right)),
         _ => return None,
     };
-    Some(Value::Integer(operator.apply(left, right).ok()?))
+    match operator.apply(left, right) {
+        Ok(value) => Some(Value::Integer(value)),
+        Err(_) => None,
+    }
 }
 
 fn connective_of(operator: BinaryOperator) -> Option<Connective> {

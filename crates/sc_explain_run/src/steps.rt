@@ -100,9 +100,13 @@ impl<'r> Evaluation<'r> {
     }
 
     fn binary(&mut self, operator: BinaryOperator) -> Option<Value> {
-        let right = self.pop()?;
-        let left = self.pop()?;
-        binary_value(operator, left, right)
+        if let Some(right) = self.pop()
+            && let Some(left) = self.pop()
+        {
+            binary_value(operator, left, right)
+        } else {
+            None
+        }
     }
 
     /// Where the left operand decides, the right one is passed.

@@ -12,8 +12,10 @@ pub fn supplier_of(world: &World<'_>, handler: HandlerNumber) -> Option<HandlerN
     let end = log.len();
     for behind in 0..end {
         let place = end - 1 - behind;
-        if log.handler_at(place) == Some(handler) {
-            match turn_at(log, place)?.ended {
+        if log.handler_at(place) == Some(handler)
+            && let Some(turn) = turn_at(log, place)
+        {
+            match turn.ended {
                 Ended::Asks { supplier, .. } => return Some(supplier),
                 Ended::Creates(_) => return created_last(log, handler),
                 Ended::Reserves { is_any: true } => return failed_at(world, place),
@@ -27,8 +29,9 @@ pub fn supplier_of(world: &World<'_>, handler: HandlerNumber) -> Option<HandlerN
 /// The first failed handler of those that are to be reserved by the turn at a place.
 fn failed_at(world: &World<'_>, place: usize) -> Option<HandlerNumber> {
     for number in 0..MOST_NEEDED {
-        let handler = wanted_at(world.log(), place, number)?;
-        if let Some(Status::Failed(_)) = world.status(handler) {
+        if let Some(handler) = wanted_at(world.log(), place, number)
+            && let Some(Status::Failed(_)) = world.status(handler)
+        {
             return Some(handler);
         }
     }

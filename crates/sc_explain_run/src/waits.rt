@@ -90,11 +90,16 @@ pub struct Standing {
 
 /// The place of a handler, if it has frames.
 pub fn standing_of(world: &World<'_>, handler: HandlerNumber) -> Option<Standing> {
-    let top = world.region(handler)?.store().top()?;
-    let is_behind = matches!(top.stage, Stage::ReservesBlock | Stage::Awaits { .. });
-    Some(Standing {
-        routine: top.routine,
-        place: top.place.saturating_sub(is_behind as usize),
-        is_entry: matches!(top.stage, Stage::Reserves),
-    })
+    if let Some(region) = world.region(handler)
+        && let Some(top) = region.store().top()
+    {
+        let is_behind = matches!(top.stage, Stage::ReservesBlock | Stage::Awaits { .. });
+        Some(Standing {
+            routine: top.routine,
+            place: top.place.saturating_sub(is_behind as usize),
+            is_entry: matches!(top.stage, Stage::Reserves),
+        })
+    } else {
+        None
+    }
 }
