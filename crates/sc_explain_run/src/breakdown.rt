@@ -5,7 +5,7 @@ use crate::moments::Moment;
 use crate::naming::{Asked, asked_feature, push_feature, push_place};
 use crate::origin::RunSource;
 use crate::supplier::supplier_of;
-use crate::words::{class_name, push_between, push_clause, push_false, push_routine, push_site};
+use crate::words::{class_name, push_clause, push_false, push_routine, push_site};
 use sc_code::{RoutineText, SiteKind, TextSite};
 use sc_explain_text::Lines;
 use sc_lockpass::HandlerNumber;
@@ -34,14 +34,14 @@ pub fn push_failing(
             Some(served) => Some(served.asked),
             None => None,
         };
-        push_stood(origin, lines, &breakdown, &turn, asked.as_ref(), cause);
+        push_stood(origin, lines, breakdown, turn, asked, cause);
         if let Some(moment) = moment {
             lines.push_lines(&moment.values);
         }
         if turn.is_behind() {
             push_needed(lines, ended, handler, cause)
         }
-        if let Some(asked) = &asked {
+        if let Some(asked) = asked {
             push_served(origin, lines, asked)
         }
         if let Some(moment) = moment {
@@ -54,19 +54,19 @@ pub fn push_failing(
 fn push_stood(
     origin: &RunSource<'_>,
     lines: &mut Lines,
-    breakdown: &Breakdown,
-    turn: &Turn,
-    asked: Option<&Asked>,
+    breakdown: Breakdown,
+    turn: Turn,
+    asked: Option<Asked>,
     cause: Cause,
 ) {
     if turn.fails_at_once() {
         if let Some(asked) = asked {
             push_at_once(origin, lines, asked, cause)
         }
-    } else if let Some(point) = &breakdown.point {
+    } else if let Some(point) = breakdown.point {
         push_point(origin, lines, point, cause, turn.is_behind())
     }
-    if let Some(broken) = &breakdown.invariant {
+    if let Some(broken) = breakdown.invariant {
         push_invariant(origin, lines, broken);
     }
 }
@@ -75,7 +75,7 @@ fn push_stood(
 fn push_point(
     origin: &RunSource<'_>,
     lines: &mut Lines,
-    point: &Point,
+    point: Point,
     cause: Cause,
     is_behind: bool,
 ) {
@@ -89,7 +89,7 @@ fn push_point(
             if is_entry {
                 lines.push("which reserves the handlers of its formals")
             } else {
-                push_site(origin, lines, text, &site, cause)
+                push_site(origin, lines, text, site.kind, cause)
             }
             end_place(origin, lines, span)
         }
@@ -98,7 +98,9 @@ fn push_point(
 
 /// The text of the operation at which a handler failed, or after which: a routine that waits or calls is after it.
 fn site_of(text: &RoutineText, place: usize, cause: Cause, is_behind: bool) -> Option<TextSite> {
-    let site = text.sites.get(place).copied()?;
+    let Some(site) = text.sites.get(place).copied() else {
+        return None;
+    };
     let is_behind = match cause {
         Cause::StackFull => true,
         Cause::TooManyObjects => !matches!(site.kind, SiteKind::Creation),
@@ -112,44 +114,44 @@ fn site_of(text: &RoutineText, place: usize, cause: Cause, is_behind: bool) -> O
 }
 
 /// Adds which clause of a class invariant is false.
-fn push_invariant(origin: &RunSource<'_>, lines: &mut Lines, broken: &BrokenInvariant) {
+fn push_invariant(origin: &RunSource<'_>, lines: &mut Lines, broken: BrokenInvariant) {
     let class = broken.class as usize;
     if let Some(clause) = origin.own_clause(broken.declarer, broken.clause)
         && let Some(around) = origin.class_around(clause.span)
         && begin_place(origin, lines, clause.span)
     {
         push_clause(origin, lines, clause.tag);
-        lines.push_all(&[" of the invariant of ", class_name(origin, class)]);
+        lines.fill_name(" of the invariant of ~", class_name(origin, class));
         push_false(origin, lines, around, class == around);
         end_place(origin, lines, clause.span)
     }
 }
 
 /// Adds where the attribute is declared that was asked for while it was Void: no routine ran for that.
-fn push_at_once(origin: &RunSource<'_>, lines: &mut Lines, asked: &Asked, cause: Cause) {
+fn push_at_once(origin: &RunSource<'_>, lines: &mut Lines, asked: Asked, cause: Cause) {
     if let (Cause::UnsetEntity, Errand::Calls(_)) = (cause, asked.errand)
         && let Some(name) = asked_feature(origin, asked)
         && let Some(class) = origin.class_around(name)
         && begin_place(origin, lines, name)
     {
         let class = class_name(origin, class);
-        lines.push_all(&["`", origin.written(name), "` of ", class, " is read"]);
+        lines.fill("`~` of ~ is read", &[origin.written(name), class]);
         end_place(origin, lines, name)
     }
 }
 
 /// Adds whose request it was that the handler served.
-fn push_served(origin: &RunSource<'_>, lines: &mut Lines, asked: &Asked) {
+fn push_served(origin: &RunSource<'_>, lines: &mut Lines, asked: Asked) {
     let Some(poster) = asked.poster else {
         return lines.push("it was creating the root object\n");
     };
-    let (words, is_named) = match asked.errand {
-        Errand::Calls(_) => (", which asked for ", true),
-        Errand::Makes(None) => (", which asked for its creation", false),
-        Errand::Makes(Some(_)) => (", which asked for its creation by ", true),
+    let template = match asked.errand {
+        Errand::Calls(_) => "it served handler ~, which asked for ",
+        Errand::Makes(None) => "it served handler ~, which asked for its creation",
+        Errand::Makes(Some(_)) => "it served handler ~, which asked for its creation by ",
     };
-    push_between(lines, "it served handler ", u64::from(poster), words);
-    if is_named {
+    lines.fill_number(template, u64::from(poster));
+    if !matches!(asked.errand, Errand::Makes(None)) {
         push_feature(origin, lines, asked)
     }
     lines.push("\n")
@@ -158,7 +160,9 @@ fn push_served(origin: &RunSource<'_>, lines: &mut Lines, asked: &Asked) {
 /// Adds a place of the text, before something is said about it. Returns whether there is one.
 fn begin_place(origin: &RunSource<'_>, lines: &mut Lines, span: Span) -> bool {
     let is_there = push_place(origin, lines, "", span);
-    lines.push(if is_there { ": " } else { "" });
+    if is_there {
+        lines.push(": ")
+    }
     is_there
 }
 
@@ -173,12 +177,12 @@ fn end_place(origin: &RunSource<'_>, lines: &mut Lines, span: Span) {
 
 /// Adds which handler was needed by one that failed with this cause after an operation.
 fn push_needed(lines: &mut Lines, ended: &World<'_>, handler: HandlerNumber, cause: Cause) {
-    let what = match cause {
-        Cause::SupplierFailed => ", which has failed\n",
-        Cause::Precondition => ", which refused\n",
+    let template = match cause {
+        Cause::SupplierFailed => "it needed handler ~, which has failed\n",
+        Cause::Precondition => "it needed handler ~, which refused\n",
         _ => return,
     };
     if let Some(supplier) = supplier_of(ended, handler) {
-        push_between(lines, "it needed handler ", u64::from(supplier), what)
+        lines.fill_number(template, u64::from(supplier))
     }
 }

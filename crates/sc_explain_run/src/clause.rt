@@ -54,8 +54,9 @@ pub fn push_operation_values(
     };
     let goal = Goal::Place(place);
     if let Some(reached) = Evaluation::of(origin, lines, world, handler, start, goal) {
-        let is_told = reached.is_reached && origin.push_values(lines, "where ", whole, &reached);
-        lines.push(if is_told { "\n" } else { "" })
+        if reached.is_reached && origin.push_values(lines, "where ", whole, &reached) {
+            lines.push("\n")
+        }
     }
 }
 
@@ -81,7 +82,9 @@ pub fn push_attributes(
             start = at.saturating_add(1);
         }
     }
-    lines.push(if told.is_empty() { "" } else { "\n" })
+    if !told.is_empty() {
+        lines.push("\n")
+    }
 }
 
 impl<'r> RunSource<'r> {
@@ -104,7 +107,8 @@ impl<'r> RunSource<'r> {
             && !matches!(value, Value::Attached(_))
             && !is_listed(told.as_slice(), name)
         {
-            lines.push_all(&[if told.is_empty() { "where " } else { ", " }, name]);
+            let template = if told.is_empty() { "where ~" } else { ", ~" };
+            lines.fill_name(template, name);
             push_value(lines, value);
             if told.push(name).is_err() {
                 lines.lack()
@@ -182,11 +186,10 @@ impl<'r> RunSource<'r> {
 
     /// What the text has there, where that lies in the whole and its value is no object.
     fn part_at(&self, routine: usize, whole: Span, seen: Seen) -> Option<&'r str> {
-        let span = self.span_at(routine, seen.place)?;
-        match seen.value {
-            Value::Attached(_) => None,
-            _ if span.start < whole.start || whole.end < span.end => None,
-            _ => Some(self.written(span)),
+        match (self.span_at(routine, seen.place), seen.value) {
+            (None, _) | (_, Value::Attached(_)) => None,
+            (Some(span), _) if span.start < whole.start || whole.end < span.end => None,
+            (Some(span), _) => Some(self.written(span)),
         }
     }
 }
@@ -194,11 +197,10 @@ impl<'r> RunSource<'r> {
 fn push_value(lines: &mut Lines, value: Value) {
     match value {
         Value::Integer(value) => {
-            lines.push(if value < 0 { " = -" } else { " = " });
-            lines.push_number(value.unsigned_abs())
+            let template = if value < 0 { " = -~" } else { " = ~" };
+            lines.fill_number(template, value.unsigned_abs())
         }
-        Value::Boolean(true) => lines.push(" = True"),
-        Value::Boolean(false) => lines.push(" = False"),
+        Value::Boolean(value) => lines.push(if value { " = True" } else { " = False" }),
         Value::Void => lines.push(" = Void"),
         Value::Attached(_) => {}
     }

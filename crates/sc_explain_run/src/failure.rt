@@ -7,7 +7,6 @@ use crate::origin::RunSource;
 use crate::replay::Replay;
 use crate::telling::push_waits;
 use crate::waits::count_of;
-use crate::words::push_between;
 use sc_audit::RecordLine;
 use sc_code::Program;
 use sc_explain_text::{Lines, find};
@@ -41,14 +40,15 @@ pub fn run_note(
     played: Played<'_>,
     statuses: &[Status],
 ) -> Result<Vec<u8>, AllocError> {
-    let mut are_free = true;
+    let mut is_needed = played.may_refuse;
     for status in statuses {
-        are_free = are_free && matches!(*status, Status::Free)
+        is_needed = is_needed || !matches!(*status, Status::Free)
     }
-    if are_free && !played.may_refuse {
-        return Ok(Vec::new(alloc));
+    if is_needed {
+        order_note(alloc, played)
+    } else {
+        Ok(Vec::new(alloc))
     }
-    order_note(alloc, played)
 }
 
 /// The note on a run in which a handler isn't free, or may have refused a request.
@@ -58,33 +58,29 @@ pub fn run_note(
 /// Memory ran out.
 pub fn order_note(alloc: Global, played: Played<'_>) -> Result<Vec<u8>, AllocError> {
     let mut lines = Lines::new(alloc);
-    push_note(alloc, &mut lines, &played);
+    match World::open(alloc, played.program, played.version) {
+        Ok(mut world) => push_note(alloc, &mut lines, played, &mut world),
+        Err(_) => lines.lack(),
+    }
     lines.finish()
 }
 
-/// Adds that note, with the run played once more.
-fn push_note(alloc: Global, lines: &mut Lines, played: &Played<'_>) {
+/// Adds that note, with the run played once more in its world, which is at its opening.
+fn push_note(alloc: Global, lines: &mut Lines, played: Played<'_>, world: &mut World<'_>) {
     let origin = RunSource {
         alloc,
         source: played.source,
         program: played.program,
     };
-    match World::open(alloc, played.program, played.version) {
-        Ok(mut world) => {
-            if Replay::start()
-                .advance(&mut world, played.lines, usize::MAX)
-                .is_err()
-            {
-                lines.lack()
-            }
-            let moments = moments_of(&origin, lines, &world, played);
-            push_failures(&origin, lines, &world, &moments);
-            push_refusals(lines, &moments);
-            push_limit(lines, played, &world);
-            push_waits(&origin, lines, &world)
-        }
-        Err(_) => lines.lack(),
+    let mut replay = Replay::start();
+    if replay.advance(world, played.lines, usize::MAX).is_err() {
+        lines.lack()
     }
+    let moments = moments_of(&origin, lines, world, played);
+    push_failures(&origin, lines, world, &moments);
+    push_refusals(lines, &moments);
+    push_limit(lines, played, world);
+    push_waits(&origin, lines, world)
 }
 
 /// Adds the cause of each handler's failure, its place, and what more can be said about it.
@@ -94,7 +90,7 @@ fn push_failures(origin: &RunSource<'_>, lines: &mut Lines, ended: &World<'_>, m
             push_cause(lines, handler, cause);
             let moment = failure_of(moments, handler);
             push_failing(origin, lines, ended, handler, cause, moment);
-            lines.push_all(&["`scoop explain ", code_of(cause), "` says more\n"])
+            lines.fill_name("`scoop explain ~` says more\n", code_of(cause))
         }
     }
 }
@@ -123,7 +119,7 @@ fn push_cause(lines: &mut Lines, handler: HandlerNumber, cause: Cause) {
     let Some(page) = find(code_of(cause)) else {
         return;
     };
-    push_between(lines, "handler ", u64::from(handler), " has failed by ");
+    lines.fill_number("handler ~ has failed by ", u64::from(handler));
     let mut number = 0_usize;
     for line in page.lines() {
         if number > 2 && line.is_empty() {

@@ -2,7 +2,6 @@
 
 use crate::failure::Played;
 use crate::waits::count_of;
-use crate::words::push_between;
 use sc_explain_text::Lines;
 use sc_model::Status;
 use sc_world::World;
@@ -22,24 +21,23 @@ pub enum Limit {
 }
 
 /// Adds how many turns were made, where a handler still has something to do, and what helps.
-pub fn push_limit(lines: &mut Lines, played: &Played<'_>, ended: &World<'_>) {
-    let (before, most) = match played.limit {
-        Limit::Turns(limit) => ("stopped limit: ", Some(limit)),
-        Limit::Output => return,
-        Limit::Record => ("stopped limit: the record ends behind ", None),
-    };
-    if !is_any_busy(ended) {
+pub fn push_limit(lines: &mut Lines, played: Played<'_>, ended: &World<'_>) {
+    if matches!(played.limit, Limit::Output) || !is_any_busy(ended) {
         return;
     }
     let mut made = 0_u64;
     for line in played.lines {
         made = made.saturating_add(u64::from(line.turns))
     }
-    let behind = if made == 1 { " turn" } else { " turns" };
-    push_between(lines, before, made, behind);
-    match most {
-        Some(limit) => push_used_up(lines, limit, made),
-        None => lines.push("\n"),
+    let template = match (played.limit, made) {
+        (Limit::Record, 1) => "stopped limit: the record ends behind ~ turn\n",
+        (Limit::Record, _) => "stopped limit: the record ends behind ~ turns\n",
+        (_, 1) => "stopped limit: ~ turn",
+        _ => "stopped limit: ~ turns",
+    };
+    lines.fill_number(template, made);
+    if let Limit::Turns(limit) = played.limit {
+        lines.fill_number(used_up(limit, made), u64::from(MOST_TURNS))
     }
 }
 
@@ -53,14 +51,13 @@ fn is_any_busy(world: &World<'_>) -> bool {
     false
 }
 
-/// Adds that a run ended after its limit of turns, and what helps.
-fn push_used_up(lines: &mut Lines, limit: u32, made: u64) {
+/// That a run ended after its limit of turns, and what helps: `~` is the highest limit.
+fn used_up(limit: u32, made: u64) -> &'static str {
     if made < u64::from(limit) {
-        lines.push(" were made, and the record of the run has as many lines as it may have\n")
+        " were made, and the record of the run has as many lines as it may have\n"
     } else if limit >= MOST_TURNS {
-        lines.push(" were made, which is the most that `--turns` takes\n")
+        " were made, which is the most that `--turns` takes\n"
     } else {
-        let before = " were made; `--turns` takes up to ";
-        push_between(lines, before, u64::from(MOST_TURNS), "\n")
+        " were made; `--turns` takes up to ~\n"
     }
 }

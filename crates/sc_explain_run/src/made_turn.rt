@@ -1,7 +1,7 @@
 //! What one turn did, in words.
 
-use crate::history::{Ended, Turn, granted_at, turn_at};
-use crate::naming::{Asked, push_place, stand_of};
+use crate::history::{Ended, granted_at, has_granted, turn_at};
+use crate::naming::{Asked, push_place, root_class, stand_of};
 use crate::origin::RunSource;
 use crate::printed::push_printed;
 use crate::waiting::Waiting;
@@ -76,17 +76,19 @@ impl<'o> MadeTurn<'o> {
                 waiting.set(self.handler, false);
                 self.tell_kept(lines, place, waiting)
             }
-            self.tell_asked(lines, &turn, waiting);
-            self.tell_failed(lines, &turn)
+            self.tell_asked(lines, turn.ended, waiting);
+            self.tell_failed(lines, turn.is_behind())
         }
     }
 
     /// Adds what its reserve step had got for it.
     fn tell_reserved(&self, lines: &mut Lines, place: usize) {
-        self.begin(lines, self.handler, " reserves ");
+        self.begin(lines, self.handler, "");
+        let mut before = " reserves ";
         for number in 0..MOST_NEEDED {
             if let Some(one) = granted_at(self.world.log(), place, number) {
-                lines.push(if number == 0 { "" } else { " and " });
+                lines.push(before);
+                before = " and ";
                 self.push_handler(lines, one, None)
             }
         }
@@ -105,34 +107,23 @@ impl<'o> MadeTurn<'o> {
     /// Whether a handler is to reserve one of those that this one's reserve step had got.
     fn needs_some(&self, handler: HandlerNumber, place: usize) -> bool {
         for number in 0..MOST_NEEDED {
-            match needed_at(self.world.core(), handler, number) {
-                None => return false,
-                Some(one) if self.is_granted(place, one) => return true,
-                Some(_) => {}
-            }
-        }
-        false
-    }
-
-    fn is_granted(&self, place: usize, handler: HandlerNumber) -> bool {
-        for number in 0..MOST_NEEDED {
-            match granted_at(self.world.log(), place, number) {
-                None => return false,
-                Some(one) if one == handler => return true,
-                Some(_) => {}
+            if let Some(one) = needed_at(self.world.core(), handler, number)
+                && has_granted(self.world.log(), place, one)
+            {
+                return true;
             }
         }
         false
     }
 
     /// Adds what the turn came to, as far as it concerns others.
-    fn tell_asked(&self, lines: &mut Lines, turn: &Turn, waiting: &mut Waiting) {
-        match turn.ended {
+    fn tell_asked(&self, lines: &mut Lines, ended: Ended, waiting: &mut Waiting) {
+        match ended {
             Ended::Asks {
                 supplier,
                 asked,
                 is_waited,
-            } => self.tell_request(lines, supplier, &asked, is_waited),
+            } => self.tell_request(lines, supplier, asked, is_waited),
             Ended::Creates(class) => self.tell_creation(lines, class as usize),
             Ended::Reserves { .. } => self.tell_wait(lines, self.handler, waiting),
             Ended::Waits => {
@@ -157,22 +148,15 @@ impl<'o> MadeTurn<'o> {
         &self,
         lines: &mut Lines,
         supplier: HandlerNumber,
-        asked: &Asked,
+        asked: Asked,
         is_waited: bool,
     ) {
-        self.begin(
-            lines,
-            self.handler,
-            if is_waited { " asks for " } else { " posts " },
-        );
+        self.begin(lines, self.handler, "");
         match asked.errand {
-            Errand::Makes(_) => lines.push("its creation"),
-            Errand::Calls(name) => match self.origin.program.pool().names.get(name as usize) {
-                Some(name) => lines.push_all(&["`", name.as_str(), "`"]),
-                None => lines.push("a feature"),
-            },
+            Errand::Makes(_) if is_waited => lines.push(" asks for its creation of "),
+            Errand::Makes(_) => lines.push(" posts its creation to "),
+            Errand::Calls(name) => lines.fill_name(calling(is_waited), self.origin.name(name)),
         }
-        lines.push(if is_waited { " of " } else { " to " });
         self.push_handler(lines, supplier, Some(asked.class));
         self.end(lines, self.asked_at())
     }
@@ -209,8 +193,8 @@ impl<'o> MadeTurn<'o> {
         }
     }
 
-    /// Adds by what it has failed, if it has.
-    fn tell_failed(&self, lines: &mut Lines, turn: &Turn) {
+    /// Adds by what it has failed, if it has: at an operation, or after one.
+    fn tell_failed(&self, lines: &mut Lines, is_behind: bool) {
         if let Some(Status::Failed(cause)) = self.world.status(self.handler)
             && !self.earlier.has_failed
         {
@@ -220,15 +204,14 @@ impl<'o> MadeTurn<'o> {
                 Some(page) => page.lines().next().unwrap_or(page),
                 None => code,
             });
-            let is_behind = turn.is_behind() || matches!(cause, Cause::StackFull);
+            let is_behind = is_behind || matches!(cause, Cause::StackFull);
             self.end(lines, self.failed_at(is_behind))
         }
     }
 
     /// Begins a line with the turn and its handler.
     fn begin(&self, lines: &mut Lines, handler: HandlerNumber, words: &str) {
-        lines.push_number(self.number);
-        lines.push(" ");
+        lines.fill_number("~ ", self.number);
         self.push_handler(lines, handler, None);
         lines.push(words)
     }
@@ -244,18 +227,10 @@ impl<'o> MadeTurn<'o> {
     /// Adds the class of the root object of a handler and the handler's number. One that has no object yet is named by the class
     /// of what is asked of it.
     fn push_handler(&self, lines: &mut Lines, handler: HandlerNumber, asked: Option<usize>) {
-        let root = match self.world.region(handler) {
-            Some(region) => region.store().class_of(1),
-            None => None,
-        };
-        let class = match root {
-            Some(class) => Some(class as usize),
-            None => asked,
-        };
-        if let Some(class) = class
+        if let Some(class) = root_class(self.world, handler).or(asked)
             && let Some(name) = self.origin.class_name(class)
         {
-            lines.push_all(&[name, " "])
+            lines.fill_name("~ ", name)
         } else {
             lines.push("handler ")
         }
@@ -273,28 +248,55 @@ impl<'o> MadeTurn<'o> {
 
     /// The part of the text of the operation that its routine has executed last.
     fn behind(&self) -> Option<Span> {
-        let top = self.world.region(self.handler)?.store().top()?;
-        self.origin.span_at(top.routine, top.place.checked_sub(1)?)
+        if let Some(region) = self.world.region(self.handler)
+            && let Some(top) = region.store().top()
+            && let Some(place) = top.place.checked_sub(1)
+        {
+            self.origin.span_at(top.routine, place)
+        } else {
+            None
+        }
     }
 
     /// The place of its routine as it failed: at an operation, or after one; or at its beginning.
     fn failed_at(&self, is_behind: bool) -> Option<Span> {
-        let point = self.world.breakdown(self.handler)?.point?;
-        if is_behind && point.place == 0 {
-            return Some(self.origin.text_of(point.routine)?.name);
+        let Some(breakdown) = self.world.breakdown(self.handler) else {
+            return None;
+        };
+        match breakdown.point {
+            None => None,
+            Some(point) if is_behind && point.place == 0 => self.origin.routine_name(point.routine),
+            Some(point) => {
+                let place = point.place.saturating_sub(is_behind as usize);
+                self.origin.span_at(point.routine, place)
+            }
         }
-        let place = point.place.saturating_sub(is_behind as usize);
-        self.origin.span_at(point.routine, place)
     }
 }
 
 /// The place of a handler, if a routine of it runs.
 fn stand_in(origin: &RunSource<'_>, world: &World<'_>, handler: HandlerNumber) -> Option<Span> {
-    Some(stand_of(origin, world, handler)?.span)
+    match stand_of(origin, world, handler) {
+        Some(stand) => Some(stand.span),
+        None => None,
+    }
 }
 
 /// The place of the name of the routine that a handler is in.
 fn routine_in(origin: &RunSource<'_>, world: &World<'_>, handler: HandlerNumber) -> Option<Span> {
-    let top = world.region(handler)?.store().top()?;
-    Some(origin.text_of(top.routine)?.name)
+    if let Some(region) = world.region(handler)
+        && let Some(top) = region.store().top()
+    {
+        origin.routine_name(top.routine)
+    } else {
+        None
+    }
+}
+
+fn calling(is_waited: bool) -> &'static str {
+    if is_waited {
+        " asks for `~` of "
+    } else {
+        " posts `~` to "
+    }
 }

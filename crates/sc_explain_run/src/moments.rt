@@ -56,14 +56,15 @@ pub fn moments_of(
     origin: &RunSource<'_>,
     lines: &mut Lines,
     ended: &World<'_>,
-    played: &Played<'_>,
+    played: Played<'_>,
 ) -> Vec<Moment> {
-    let mut moments = Vec::new(origin.alloc);
+    let alloc = origin.alloc;
+    let mut moments = Vec::new(alloc);
     for handler in 0..count_of(ended) {
-        add_of(origin.alloc, lines, &mut moments, ended, handler);
+        add_of(alloc, lines, &mut moments, ended, handler);
     }
     if !moments.is_empty() {
-        match World::open(origin.alloc, played.program, played.version) {
+        match World::open(alloc, played.program, played.version) {
             Ok(mut world) => {
                 tell_each(origin, lines, ended, &mut world, played.lines, &mut moments)
             }
@@ -194,29 +195,29 @@ impl<'o> Before<'o> {
             Kind::Refusal => {
                 let log = self.ended.log();
                 if let Some(served) = served_before(log, moment.handler, moment.place) {
-                    self.tell_refusal(&served, moment)
+                    self.tell_refusal(served, moment)
                 }
             }
             Kind::Failure => {
                 if let Some(turn) = turn_at(self.ended.log(), moment.place) {
-                    self.tell_values(&turn, moment);
+                    self.tell_values(turn, moment);
                     if !matches!(turn.begun, Begun::Takes(_)) {
                         push_callers(self.origin, &mut moment.values, self.world, moment.handler)
                     }
                     self.tell_clients(moment);
-                    self.tell_dropped(&turn, moment)
+                    self.tell_dropped(turn, moment)
                 }
             }
         }
     }
 
     /// Which request is refused, and by which clause.
-    fn tell_refusal(&self, served: &Served, moment: &mut Moment) {
+    fn tell_refusal(&self, served: Served, moment: &mut Moment) {
         let handler = moment.handler;
         let lines = &mut moment.behind;
         push_name(self.origin, lines, "handler ", self.world, handler);
         lines.push(" refused ");
-        push_request(self.origin, lines, self.world, &served.asked);
+        push_request(self.origin, lines, self.world, served.asked);
         lines.push(if served.is_waited {
             ", which waited for it\n"
         } else {
@@ -226,7 +227,7 @@ impl<'o> Before<'o> {
     }
 
     /// The values of what failed.
-    fn tell_values(&self, turn: &Turn, moment: &mut Moment) {
+    fn tell_values(&self, turn: Turn, moment: &mut Moment) {
         if let Begun::GoesOn(answer) = turn.begun
             && let Some(breakdown) = self.ended.breakdown(moment.handler)
         {
@@ -277,12 +278,7 @@ impl<'o> Before<'o> {
             let Some(served) = served_before(self.ended.log(), handler, end) else {
                 return;
             };
-            let client = if served.is_waited {
-                served.asked.poster
-            } else {
-                None
-            };
-            let Some(client) = client else {
+            let (true, Some(client)) = (served.is_waited, served.asked.poster) else {
                 return;
             };
             push_name(self.origin, lines, "handler ", self.world, client);
@@ -300,7 +296,7 @@ impl<'o> Before<'o> {
     }
 
     /// Notes which requests came after the one that failed.
-    fn tell_dropped(&self, turn: &Turn, moment: &mut Moment) {
+    fn tell_dropped(&self, turn: Turn, moment: &mut Moment) {
         let core = self.world.core();
         let handler = moment.handler;
         // the one that failed was the first of them as long as it wasn't taken
@@ -310,21 +306,22 @@ impl<'o> Before<'o> {
             return;
         }
         let lines = &mut moment.behind;
-        lines.push_number(count as u64);
-        lines.push(if count == 1 {
-            " request that stood behind it was dropped"
+        let template = if count == 1 {
+            "~ request that stood behind it was dropped"
         } else {
-            " requests that stood behind it were dropped"
-        });
+            "~ requests that stood behind it were dropped"
+        };
+        lines.fill_number(template, count as u64);
         for place in 0..count.min(MOST_DROPPED) {
             if let Some(request) = core.asked_at(handler, place.saturating_add(first)) {
                 lines.push(if place == 0 { ": " } else { ", " });
-                push_request(self.origin, lines, self.world, &asked_by(&request))
+                push_request(self.origin, lines, self.world, asked_by(&request))
             }
         }
-        if count > MOST_DROPPED {
-            lines.push(" and so on");
-        }
-        lines.push("\n")
+        lines.push(if count > MOST_DROPPED {
+            " and so on\n"
+        } else {
+            "\n"
+        })
     }
 }

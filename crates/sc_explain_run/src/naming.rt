@@ -2,7 +2,6 @@
 
 use crate::origin::RunSource;
 use crate::waits::standing_of;
-use crate::words::push_between;
 use sc_explain_text::Lines;
 use sc_lockpass::HandlerNumber;
 use sc_region::{Activation, Errand, Request, Stage};
@@ -26,18 +25,17 @@ pub fn stand_of<'r>(
     world: &World<'_>,
     handler: HandlerNumber,
 ) -> Option<Stand<'r>> {
-    let standing = standing_of(world, handler)?;
-    let text = origin.text_of(standing.routine)?;
-    let site = text.sites.get(standing.place)?;
-    let span = if standing.is_entry {
-        text.name
+    if let Some(standing) = standing_of(world, handler)
+        && let Some(name) = origin.routine_name(standing.routine)
+        && let Some(span) = origin.span_at(standing.routine, standing.place)
+    {
+        Some(Stand {
+            span: if standing.is_entry { name } else { span },
+            routine: origin.written(name),
+        })
     } else {
-        site.span
-    };
-    Some(Stand {
-        span,
-        routine: origin.written(text.name),
-    })
+        None
+    }
 }
 
 /// What is asked for, and by whom.
@@ -59,12 +57,11 @@ pub fn asked_by(request: &Request) -> Asked {
 }
 
 /// What is asked for, as it is declared: the name of the feature, or of the creation procedure; None for a creation without one.
-pub fn asked_feature(origin: &RunSource<'_>, asked: &Asked) -> Option<Span> {
-    let name = match asked.errand {
-        Errand::Calls(name) => name,
-        Errand::Makes(name) => name?,
-    };
-    origin.feature_name(asked.class, name)
+pub fn asked_feature(origin: &RunSource<'_>, asked: Asked) -> Option<Span> {
+    match asked.errand {
+        Errand::Calls(name) | Errand::Makes(Some(name)) => origin.feature_name(asked.class, name),
+        Errand::Makes(None) => None,
+    }
 }
 
 /// Adds the number of a handler after these words, and the class of its root object.
@@ -77,24 +74,34 @@ pub fn push_name(
 ) {
     lines.push(before);
     lines.push_number(u64::from(handler));
+    if let Some(class) = root_class(world, handler)
+        && let Some(name) = origin.class_name(class)
+    {
+        lines.fill_name(" (~)", name)
+    }
+}
+
+/// The number of the class of a handler's root object, if it has one.
+pub fn root_class(world: &World<'_>, handler: HandlerNumber) -> Option<usize> {
     if let Some(region) = world.region(handler)
         && let Some(class) = region.store().class_of(1)
-        && let Some(name) = origin.class_name(class as usize)
     {
-        lines.push_all(&[" (", name, ")"]);
+        Some(class as usize)
+    } else {
+        None
     }
 }
 
 /// Adds the feature that is asked for, as the text has it.
-pub fn push_feature(origin: &RunSource<'_>, lines: &mut Lines, asked: &Asked) {
+pub fn push_feature(origin: &RunSource<'_>, lines: &mut Lines, asked: Asked) {
     match asked_feature(origin, asked) {
         None => lines.push("a feature"),
-        Some(name) => lines.push_all(&["`", origin.written(name), "`"]),
+        Some(name) => lines.fill_name("`~`", origin.written(name)),
     }
 }
 
 /// Adds what is asked for, and for whom.
-pub fn push_request(origin: &RunSource<'_>, lines: &mut Lines, world: &World<'_>, asked: &Asked) {
+pub fn push_request(origin: &RunSource<'_>, lines: &mut Lines, world: &World<'_>, asked: Asked) {
     if matches!(asked.errand, Errand::Makes(_)) {
         lines.push("its creation");
     } else {
@@ -115,7 +122,7 @@ pub fn push_stand(
     if let Some(stand) = stand_of(origin, world, handler)
         && push_place(origin, lines, ", at ", stand.span)
     {
-        lines.push_all(&[" in ", stand.routine])
+        lines.fill_name(" in ~", stand.routine)
     }
 }
 
@@ -146,11 +153,11 @@ pub fn push_callers(
 /// Adds the place of a routine that has called another one.
 fn push_caller(origin: &RunSource<'_>, lines: &mut Lines, caller: &Activation) {
     let place = caller.place.saturating_sub(1);
-    if let Some(text) = origin.text_of(caller.routine)
-        && let Some(site) = text.sites.get(place)
-        && push_place(origin, lines, "called at ", site.span)
+    if let Some(name) = origin.routine_name(caller.routine)
+        && let Some(span) = origin.span_at(caller.routine, place)
+        && push_place(origin, lines, "called at ", span)
     {
-        lines.push_all(&[" in ", origin.written(text.name), "\n"])
+        lines.fill_name(" in ~\n", origin.written(name))
     }
 }
 
@@ -160,8 +167,9 @@ pub fn push_place(origin: &RunSource<'_>, lines: &mut Lines, before: &str, part:
     let Some(Place { file, line, column }) = origin.source.place_of(part.start as usize) else {
         return false;
     };
-    lines.push_all(&[before, file]);
-    push_between(lines, ":", line as u64, ":");
+    lines.push(before);
+    lines.push(file);
+    lines.fill_number(":~:", line as u64);
     lines.push_number(column as u64);
     true
 }

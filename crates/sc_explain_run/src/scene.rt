@@ -42,7 +42,7 @@ impl<'o, 'r> Scene<'o, 'r> {
                     && stand_of(self.origin, self.world, handler).is_none()
                 {
                     lines.push(": it is to take ");
-                    push_request(self.origin, lines, self.world, &asked_by(&request))
+                    push_request(self.origin, lines, self.world, asked_by(&request))
                 }
             }
             Wait::Reservation => self.push_wanted(lines, handler),
@@ -125,7 +125,7 @@ impl<'o, 'r> Scene<'o, 'r> {
         lines.push_number(count as u64);
         self.push_name(lines, stand, handler);
         lines.push(before);
-        push_request(self.origin, lines, self.world, &asked_by(&request));
+        push_request(self.origin, lines, self.world, asked_by(&request));
         lines.push("\n");
         true
     }
