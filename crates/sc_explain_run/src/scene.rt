@@ -62,20 +62,22 @@ impl<'o, 'r> Scene<'o, 'r> {
 
     /// Adds the handlers that this one holds.
     fn push_held(&self, lines: &mut Lines, holder: HandlerNumber) {
+        let mut before = " holds ";
         let mut count = 0_usize;
         for handler in 0..count_of(self.world) {
             if self.world.core().holder(handler) == Some(holder) {
                 if count < MOST_LISTED {
-                    let before = if count == 0 { " holds " } else { ", " };
                     self.push_name(lines, before, handler);
+                    before = ", ";
                 }
                 count = count.saturating_add(1);
             }
         }
         if count > MOST_LISTED {
-            lines.push(" and others");
+            lines.push(" and others,")
+        } else if count > 0 {
+            lines.push(",")
         }
-        lines.push(if count > 0 { "," } else { "" })
     }
 
     /// Adds what a handler waits to reserve, and who keeps it from each.
@@ -98,8 +100,7 @@ impl<'o, 'r> Scene<'o, 'r> {
         match keeper_of(self.world.core(), handler) {
             None => {}
             Some(keeper) if keeper != handler => {
-                lines.push(", held by ");
-                lines.push_number(u64::from(keeper))
+                lines.fill_number(", held by ~", u64::from(keeper))
             }
             Some(_) => match self.world.status(handler) {
                 Some(Status::Busy) => lines.push(", which is busy"),
@@ -114,17 +115,17 @@ impl<'o, 'r> Scene<'o, 'r> {
         let Some(request) = self.world.core().asked_at(handler, 0) else {
             return false;
         };
-        let (stand, before) = if count == 1 {
-            (" request stands at handler ", ", which can't take any: ")
+        let template = if count == 1 {
+            "~ request stands at handler "
         } else {
-            (
-                " requests stand at handler ",
-                ", which can't take any: first ",
-            )
+            "~ requests stand at handler "
         };
-        lines.push_number(count as u64);
-        self.push_name(lines, stand, handler);
-        lines.push(before);
+        lines.fill_number(template, count as u64);
+        self.push_name(lines, "", handler);
+        lines.push(", which can't take any: ");
+        if count != 1 {
+            lines.push("first ")
+        }
         push_request(self.origin, lines, self.world, asked_by(&request));
         lines.push("\n");
         true

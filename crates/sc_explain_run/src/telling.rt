@@ -4,7 +4,6 @@ use crate::chains::{Chains, Cycle};
 use crate::origin::RunSource;
 use crate::scene::Scene;
 use crate::waits::{Wait, count_of};
-use crate::words::push_between;
 use sc_explain_text::Lines;
 use sc_lockpass::HandlerNumber;
 use sc_world::World;
@@ -36,8 +35,8 @@ pub fn push_waits(origin: &RunSource<'_>, lines: &mut Lines, world: &World<'_>) 
     note.tell_each(lines, Part::Chains);
     note.tell_each(lines, Part::Others);
     if note.left_out > 0 {
-        let behind = " more, which wait or are busy\n";
-        push_between(lines, "and ", note.left_out as u64, behind)
+        let template = "and ~ more, which wait or are busy\n";
+        lines.fill_number(template, note.left_out as u64)
     }
     note.tell_each(lines, Part::Requests)
 }
@@ -109,8 +108,8 @@ impl<'o, 'r> Note<'o, 'r> {
     fn tell_cycle(&mut self, lines: &mut Lines, first: HandlerNumber) {
         let cycle = self.chains.cycle_of(first);
         if cycle.length > 0 {
-            self.push_path(lines, "deadlock: ", first, cycle.length);
-            push_between(lines, " -> ", u64::from(first), kind_of(cycle));
+            self.push_path(lines, "deadlock: ~", first, cycle.length);
+            lines.fill_number(end_of(cycle), u64::from(first));
             // None of a cycle takes the room of others.
             let room = self.room;
             self.room = usize::MAX;
@@ -123,26 +122,25 @@ impl<'o, 'r> Note<'o, 'r> {
     fn tell_chain(&mut self, lines: &mut Lines, first: HandlerNumber) {
         let length = self.chains.chain_length(first);
         if self.room > 0 && length > 1 {
-            self.push_path(lines, "chain: ", first, length);
+            self.push_path(lines, "chain: ~", first, length);
             lines.push(", each waits for the next one\n")
         }
         self.tell_path(lines, first, length)
     }
 
-    /// Adds this number of handlers that each wait for the next, after these words.
+    /// Adds this number of handlers that each wait for the next, the first in place of `~` in these words.
     fn push_path(
         &self,
         lines: &mut Lines,
-        before: &'static str,
+        template: &'static str,
         first: HandlerNumber,
         length: usize,
     ) {
-        let mut before = before;
+        let mut template = template;
         let mut handler = first;
         for _member in 0..length {
-            lines.push(before);
-            lines.push_number(u64::from(handler));
-            before = " -> ";
+            lines.fill_number(template, u64::from(handler));
+            template = " -> ~";
             handler = self.chains.at(handler).next.unwrap_or(first);
         }
     }
@@ -172,13 +170,13 @@ impl<'o, 'r> Note<'o, 'r> {
     }
 }
 
-/// How the handlers of a cycle wait for each other.
-fn kind_of(cycle: Cycle) -> &'static str {
+/// How the handlers of a cycle wait for each other, after the first of them in place of `~`.
+fn end_of(cycle: Cycle) -> &'static str {
     if cycle.answers == 0 {
-        ", each waits to reserve what the next one has\n"
+        " -> ~, each waits to reserve what the next one has\n"
     } else if cycle.answers == cycle.length {
-        ", each waits for the answer of the next one\n"
+        " -> ~, each waits for the answer of the next one\n"
     } else {
-        ", each waits for the next one: for its answer, or to reserve it\n"
+        " -> ~, each waits for the next one: for its answer, or to reserve it\n"
     }
 }

@@ -36,13 +36,6 @@ pub fn push_site(
     }
 }
 
-/// Adds a number between these words.
-pub fn push_between(lines: &mut Lines, before: &str, number: u64, behind: &str) {
-    lines.push(before);
-    lines.push_number(number);
-    lines.push(behind)
-}
-
 /// Adds that a clause of a routine, which may have a tag, is false.
 fn push_assertion(
     origin: &RunSource<'_>,
