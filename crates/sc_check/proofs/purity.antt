@@ -1,5 +1,6 @@
 pub mod CallerLemmas
 pub mod Called
+pub mod Versions
 pub mod Marked
 pub mod ImpureEffects
 pub mod ImpureSearchSteps

@@ -1,11 +1,11 @@
 -- Steps of the search for features that aren't pure functions.
-use Rattle.std.proofs.Common.{◌≡◌, ◌+◌, ◌<◌, ◌≤◌, ℕ, zero, suc, Bool, true, List, [], ◌∷◌, ◌++◌, length, get_or, map, take, Option, Some, None, inl, inr, refl, ap, sym, ◌∙◌, subst, arith}
+use Rattle.std.proofs.Common.{◌≡◌, ◌+◌, ◌<◌, ◌≤◌, ℕ, zero, suc, Bool, true, List, [], ◌∷◌, ◌++◌, length, drop, get_or, map, take, Option, Some, None, inl, inr, refl, ap, sym, ◌∙◌, subst, arith}
 use Rattle.std.specs.Prelude.{◌⊎◌, Contains, slice_get}
 use Rattle.std.specs.declared.vec.Vec.{Vec}
 use Rattle.std.specs.declared.alloc.Global.{Global}
-use Rattle.std.specs.Option.{option_map}
+use Rattle.std.specs.Option.{option_map, option_or}
 use Rattle.std.specs.String.{string_bytes}
-use Rattle.std.proofs.lemmas.List.{take_all, map-append, length-map}
+use Rattle.std.proofs.lemmas.List.{at_drop_more, take_all, map-append, length-map}
 use Rattle.std.proofs.lemmas.Option.{slice_get_within, slice_get-map}
 use Rattle.std.proofs.lemmas.List.Elements.{Contains-push_cases}
 use Rattle.sc_tree.specs.Plain.{System}
@@ -14,7 +14,7 @@ use Rattle.sc_class.specs.Tables.Features.{DeclaredFeature}
 use Rattle.sc_class.specs.Internal.Search.{IsSeen, IsTodo, Grows}
 use Rattle.sc_class.specs.declared.class_tables.feature_entry.FeatureEntry.{FeatureEntry}
 use Rattle.sc_class.specs.View.{entry_of}
-use Rattle.sc_class.proofs.Anys.{any_none, any_only, any_parts, seen}
+use Rattle.sc_class.proofs.Anys.{any_none, seen}
 use Rattle.sc_class.proofs.CycleLemmas.{grows_then}
 use Rattle.sc_class.proofs.Items.{some_is, item_in}
 use Rattle.sc_rules.specs.Names.{RoutineName, routine_of}
@@ -25,7 +25,8 @@ use Rattle.sc_typing.specs.FeatureNumbers.{all_features, feature_number}
 use Rattle.sc_check.specs.purity.Internal.Callers.{callers_in}
 use Rattle.sc_check.specs.declared.purity.effects.Effect as held
 use Rattle.sc_check.specs.purity.Internal.Effects.{effect_of, all_effects}
-use Rattle.sc_check.specs.purity.Internal.ImpureSearch.{AreMarked, RunsNumber, IsNamedIn, IsCallOf, IsRecorded, AreCallers, AreCollected, IsCollecting}
+use Rattle.sc_check.specs.purity.Internal.ImpureSearch.{AreMarked, RunsNumber, IsCallOf, IsRecorded, AreCallers, AreCollected, IsCollecting}
+use Rattle.sc_check.specs.purity.Internal.Versions.{nearest_in, nearest_above}
 use Rattle.sc_typing.proofs.FeatureNumbers.{Numbered, number_stands}
 use Rattle.sc_check.proofs.purity.ImpureEffects.{act_of, acts_in, call_of, calls_in, grows_none, only_one}
 
@@ -214,30 +215,11 @@ number_within s g o e m l k h =
     let t = number_stands s g k (sym e ∙ h) in
     subst (λ (m : ℕ). k < m) (sym l) (slice_get_within (all_features s) k t.feature t.stands_at)
 
-module _ (s : System) (x : List ℕ) (cs : List ℕ) (i c : ℕ) (l : i < length cs) (g : c ≡ get_or cs i c) (o : Option ℕ) (is_it : o ≡ feature_number s (record { class = c; name = x }))
-    (impure impure' impure'' : List Bool) (todo todo' todo'' : List ℕ) where
-  named_before : ((k : ℕ) → IsNamedIn s (take i cs) x k → IsSeen impure' k) → Grows (λ k. o ≡ Some k) impure' todo' impure'' todo'' → ((k : ℕ) → o ≡ Some k → IsSeen impure'' k) → (k : ℕ) →
-      IsNamedIn s (take i cs) x k ⊎ IsNamedIn s (c ∷ []) x k → IsSeen impure'' k
-  named_before f h y k (inl a) = h.keeps k (f k a)
-  named_before f h y k (inr a) = y k (is_it ∙ any_only {P = λ (j : ℕ). feature_number s (record { class = j; name = x }) ≡ Some k} c a)
+-- ---- the version that a routine redefines
 
-  pub named_more : Grows (IsNamedIn s cs x) impure todo impure' todo' × ((k : ℕ) → IsNamedIn s (take i cs) x k → IsSeen impure' k) →
-      Grows (λ k. o ≡ Some k) impure' todo' impure'' todo'' × ((k : ℕ) → o ≡ Some k → IsSeen impure'' k) →
-      Grows (IsNamedIn s cs x) impure todo impure'' todo'' × ((k : ℕ) → IsNamedIn s (take (i + 1) cs) x k → IsSeen impure'' k)
-  named_more (h, f) (m, y) = (
-    grows_then impure impure' impure'' todo todo' todo'' (λ k e. (i, c, l, sym g, sym is_it ∙ e)) h m,
-    λ k a. named_before f m y k (any_parts {P = λ (j : ℕ). feature_number s (record { class = j; name = x }) ≡ Some k} (take i cs) (c ∷ [])
-        (subst (λ (ys : List ℕ). IsNamedIn s ys x k) (seen cs i c l g) a)),
-  )
-
-pub named_none : (s : System) (x : List ℕ) (cs : List ℕ) (impure : List Bool) (todo : List ℕ) →
-    Grows (IsNamedIn s cs x) impure todo impure todo × ((k : ℕ) → IsNamedIn s (take 0 cs) x k → IsSeen impure k)
-named_none s x cs impure todo = (grows_none (IsNamedIn s cs x) impure todo, λ k a. absurd (any_none {P = λ (j : ℕ). feature_number s (record { class = j; name = x }) ≡ Some k} a))
-
-pub named_all : (s : System) (x : List ℕ) (cs : List ℕ) (i : ℕ) (impure impure' : List Bool) (todo todo' : List ℕ) → length cs ≤ i →
-    Grows (IsNamedIn s cs x) impure todo impure' todo' × ((k : ℕ) → IsNamedIn s (take i cs) x k → IsSeen impure' k) →
-    Grows (IsNamedIn s cs x) impure todo impure' todo' × ((k : ℕ) → IsNamedIn s cs x k → IsSeen impure' k)
-named_all s x cs i impure impure' todo todo' l (h, f) = (h, λ k a. f k (subst (λ (ys : List ℕ). IsNamedIn s ys x k) (sym (take_all i cs l)) a))
+pub nearest_here : (s : System) (x ks : List ℕ) (i : ℕ) (o : Option ℕ) → i < length ks → o ≡ feature_number s (record { class = get_or ks i 0; name = x }) →
+    nearest_in s x (drop i ks) ≡ option_or o (nearest_in s x (drop (i + 1) ks))
+nearest_here s x ks i o l e = at_drop_more (nearest_in s x) ks i 0 l ∙ ap (λ p. option_or p (nearest_in s x (drop (i + 1) ks))) (sym e)
 
 -- ---- the features as the code holds them
 
@@ -265,6 +247,11 @@ entry_name e x n = n
 pub entry_number : (s : System) (e : FeatureEntry) (x : List ℕ) (o : Option ℕ) → x ≡ string_bytes e.feature.now.name.text.value → o ≡ feature_number s (record { class = e.class; name = x }) →
     o ≡ feature_number s (routine_of (entry_of e))
 entry_number s e x o n m = m ∙ ap (λ (x : List ℕ). feature_number s (record { class = e.class; name = x })) (entry_name e x n)
+
+-- and so is the version that it redefines
+pub entry_version : (s : System) (e : FeatureEntry) (x : List ℕ) (o : Option ℕ) → x ≡ string_bytes e.feature.now.name.text.value → o ≡ nearest_above s (record { class = e.class; name = x }) →
+    o ≡ nearest_above s (routine_of (entry_of e))
+entry_version s e x o n m = m ∙ ap (λ (x : List ℕ). nearest_above s (record { class = e.class; name = x })) (entry_name e x n)
 
 -- and so are the effects
 pub entry_effects : (s : System) (e : FeatureEntry) (x : List ℕ) (read ds : List held.Effect) → x ≡ string_bytes e.feature.now.name.text.value → read ≡ ds →

@@ -2,17 +2,21 @@
 use Rattle.std.proofs.Common.{◌≡◌, ℕ, zero, suc, Bool, true, false, List, [], ◌∷◌, ◌++◌, length, Option, Some, None, inl, inr, refl, ap, sym, ◌∙◌, subst, arith}
 use Rattle.std.specs.Prelude.{◌⊎◌, not, is_some, slice_get, unwrap_or}
 use Rattle.sc_tree.specs.Plain.{System}
+use Rattle.sc_class.specs.ClassNames.{Root}
+use Rattle.sc_class.specs.Faults.ClassRules.{IsFaultless}
 use Rattle.sc_class.specs.Tables.Features.{DeclaredFeature}
 use Rattle.sc_class.specs.Internal.Search.{IsSeen, IsTodo, Grows}
 use Rattle.sc_class.proofs.Anys.{any_left, any_right, any_parts, any_only, any_first, any_none}
 use Rattle.sc_rules.specs.Names.{RoutineName, routine_of}
 use Rattle.sc_rules.specs.Purity.{routine_named, is_pure_candidate_if_any, no_candidate, Impure, by_itself}
-use Rattle.sc_rules.specs.JudgingPurity.{is_impure_itself, RunsInto}
+use Rattle.sc_rules.specs.JudgingPurity.{is_impure_itself, RunsInto, called, redeclared}
 use Rattle.sc_typing.specs.FeatureNumbers.{all_features, feature_number, unmarked, pure_by}
-use Rattle.sc_check.specs.purity.Internal.ImpureSearch.{AreMarked, RunsNumber}
+use Rattle.sc_check.specs.purity.Internal.ImpureSearch.{AreMarked, MarksRunners, RunsNumber}
+use Rattle.sc_check.specs.purity.Internal.Versions.{IsFollowed}
 use Rattle.sc_rules.proofs.PurityHeirs.{AreMarks, impure_next}
-use Rattle.sc_typing.proofs.FeatureLemmas.{one_there}
+use Rattle.sc_typing.proofs.FeatureLemmas.{one_there, same_routine}
 use Rattle.sc_check.proofs.purity.Called.{runs_named}
+use Rattle.sc_check.proofs.purity.Versions.{versions_seen}
 use Rattle.sc_typing.proofs.FeatureNumbers.{numbered, has_number}
 
 todo_left : (xs ys : List ℕ) (k : ℕ) → IsTodo xs k → IsTodo (xs ++ ys) k
@@ -52,8 +56,7 @@ module _ (s : System) (impure : List Bool) (todo rest : List ℕ) (j : ℕ) (n :
   its_feature : (d : DeclaredFeature) × (slice_get (all_features s) j ≡ Some d)
   its_feature = there impure (all_features s) j true n seen_now
 
-  pub marked_on : (impure' : List Bool) (todo' : List ℕ) → Grows (RunsNumber s j) impure rest impure' todo' →
-      ((f g : RoutineName) (i : ℕ) → feature_number s g ≡ Some j → feature_number s f ≡ Some i → RunsInto s f g → IsSeen impure' i) → AreMarked s impure' todo'
+  pub marked_on : (impure' : List Bool) (todo' : List ℕ) → Grows (RunsNumber s j) impure rest impure' todo' → MarksRunners s j impure' → AreMarked s impure' todo'
   marked_on impure' todo' h all = record {
     impure_itself = λ f i m o. h.keeps i (sp.impure_itself f i m o);
     only_impure = λ i d g x. impure_so i d g (h.seen_before i x);
@@ -73,17 +76,17 @@ module _ (s : System) (impure : List Bool) (todo rest : List ℕ) (j : ℕ) (n :
       from_todo i (inr x) = x
 
       was_todo : (g : RoutineName) (i : ℕ) → feature_number s g ≡ Some i → IsTodo rest i ⊎ IsTodo (j ∷ []) i →
-          IsTodo todo' i ⊎ ((f : RoutineName) (k : ℕ) → feature_number s f ≡ Some k → RunsInto s f g → IsSeen impure' k)
+          IsTodo todo' i ⊎ IsFollowed s impure' g
       was_todo g i m (inl t) = inl (h.todo_keeps i t)
-      was_todo g i m (inr t) = inr (λ f k p r. all f g k (m ∙ ap (λ (i : ℕ). Some i) (sym (todo_only j i t))) p r)
+      was_todo g i m (inr t) = inr (all g (m ∙ ap (λ (i : ℕ). Some i) (sym (todo_only j i t))))
 
-      was_followed : (g : RoutineName) (i : ℕ) → feature_number s g ≡ Some i → IsTodo todo i ⊎ ((f : RoutineName) (k : ℕ) → feature_number s f ≡ Some k → RunsInto s f g → IsSeen impure k) →
-          IsTodo todo' i ⊎ ((f : RoutineName) (k : ℕ) → feature_number s f ≡ Some k → RunsInto s f g → IsSeen impure' k)
+      was_followed : (g : RoutineName) (i : ℕ) → feature_number s g ≡ Some i → IsTodo todo i ⊎ IsFollowed s impure g →
+          IsTodo todo' i ⊎ IsFollowed s impure' g
       was_followed g i m (inl t) = was_todo g i m (todo_parts rest (j ∷ []) i (subst (λ (ts : List ℕ). IsTodo ts i) e t))
-      was_followed g i m (inr c) = inr (λ f k p r. h.keeps k (c f k p r))
+      was_followed g i m (inr c) = inr (record { callers_seen = λ f k p r. h.keeps k (c.callers_seen f k p r); version_seen = λ k e. h.keeps k (c.version_seen k e) })
 
       by_followed : (g : RoutineName) (i : ℕ) → feature_number s g ≡ Some i → IsSeen impure i ⊎ (RunsNumber s j i × IsTodo todo' i) →
-          IsTodo todo' i ⊎ ((f : RoutineName) (k : ℕ) → feature_number s f ≡ Some k → RunsInto s f g → IsSeen impure' k)
+          IsTodo todo' i ⊎ IsFollowed s impure' g
       by_followed g i m (inl x) = was_followed g i m (sp.followed g i m x)
       by_followed g i m (inr (r, t)) = inl t
 
@@ -103,8 +106,8 @@ not_seen impure i e x = differs (sym (ap (λ o. not (unwrap_or o true)) x) ∙ e
     differs e = cc
 
 -- where nothing is left to look at, the marks tell the pure functions
-pub marked_out : (s : System) (impure : List Bool) (todo : List ℕ) → length impure ≡ length (all_features s) → todo ≡ [] → AreMarked s impure todo → AreMarks s (pure_by s impure)
-marked_out s impure todo n e sp = record {
+pub marked_out : (s : System) (root : Root) → IsFaultless s root → (impure : List Bool) (todo : List ℕ) → length impure ≡ length (all_features s) → todo ≡ [] → AreMarked s impure todo → AreMarks s (pure_by s impure)
+marked_out s root w impure todo n e sp = record {
   harmless = λ f t. harmless_so f (feature_number s f) refl t (is_impure_itself s f) refl;
   closed = λ f g t r. closed_so f g r (feature_number s f) refl t (one_there (feature_number s g) (has_number s g (runs_named r)));
   refused = λ f t. refused_so f t (routine_named s f) refl;
@@ -118,14 +121,22 @@ marked_out s impure todo n e sp = record {
     nothing_todo : (k : ℕ) → IsTodo todo k → ⊥
     nothing_todo k t = todo_none k (subst (λ (ts : List ℕ). IsTodo ts k) e t)
 
-    by_mark : (f g : RoutineName) → RunsInto s f g → (i : ℕ) → feature_number s f ≡ Some i → unmarked impure (Some i) ≡ true → (j : ℕ) → feature_number s g ≡ Some j →
-        IsTodo todo j ⊎ ((f : RoutineName) (k : ℕ) → feature_number s f ≡ Some k → RunsInto s f g → IsSeen impure k) → ⊥
-    by_mark f g r i m t j p (inl k) = nothing_todo j k
-    by_mark f g r i m t j p (inr c) = not_seen impure i t (c f i m r)
+    all_followed : (g : RoutineName) (j : ℕ) → feature_number s g ≡ Some j → IsSeen impure j → IsFollowed s impure g
+    all_followed g j p x = by (sp.followed g j p x)
+      where
+        by : IsTodo todo j ⊎ IsFollowed s impure g → IsFollowed s impure g
+        by (inl k) = absurd (nothing_todo j k)
+        by (inr c) = c
+
+    runs_seen : (f g : RoutineName) → RunsInto s f g → (i : ℕ) → feature_number s f ≡ Some i → (j : ℕ) → feature_number s g ≡ Some j → IsSeen impure j → IsSeen impure i
+    runs_seen f g (called l) i m j p x = (all_followed g j p x).callers_seen f i m l
+    runs_seen f g (redeclared a n y z) i m j p x =
+        versions_seen s root w g.name impure all_followed g.class f.class j i p x a
+        (subst (λ f. feature_number s f ≡ Some i) (same_routine f (record { class = f.class; name = g.name }) refl n) m)
 
     by_number : (f g : RoutineName) → RunsInto s f g → (i : ℕ) → feature_number s f ≡ Some i → unmarked impure (Some i) ≡ true → (j : ℕ) → feature_number s g ≡ Some j → (x : Bool) →
         slice_get impure j ≡ Some x → unmarked impure (Some j) ≡ true
-    by_number f g r i m t j p true x = absurd (by_mark f g r i m t j p (sp.followed g j p x))
+    by_number f g r i m t j p true x = absurd (not_seen impure i t (runs_seen f g r i m j p x))
     by_number f g r i m t j p false x = ap (λ o. not (unwrap_or o true)) x
 
     mark_at : (g : RoutineName) (j : ℕ) → feature_number s g ≡ Some j → is_some (routine_named s g) ≡ true → (x : Bool) × (slice_get impure j ≡ Some x)

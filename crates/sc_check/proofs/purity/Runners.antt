@@ -1,32 +1,32 @@
 -- What may run a feature: its callers, and what it redefines.
-use Rattle.std.proofs.Common.{◌≡◌, ◌+◌, ◌<◌, ◌==◌, ℕ, Bool, true, false, List, [], ◌∷◌, ◌++◌, length, length-append, Some, inl, inr, refl, ap, sym, ◌∙◌, subst, arith}
-use Rattle.std.specs.Prelude.{◌⊎◌, ◌||◌, All, Contains, Any, is_some, slice_get, nat_lt, if◌then◌else◌}
+use Rattle.std.proofs.Common.{◌≡◌, ◌+◌, ◌<◌, ◌==◌, ℕ, Bool, true, false, List, [], ◌∷◌, ◌++◌, length, length-append, Option, Some, inl, inr, refl, ap, sym, ◌∙◌, subst, arith}
+use Rattle.std.specs.Prelude.{◌⊎◌, ◌||◌, All, Contains, Any, is_some, slice_get}
 use Rattle.std.specs.List.{list_any}
 use Rattle.std.proofs.lemmas.Option.{slice_get_within}
 use Rattle.std.proofs.lemmas.List.Elements.{All-weaker, All-contains_itself}
 use Rattle.std.specs.declared.vec.Vec.{Vec}
 use Rattle.std.specs.declared.alloc.Global.{Global}
 use Rattle.sc_tree.specs.Plain.{System}
-use Rattle.sc_class.specs.declared.identity.ClassId.TheVariants as class
+use Rattle.sc_class.specs.ClassNames.{Root}
+use Rattle.sc_class.specs.Faults.ClassRules.{IsFaultless}
 use Rattle.sc_class.specs.Tables.Ancestors.{ancestors}
-use Rattle.sc_class.specs.Tables.Conformance.{is_ancestor}
-use Rattle.sc_class.specs.Tables.ByClass.{ancestors_of}
 use Rattle.sc_class.specs.Tables.Features.{DeclaredFeature}
 use Rattle.sc_class.specs.Internal.Search.{IsSeen, Grows, left_over}
-use Rattle.sc_class.proofs.Anys.{any_none, any_first, any_later, any_split}
+use Rattle.sc_class.proofs.Anys.{any_none, any_split}
 use Rattle.sc_class.proofs.CycleLemmas.{grows_then}
 use Rattle.sc_class.proofs.Items.{some_is}
 use Rattle.sc_rules.specs.Names.{RoutineName, routine_of}
 use Rattle.sc_rules.specs.Purity.{routine_named}
-use Rattle.sc_rules.specs.JudgingPurity.{routine_call, effects_of_routine, Lists, RunsInto, called, redeclared}
+use Rattle.sc_rules.specs.JudgingPurity.{routine_call, effects_of_routine, Lists, RunsInto, redeclared}
 use Rattle.sc_typing.specs.FeatureNumbers.{all_features, feature_number}
 use Rattle.sc_check.specs.purity.Internal.Callers.{callers_in}
-use Rattle.sc_check.specs.purity.Internal.ImpureSearch.{AreMarked, RunsNumber, IsNamedIn, AreCallers, MarksRunners}
-use Rattle.sc_typing.proofs.FeatureLemmas.{same_routine}
-use Rattle.sc_typing.proofs.FeatureNumbers.{Numbered, number_stands, is_declared, all_named, class_there}
+use Rattle.sc_check.specs.purity.Internal.ImpureSearch.{AreMarked, RunsNumber, AreCallers, MarksRunners}
+use Rattle.sc_check.specs.purity.Internal.Versions.{nearest_above}
+use Rattle.sc_typing.proofs.FeatureNumbers.{Numbered, number_stands, is_declared, all_named}
+use Rattle.sc_check.proofs.purity.Versions.{version_named}
 use Rattle.sc_check.proofs.purity.Marked.{marked_on, seen_now}
 use Rattle.sc_check.proofs.purity.ImpureEffects.{grows_as}
-use Rattle.sc_check.proofs.purity.ImpureSearchSteps.{StandsAt}
+use Rattle.sc_check.proofs.purity.ImpureSearchSteps.{StandsAt, number_within}
 
 number_is : (k c : ℕ) → (k == c) ≡ true → k ≡ c
 number_is k c e = grind arith
@@ -54,32 +54,14 @@ on_list P (k ∷ ks) a = by_first (any_split k ks a) (λ b. on_list P ks b)
     by_first (inl p) f = (k, before (k == k) (list_any (λ i. i == k) ks) (is_number k k refl), p)
     by_first (inr b) f = further (f b)
 
-listed_on : (P : ℕ → Type 0) (ks : List ℕ) (i : ℕ) → list_any (λ k. k == i) ks ≡ true → P i → Any P ks
-listed_on P [] i e p = cc
-listed_on P (k ∷ ks) i e p = by_first (k == i) refl e (λ e. listed_on P ks i e p)
-  where
-    by_first : (b : Bool) → (k == i) ≡ b → (b || list_any (λ k. k == i) ks) ≡ true → (list_any (λ k. k == i) ks ≡ true → Any P ks) → Any P (k ∷ ks)
-    by_first true h e f = any_first k ks (subst P (sym (number_is k i h)) p)
-    by_first false h e f = any_later k ks (f e)
-
--- the ancestors in the tables, of a class that is there
-ancestors_there : (s : System) (m : ℕ) → m < length s.classes → ancestors_of s (class.Declared m) ≡ ancestors s m
-ancestors_there s m l = ap (λ b. if b then ancestors s m else []) (below m (length s.classes) l)
-  where
-    below : (m n : ℕ) → m < n → nat_lt m n ≡ true
-    below m n l = grind (arith, l)
-
-module _ (s : System) (j : ℕ) (e : DeclaredFeature) (is_it : slice_get (all_features s) j ≡ Some e) where
+module _ (s : System) (root : Root) (w : IsFaultless s root) (j : ℕ) (e : DeclaredFeature) (is_it : slice_get (all_features s) j ≡ Some e) where
   is_there : is_some (routine_named s (routine_of e)) ≡ true
   is_there = all_named s j e is_it
 
-  heirs : ancestors_of s (class.Declared (routine_of e).class) ≡ ancestors s (routine_of e).class
-  heirs = ancestors_there s (routine_of e).class (class_there s (routine_of e) is_there)
-
-  -- what declares the name in an ancestor may run it
-  redefined_runs : (k : ℕ) → IsNamedIn s (ancestors_of s (class.Declared (routine_of e).class)) (routine_of e).name k → RunsNumber s j k
-  redefined_runs k a d c o p = by_ancestor (on_list (λ i. feature_number s (record { class = i; name = (routine_of e).name }) ≡ Some k) (ancestors s (routine_of e).class)
-      (subst (Any (λ i. feature_number s (record { class = i; name = (routine_of e).name }) ≡ Some k)) heirs a))
+  -- the version that it redefines may run it
+  redefined_runs : (k : ℕ) → nearest_above s (routine_of e) ≡ Some k → RunsNumber s j k
+  redefined_runs k a d c o p =
+      by_ancestor (on_list (λ i. feature_number s (record { class = i; name = (routine_of e).name }) ≡ Some k) (ancestors s (routine_of e).class) (version_named s root w (routine_of e) k a))
     where
       by_ancestor : (i : ℕ) × (list_any (λ k. k == i) (ancestors s (routine_of e).class) ≡ true) × (feature_number s (record { class = i; name = (routine_of e).name }) ≡ Some k) →
           RunsInto s (routine_of d) (routine_of c)
@@ -93,8 +75,7 @@ module _ (s : System) (j : ℕ) (e : DeclaredFeature) (is_it : slice_get (all_fe
 
   module _ (impure impure' impure'' : List Bool) (todo todo' todo'' : List ℕ) (lists : List (Vec ℕ Global)) (c : AreCallers s lists (length (all_features s)))
       (g : Grows (Contains (callers_in lists j)) impure todo impure' todo') (a : (k : ℕ) → Contains (callers_in lists j) k → IsSeen impure' k)
-      (h : Grows (IsNamedIn s (ancestors_of s (class.Declared (routine_of e).class)) (routine_of e).name) impure' todo' impure'' todo'')
-      (b : (k : ℕ) → IsNamedIn s (ancestors_of s (class.Declared (routine_of e).class)) (routine_of e).name k → IsSeen impure'' k) where
+      (h : Grows (λ k. nearest_above s (routine_of e) ≡ Some k) impure' todo' impure'' todo'') (b : (k : ℕ) → nearest_above s (routine_of e) ≡ Some k → IsSeen impure'' k) where
     pub runners_grow : Grows (RunsNumber s j) impure todo impure'' todo''
     runners_grow = grows_then impure impure' impure'' todo todo' todo'' (λ k r. r) (grows_as (c.only_callers j) g) (grows_as redefined_runs h)
 
@@ -106,43 +87,28 @@ module _ (s : System) (j : ℕ) (e : DeclaredFeature) (is_it : slice_get (all_fe
         h.keeps i (a i (c.all_callers i j t.feature r (slice_get_within (all_features s) i t.feature t.stands_at) t.stands_at m (subst (λ f. Lists (routine_call r) (effects_of_routine s f)) (sym t.is_it) p)))
 
     pub runners_found : MarksRunners s j impure''
-    runners_found f r i m n (called p) = called_found f r i m (number_stands s f i n) p
-    runners_found f r i m n (redeclared q x y z) =
-        b i (subst (λ ks. IsNamedIn s ks (routine_of e).name i) (sym heirs)
-        (listed_on (λ k. feature_number s (record { class = k; name = (routine_of e).name }) ≡ Some i) (ancestors s (routine_of e).class) f.class
-        (subst (λ g. is_ancestor s g.class f.class ≡ true) (sym (number_of_it r m)) q)
-        (subst (λ g. feature_number s g ≡ Some i) (same_routine f (record { class = f.class; name = (routine_of e).name }) refl (x ∙ ap (λ (g : RoutineName). g.name) (sym (number_of_it r m)))) n)))
+    runners_found r m = record {
+      callers_seen = λ f i n p. called_found f r i m (number_stands s f i n) p;
+      version_seen = λ i o. b i (subst (λ g. nearest_above s g ≡ Some i) (sym (number_of_it r m)) o);
+    }
 
--- the same, where the code has the feature by name
-pub runners : (s : System) (j : ℕ) (f : RoutineName) → StandsAt s j f → (impure impure' impure'' : List Bool) (todo todo' todo'' : List ℕ) (lists : List (Vec ℕ Global)) (ks : List ℕ) →
-    AreCallers s lists (length (all_features s)) → ks ≡ callers_in lists j → Grows (Contains ks) impure todo impure' todo' × ((k : ℕ) → Contains ks k → IsSeen impure' k) →
-    Grows (IsNamedIn s (ancestors_of s (class.Declared f.class)) f.name) impure' todo' impure'' todo'' × ((k : ℕ) → IsNamedIn s (ancestors_of s (class.Declared f.class)) f.name k → IsSeen impure'' k) →
+-- the same, as the code has read it
+pub runners_read : (s : System) (root : Root) → IsFaultless s root → (j : ℕ) (f : RoutineName) → StandsAt s j f → (impure impure' impure'' : List Bool) (todo todo' todo'' : List ℕ)
+    (lists : List (Vec ℕ Global)) (ks : List ℕ) (o : Option ℕ) → AreCallers s lists (length (all_features s)) → ks ≡ callers_in lists j → o ≡ nearest_above s f →
+    Grows (Contains ks) impure todo impure' todo' × ((k : ℕ) → Contains ks k → IsSeen impure' k) →
+    Grows (λ k. o ≡ Some k) impure' todo' impure'' todo'' × ((k : ℕ) → o ≡ Some k → IsSeen impure'' k) →
     Grows (RunsNumber s j) impure todo impure'' todo'' × MarksRunners s j impure''
-runners s j f st impure impure' impure'' todo todo' todo'' lists ks c e g h =
+runners_read s root w j f st impure impure' impure'' todo todo' todo'' lists ks o c e a g h =
     of_it (subst (λ (ks : List ℕ). Grows (Contains ks) impure todo impure' todo' × ((k : ℕ) → Contains ks k → IsSeen impure' k)) e g)
-    (subst (λ f. Grows (IsNamedIn s (ancestors_of s (class.Declared f.class)) f.name) impure' todo' impure'' todo'' × ((k : ℕ) → IsNamedIn s (ancestors_of s (class.Declared f.class)) f.name k → IsSeen impure'' k))
-    (sym st.is_named) h)
+    (subst (λ (o : Option ℕ). Grows (λ k. o ≡ Some k) impure' todo' impure'' todo'' × ((k : ℕ) → o ≡ Some k → IsSeen impure'' k)) (a ∙ ap (nearest_above s) (sym st.is_named)) h)
   where
     of_it : Grows (Contains (callers_in lists j)) impure todo impure' todo' × ((k : ℕ) → Contains (callers_in lists j) k → IsSeen impure' k) →
-        Grows (IsNamedIn s (ancestors_of s (class.Declared (routine_of st.feature).class)) (routine_of st.feature).name) impure' todo' impure'' todo'' ×
-        ((k : ℕ) → IsNamedIn s (ancestors_of s (class.Declared (routine_of st.feature).class)) (routine_of st.feature).name k → IsSeen impure'' k) →
+        Grows (λ k. nearest_above s (routine_of st.feature) ≡ Some k) impure' todo' impure'' todo'' × ((k : ℕ) → nearest_above s (routine_of st.feature) ≡ Some k → IsSeen impure'' k) →
         Grows (RunsNumber s j) impure todo impure'' todo'' × MarksRunners s j impure''
     of_it (g, a) (h, b) = (
-      runners_grow s j st.feature st.is_there impure impure' impure'' todo todo' todo'' lists c g a h b,
-      runners_found s j st.feature st.is_there impure impure' impure'' todo todo' todo'' lists c g a h b,
+      runners_grow s root w j st.feature st.is_there impure impure' impure'' todo todo' todo'' lists c g a h b,
+      runners_found s root w j st.feature st.is_there impure impure' impure'' todo todo' todo'' lists c g a h b,
     )
-
--- the same, where the code has read the ancestors and the name
-pub runners_read : (s : System) (j : ℕ) (f : RoutineName) → StandsAt s j f → (impure impure' impure'' : List Bool) (todo todo' todo'' : List ℕ) (lists : List (Vec ℕ Global)) (ks cs x : List ℕ) →
-    AreCallers s lists (length (all_features s)) → ks ≡ callers_in lists j → cs ≡ ancestors_of s (class.Declared f.class) → x ≡ f.name →
-    Grows (Contains ks) impure todo impure' todo' × ((k : ℕ) → Contains ks k → IsSeen impure' k) →
-    Grows (IsNamedIn s cs x) impure' todo' impure'' todo'' × ((k : ℕ) → IsNamedIn s cs x k → IsSeen impure'' k) →
-    Grows (RunsNumber s j) impure todo impure'' todo'' × MarksRunners s j impure''
-runners_read s j f st impure impure' impure'' todo todo' todo'' lists ks cs x c e a n g h =
-    runners s j f st impure impure' impure'' todo todo' todo'' lists ks c e g
-    (subst (λ (x : List ℕ). Grows (IsNamedIn s (ancestors_of s (class.Declared f.class)) x) impure' todo' impure'' todo'' ×
-    ((k : ℕ) → IsNamedIn s (ancestors_of s (class.Declared f.class)) x k → IsSeen impure'' k)) n
-    (subst (λ (cs : List ℕ). Grows (IsNamedIn s cs x) impure' todo' impure'' todo'' × ((k : ℕ) → IsNamedIn s cs x k → IsSeen impure'' k)) a h))
 
 -- the callers are among the features
 pub callers_within : (s : System) (lists : List (Vec ℕ Global)) (n j m : ℕ) (ks : List ℕ) → AreCallers s lists n → ks ≡ callers_in lists j → m ≡ length (all_features s) → All (λ k. k < m) ks
@@ -150,6 +116,12 @@ callers_within s lists n j m ks c e l = All-weaker (Contains ks) (λ k. k < m) w
   where
     within : (k : ℕ) → Contains ks k → k < m
     within k i = subst (λ (m : ℕ). k < m) (sym l) (c.in_range j k (subst (λ (ks : List ℕ). Contains ks k) e i))
+
+-- the version that a routine redefines is among the features
+pub version_within : (s : System) (root : Root) → IsFaultless s root → (g : RoutineName) (o : Option ℕ) → o ≡ nearest_above s g → (m : ℕ) → m ≡ length (all_features s) → (k : ℕ) → o ≡ Some k → k < m
+version_within s root w g o e m l k h =
+    let (i, _, t) = on_list (λ i. feature_number s (record { class = i; name = g.name }) ≡ Some k) (ancestors s g.class) (version_named s root w g k (sym e ∙ h)) in
+    number_within s (record { class = i; name = g.name }) (Some k) (sym t) m l k refl
 
 -- what is taken from those still to be looked at is a feature
 pub taken_within : (s : System) (impure : List Bool) (todo rest : List ℕ) (j n : ℕ) → todo ≡ rest ++ j ∷ [] → n ≡ length (all_features s) → length impure ≡ length (all_features s) → AreMarked s impure todo → j < n

@@ -6,7 +6,8 @@ ghost use Rattle.sc_class.specs.SystemIn.{system_in};
 ghost use Rattle.sc_check.specs.purity.Internal.Effects.{effect_of};
 ghost use Rattle.sc_typing.specs.declared.fault.CheckFault.TheVariants.{OutOfMemory};
 ghost use Rattle.sc_rules.specs.Purity.{IsPurity};
-ghost use Rattle.sc_check.specs.purity.Internal.ImpureSearch.{AreCallers, Collects, IsNamedIn, MarksAll, MarksOf, MarksRunners, Records, RunsNumber};
+ghost use Rattle.sc_check.specs.purity.Internal.ImpureSearch.{AreCallers, Collects, MarksAll, MarksOf, MarksRunners, Records, RunsNumber};
+ghost use Rattle.sc_check.specs.purity.Internal.Versions.{nearest_in, nearest_above};
 
 use crate::purity::candidate::{effects_of, is_pure_candidate};
 use crate::purity::effects::Effect;
@@ -40,21 +41,27 @@ fn mark_if_any(search: &mut Search, number: Option<usize>) -> Result<(), AllocEr
     }
 }
 
-/// Marks the features of this name that the classes declare.
-fn mark_named(
-    search: &mut Search,
-    numbering: &Numbering,
-    classes: &[usize],
-    name: &str,
-) -> Result<(), AllocError>
-    requires { length search.old.impure.items ≡ length (all_features (system_in numbering.now.tables.now)) }
-    ensures { let s = system_in numbering.now.tables.now in
-        OnOk result (MarksAll (IsNamedIn s classes.now name.now) search.old search.new) }
+/// The number of the feature of this name in the first of the classes that declares one.
+fn nearest(numbering: &Numbering, classes: &[usize], name: &str) -> Option<usize>
+    ensures { result ≡ nearest_in (system_in numbering.now.tables.now) name.now classes.now }
 {
     for class in classes {
-        mark_if_any(search, numbering.number(*class, name))?;
+        if let Some(number) = numbering.number(*class, name) {
+            return Some(number);
+        }
     }
-    Ok(())
+    None
+}
+
+/// The number of the version that the routine of this name of the class at the number redefines, if there is one.
+fn nearest_above(numbering: &Numbering, class: usize, name: &str) -> Option<usize>
+    ensures { result ≡ nearest_above (system_in numbering.now.tables.now) (record { class = class; name = name.now }) }
+{
+    let Some(parent) = numbering.tables.parent(class) else {
+        return None;
+    };
+    let classes = numbering.tables.ancestors(ClassId::Declared(parent));
+    nearest(numbering, classes, name)
 }
 
 /// Records an effect of a feature: marks it if no pure function has that effect, and makes it a caller of what it
@@ -113,7 +120,8 @@ fn collect_effects(
     Ok(())
 }
 
-/// Marks those that may run the feature at the number.
+/// Marks those that may run the feature at the number: its callers, and the version that it redefines. The versions above
+/// that one are marked as it is looked at.
 fn mark_runners(
     numbering: &Numbering,
     search: &mut Search,
@@ -130,8 +138,8 @@ fn mark_runners(
 {
     mark_all(search, callers.of(number))?;
     let entry = numbering.features[number];
-    let classes = numbering.tables.ancestors(ClassId::Declared(entry.class));
-    mark_named(search, numbering, classes, entry.feature.name.as_str())?;
+    let above = nearest_above(numbering, entry.class, entry.feature.name.as_str());
+    mark_if_any(search, above)?;
     Ok(())
 }
 

@@ -10,11 +10,12 @@ use Rattle.sc_rules.specs.Purity.{Impure}
 use Rattle.sc_rules.specs.JudgingPurity.{Effect, side_effect, routine_call, Lists, effects_of_routine, is_impure_itself, RunsInto}
 use Rattle.sc_typing.specs.FeatureNumbers.{all_features, feature_number}
 use Rattle.sc_check.specs.purity.Internal.Callers.{callers_in}
+use Rattle.sc_check.specs.purity.Internal.Versions.{IsFollowed}
 use Rattle.sc_check.specs.declared.purity.search.Search.{Search}
 use Rattle.sc_check.specs.declared.purity.search.Callers.{Callers}
 
--- The features marked are impure, and those that are impure themselves or may run a marked one that isn't still to be
--- looked at are marked.
+-- The features marked are impure. Those that are impure themselves are marked, and so are the callers of each marked
+-- one, and the version that it redefines, unless it is still to be looked at.
 pub record AreMarked (s : System) (impure : List Bool) (todo : List ℕ) : Type 0 where
   pub impure_itself : (f : RoutineName) (i : ℕ) → feature_number s f ≡ Some i → is_impure_itself s f ≡ true →
       IsSeen impure i
@@ -22,7 +23,7 @@ pub record AreMarked (s : System) (impure : List Bool) (todo : List ℕ) : Type 
       Impure s (routine_of d)
   pub todo_seen : (i : ℕ) → IsTodo todo i → IsSeen impure i
   pub followed : (g : RoutineName) (j : ℕ) → feature_number s g ≡ Some j → IsSeen impure j →
-      IsTodo todo j ⊎ ((f : RoutineName) (i : ℕ) → feature_number s f ≡ Some i → RunsInto s f g → IsSeen impure i)
+      IsTodo todo j ⊎ IsFollowed s impure g
 
 -- the feature at the first number may run the one at the second
 abbrev pub RunsNumber : System → ℕ → ℕ → Type 0
@@ -97,8 +98,6 @@ pub record IsCollecting (s : System) (impure : List Bool) (todo : List ℕ) (lis
   pub calls : (g : RoutineName) (j : ℕ) → feature_number s g ≡ Some j → Lists (routine_call g) ds →
       Contains (callers_in lists j) n
 
--- those that may run the feature at the number are found
+-- the callers of the feature at the number are marked, and so is the version that it redefines
 abbrev pub MarksRunners : System → ℕ → List Bool → Type 0
-MarksRunners s j impure =
-    (f g : RoutineName) (i : ℕ) → feature_number s g ≡ Some j → feature_number s f ≡ Some i → RunsInto s f g →
-    IsSeen impure i
+MarksRunners s j impure = (g : RoutineName) → feature_number s g ≡ Some j → IsFollowed s impure g

@@ -3,7 +3,7 @@ use Rattle.std.specs.Prelude.{MatchOption}
 use Rattle.sc_class.proofs.CycleLemmas.{nothing_left}
 use Rattle.sc_rules.proofs.PurityHeirs.{are_purity}
 use Rattle.sc_typing.specs.FeatureNumbers.{all_features, pure_by}
-use Rattle.sc_class.specs.SystemIn.{system_in}
+use Rattle.sc_class.specs.SystemIn.{root_in, system_in}
 use Rattle.sc_check.proofs.purity.Marked.{marked_out}
 use Rattle.sc_check.proofs.purity.ImpureSearchSteps.{collected_all, callers_all, entries_count}
 use Rattle.sc_check.proofs.purity.Runners.{taken_within, marked_more}
@@ -40,4 +40,4 @@ returns-clause-pure c =
     (λ x. vec_len c.pop.new.self + 1 ≡ vec_len c.loop-found.search.todo)) c.in_default.is c.pop.ensures.cases).0 in
     let empty : length c.loop-found.search.todo.items ≡ 0 = omega arith in
     are_purity s (pure_by s c.loop-found.search.impure.items)
-    (marked_out s c.loop-found.search.impure.items c.loop-found.search.todo.items c.loop-found.invariant.0 (nothing_left c.loop-found.search.todo.items empty) c.loop-found.invariant.1)
+    (marked_out s (root_in c.args.numbering.now.tables.now) c.args.numbering.now.tables.now.faultless c.loop-found.search.impure.items c.loop-found.search.todo.items c.loop-found.invariant.0 (nothing_left c.loop-found.search.todo.items empty) c.loop-found.invariant.1)
