@@ -1,6 +1,6 @@
 //! The line of a source text in which a part of it begins.
 
-use crate::shown::{push_shown, push_under};
+use crate::shown::Shown;
 use sc_text::Span;
 use std::alloc::{AllocError, Global};
 use std::str;
@@ -16,67 +16,54 @@ const LEFT_OUT: &str = "..";
 /// line only what is near the part is shown, and a sign in place of each character that a terminal doesn't show.
 /// Nothing if the text ends before the part.
 pub fn excerpt(alloc: Global, text: &[u8], span: Span) -> Result<Vec<u8>, AllocError> {
-    let mut lines = String::new(alloc);
+    let mut lines = Shown::new(alloc);
     if let Some((before, after)) = text.split_at_checked(span.start as usize) {
         let before = last_line(before);
         let after = first_line(after);
         let length = whole_length(after, span.end.saturating_sub(span.start) as usize);
         let (part, rest) = after.split_at_checked(length).unwrap_or((after, &[]));
-        push_line(alloc, &mut lines, before, part, rest)?;
+        push_line(alloc, &mut lines, before, part, rest)
     }
-    Ok(lines.into_bytes())
+    lines.finish()
 }
 
 /// Adds a line of these three parts, and carets under the second.
-fn push_line(
-    alloc: Global,
-    lines: &mut String,
-    before: &[u8],
-    part: &[u8],
-    rest: &[u8],
-) -> Result<(), AllocError> {
-    let mut carets = String::new(alloc);
+fn push_line(alloc: Global, lines: &mut Shown, before: &[u8], part: &[u8], rest: &[u8]) {
+    let mut carets = Shown::new(alloc);
     let near = last_characters(before);
     if near.len() < before.len() {
-        push_plain(lines, &mut carets, LEFT_OUT)?;
+        lines.push_shown(LEFT_OUT);
+        carets.push_under(LEFT_OUT, ' ');
     }
-    push_shown(lines, text_of(near))?;
-    push_under(&mut carets, text_of(near), ' ')?;
+    lines.push_shown(text_of(near));
+    carets.push_under(text_of(near), ' ');
     let first = first_characters(part);
-    push_shown(lines, text_of(first))?;
-    let marked = first.trim_ascii_end();
-    push_under(
-        &mut carets,
-        if marked.is_empty() {
-            "^"
-        } else {
-            text_of(marked)
-        },
-        '^',
-    )?;
-    push_rest(lines, first.len() < part.len(), rest)?;
-    lines.push('\n')?;
-    lines.push_str(carets.as_str())?;
-    lines.push('\n')
+    lines.push_shown(text_of(first));
+    carets.push_under(marked_of(first), '^');
+    push_rest(lines, first.len() < part.len(), rest);
+    lines.push_below(&carets)
 }
 
-/// Adds a text to a line, and as many blanks to the line below.
-fn push_plain(lines: &mut String, carets: &mut String, text: &str) -> Result<(), AllocError> {
-    lines.push_str(text)?;
-    push_under(carets, text, ' ')
+/// What carets are put under of a part: all but the blanks at its end, and one character at least.
+fn marked_of(part: &[u8]) -> &str {
+    let marked = part.trim_ascii_end();
+    if marked.is_empty() {
+        "^"
+    } else {
+        text_of(marked)
+    }
 }
 
 /// Adds the rest after the part at fault, if that is shown whole.
-fn push_rest(lines: &mut String, is_cut: bool, rest: &[u8]) -> Result<(), AllocError> {
+fn push_rest(lines: &mut Shown, is_cut: bool, rest: &[u8]) {
     if is_cut {
-        return lines.push_str(LEFT_OUT);
+        return lines.push_shown(LEFT_OUT);
     }
     let near = first_characters(rest);
-    push_shown(lines, text_of(near))?;
+    lines.push_shown(text_of(near));
     if near.len() < rest.len() {
-        lines.push_str(LEFT_OUT)?;
+        lines.push_shown(LEFT_OUT)
     }
-    Ok(())
 }
 
 /// The text after the last line feed.
