@@ -4,6 +4,7 @@
 //! be replaced so: it is written to at once. Nothing is opened before the first byte, so that a program that is ended on
 //! its way to that leaves nothing.
 
+use std::alloc::{AllocError, Global};
 use std::fs::{self, Metadata, OpenFile, OpenOptions, Permissions};
 use std::io::{self, ErrorKind, Write};
 use std::rt::Files;
@@ -54,9 +55,7 @@ impl<'r, R: Files> Write for SystemWriter<'r, R> {
     /// Fails where the file can't be opened or made too. A file that may not be so large fails by `FileTooLarge`, for
     /// which the system would end the program.
     fn write(&mut self, buf: &[u8]) -> io::Result<usize> {
-        if self.file.is_none() {
-            self.file = Some(self.begin()?);
-        }
+        self.open()?;
         let most = self.room.min(buf.len() as u64) as usize;
         if most == 0 && !buf.is_empty() {
             return Err(io::Error::from(ErrorKind::FileTooLarge));
@@ -112,24 +111,34 @@ impl<'r, R: Files + AllocGlobal> SystemWriter<'r, R> {
 
     /// A writer of the file of this name by a new file beside it, which gets these permissions if there are any.
     fn beside(rt: &'r R, name: &str, permissions: Option<Permissions>) -> io::Result<Self> {
-        let mut new = String::from_str(rt.alloc(), name)?;
-        new.reserve(ENDING)?;
+        let room = longest_file(rt)?;
+        let replacing = Replacing::new(rt.alloc(), name, permissions)?;
         Ok(SystemWriter {
             rt,
             name: String::from_str(rt.alloc(), name)?,
-            replacing: Some(Replacing { new, permissions }),
+            replacing: Some(replacing),
             file: None,
-            room: longest_file(rt)?,
+            room,
         })
     }
 }
 
 impl<'r, R: Files> SystemWriter<'r, R> {
-    /// Opens or makes what is written to.
-    fn begin(&mut self) -> io::Result<R::File> {
-        match &mut self.replacing {
+    /// Opens or makes what is written to, unless it is open.
+    fn open(&mut self) -> io::Result<()> {
+        if self.file.is_some() {
+            return Ok(());
+        }
+        let opened = match &mut self.replacing {
             Some(replacing) => replacing.make(self.rt, self.name.as_str()),
             None => fs::create(self.rt, self.name.as_str()),
+        };
+        match opened {
+            Ok(file) => {
+                self.file = Some(file);
+                Ok(())
+            }
+            Err(error) => Err(error),
         }
     }
 
@@ -140,20 +149,13 @@ impl<'r, R: Files> SystemWriter<'r, R> {
     /// Where it can't be made or removed, and what is left then.
     #[inline(never)]
     pub fn probe(mut self) -> Result<(), (io::Error, Remains)> {
-        if self.replacing.is_none() {
-            return Ok(());
-        }
-        if let Err(error) = self.begin() {
-            return Err((error, Remains::Unchanged));
-        }
-        let SystemWriter { rt, replacing, .. } = self;
-        let Some(Replacing { new, .. }) = replacing else {
+        let Some(mut replacing) = self.replacing.take() else {
             return Ok(());
         };
-        match fs::remove_file(rt, new.as_str()) {
-            Ok(()) => Ok(()),
-            Err(error) => Err((error, Remains::Beside(new))),
+        if let Err(error) = replacing.make(self.rt, self.name.as_str()) {
+            return Err((error, Remains::Unchanged));
         }
+        replacing.remove(self.rt)
     }
 
     /// Puts what was written in the place of the file.
@@ -162,44 +164,39 @@ impl<'r, R: Files> SystemWriter<'r, R> {
     /// Where the new file can't take the name: then it is as if nothing was written.
     #[inline(never)]
     pub fn commit(mut self) -> Result<(), (io::Error, Remains)> {
-        if self.file.is_none() {
-            match self.begin() {
-                Ok(file) => self.file = Some(file),
-                Err(error) => return Err((error, Remains::Unchanged)),
-            }
+        if let Err(error) = self.open() {
+            return Err((error, Remains::Unchanged));
         }
-        let SystemWriter {
-            rt,
-            name,
-            replacing,
-            ..
-        } = self;
-        let Some(Replacing { new, .. }) = replacing else {
-            return Ok(());
-        };
-        match fs::rename(rt, new.as_str(), name.as_str()) {
-            Ok(()) => Ok(()),
-            Err(error) => Err((error, remove(rt, new))),
+        match self.replacing.take() {
+            Some(replacing) => replacing.take_name(self.rt, self.name.as_str()),
+            None => Ok(()),
         }
     }
 
     /// Gives up what was written, and answers what is left of it.
-    pub fn discard(self) -> Remains {
-        let SystemWriter {
-            rt,
-            replacing,
-            file,
-            ..
-        } = self;
-        match (replacing, file) {
-            (_, None) => Remains::Unchanged,
-            (None, Some(_)) => Remains::Beginning,
-            (Some(Replacing { new, .. }), Some(_)) => remove(rt, new),
+    pub fn discard(mut self) -> Remains {
+        if self.file.is_none() {
+            return Remains::Unchanged;
+        }
+        match self.replacing.take() {
+            Some(replacing) => replacing.discard(self.rt),
+            None => Remains::Beginning,
         }
     }
 }
 
 impl Replacing {
+    /// By a new file beside that of the name, which isn't made yet.
+    fn new(
+        alloc: Global,
+        name: &str,
+        permissions: Option<Permissions>,
+    ) -> Result<Replacing, AllocError> {
+        let mut new = String::from_str(alloc, name)?;
+        new.reserve(ENDING)?;
+        Ok(Replacing { new, permissions })
+    }
+
     /// Makes a new file beside that of the name, with the permissions of that.
     fn make<R: Files>(&mut self, rt: &R, name: &str) -> io::Result<R::File> {
         let file = create_part(rt, name, &mut self.new)?;
@@ -212,6 +209,31 @@ impl Replacing {
                 let _ = fs::remove_file(rt, self.new.as_str());
                 Err(error)
             }
+        }
+    }
+
+    /// Gives the new file the name of the other; where that can't be done it is removed.
+    fn take_name<R: Files>(self, rt: &R, name: &str) -> Result<(), (io::Error, Remains)> {
+        match fs::rename(rt, self.new.as_str(), name) {
+            Ok(()) => Ok(()),
+            Err(error) => Err((error, self.discard(rt))),
+        }
+    }
+
+    /// Removes the new file.
+    fn remove<R: Files>(self, rt: &R) -> Result<(), (io::Error, Remains)> {
+        match fs::remove_file(rt, self.new.as_str()) {
+            Ok(()) => Ok(()),
+            Err(error) => Err((error, Remains::Beside(self.new))),
+        }
+    }
+
+    /// Removes the new file, and answers what is left.
+    #[inline(never)]
+    fn discard<R: Files>(self, rt: &R) -> Remains {
+        match self.remove(rt) {
+            Ok(()) => Remains::Unchanged,
+            Err((_, remains)) => remains,
         }
     }
 }
@@ -232,15 +254,6 @@ fn create_part<R: Files>(rt: &R, name: &str, new: &mut String) -> io::Result<R::
         }
     }
     Err(io::Error::from(ErrorKind::AlreadyExists))
-}
-
-/// Removes a new file, and answers what is left.
-#[inline(never)]
-fn remove<R: Files>(rt: &R, new: String) -> Remains {
-    match fs::remove_file(rt, new.as_str()) {
-        Ok(()) => Remains::Unchanged,
-        Err(_) => Remains::Beside(new),
-    }
 }
 
 /// How many bytes a file may have that this program writes, if the system lists that; else as many as it likes.
