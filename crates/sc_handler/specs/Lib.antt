@@ -6,6 +6,7 @@ pub mod Fits
 pub mod Freeing
 pub mod InMemory
 pub mod Same
+pub mod Canonical
 pub mod Kinds
 pub mod Packed
 pub mod Entries

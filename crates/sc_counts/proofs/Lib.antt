@@ -1,0 +1,7 @@
+mod Marks
+mod Jobs
+mod Likes
+mod Handlers
+mod Counting
+mod Settled
+mod Centers

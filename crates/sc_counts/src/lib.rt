@@ -1,0 +1,4 @@
+//! States that are compared without their counts of sessions.
+#![tactic(auto)]
+
+pub mod laws;
