@@ -7,7 +7,7 @@ ghost use Rattle.sc_handler.specs.InMemory.{answer_of, cleared, handler_with, po
 use crate::handler::{Answer, Handler, HandlerStage, Posting};
 use crate::postings::{append, stand_over, take_all, take_first};
 use crate::spare_places::SparePlaces;
-use sc_lockpass::wait_conditions::Mark;
+use crate::wait_mark::WaitMark;
 use sc_lockpass::{Passed, post};
 use sc_model::Cause;
 use sc_region::Request;
@@ -159,7 +159,7 @@ impl Handler {
     {
         self.stage = HandlerStage::Idle;
         self.entry.clear();
-        self.mark = Mark::new();
+        self.mark = WaitMark::new();
         self.services.clear();
         self.queue.clear();
         self.callback.clear();

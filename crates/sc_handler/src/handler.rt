@@ -8,9 +8,9 @@ ghost use Rattle.sc_handler.specs.InMemory.{IsOutWithOwn, answer_of, fresh, aske
 use crate::job_slot::JobSlot;
 use crate::passing::Passing;
 use crate::posted_request::PostedRequest;
+use crate::wait_mark::WaitMark;
 use arrayvec::ArrayVec;
 use sc_lockpass::HandlerNumber;
-use sc_lockpass::wait_conditions::Mark;
 use sc_model::Cause;
 use sc_region::{Job, Request, Value};
 use std::alloc::{AllocError, Global};
@@ -78,7 +78,7 @@ pub struct Handler {
     /// The handlers that its last reserve step was for.
     pub entry: ArrayVec<HandlerNumber, 16>,
     /// The mark of that, if it waits.
-    pub mark: Mark,
+    pub mark: WaitMark,
     /// The requests that its frames serve, the one taken last first.
     pub services: LinkedList<Posting>,
     /// The requests that it is to take, the next first.
@@ -103,7 +103,7 @@ impl Handler {
         Handler {
             stage: HandlerStage::Idle,
             entry: ArrayVec::new(),
-            mark: Mark::new(),
+            mark: WaitMark::new(),
             services: LinkedList::new(alloc),
             queue: LinkedList::new(alloc),
             callback: LinkedList::new(alloc),

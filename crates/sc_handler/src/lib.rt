@@ -25,6 +25,7 @@ mod same;
 mod settlement;
 mod sharing;
 mod spare_places;
+mod wait_mark;
 
 pub use changes::Dropped;
 pub use copy::{copy_handlers, copy_values};
@@ -38,6 +39,7 @@ pub use logged::Log;
 pub use passing::Passing;
 pub use posted_request::PostedRequest;
 pub use postings::take_first;
-pub use same::same_handler;
+pub use same::{read_alike, same_handler};
 pub use settlement::Settlement;
 pub use spare_places::SparePlaces;
+pub use wait_mark::WaitMark;

@@ -1,7 +1,8 @@
-//! Whether two handlers are kept alike.
-ghost use Rattle.std.specs.Prelude.{◌≡◌, ◌↔◌, IsTrue, map};
+//! Whether two handlers are equal, and whether they are read alike.
+ghost use Rattle.std.specs.Prelude.{◌≡◌, ◌↔◌, IsTrue, map, slice_index};
 ghost use Rattle.std.specs.Option.{option_map};
 ghost use Rattle.sc_lockpass.specs.Tables.{passed_of};
+ghost use Rattle.sc_handler.specs.Canonical.{canon_handler, canon_stage};
 ghost use Rattle.sc_handler.specs.InMemory.{first_posted, handler_of, posting_of, service_of, stage_of};
 ghost use Rattle.sc_handler.specs.Same.{AreAskedAlike, StandAlike};
 
@@ -13,11 +14,47 @@ use arrayvec::ArrayVec;
 use sc_lockpass::HandlerNumber;
 use std::collections::LinkedList;
 
-/// Whether two handlers are kept alike, apart from the counts of their sessions and the jobs that they are out with.
+/// Whether two handlers are equal, apart from the counts of their sessions and the jobs that they are out with.
 pub fn same_handler(a: &Handler, b: &Handler) -> bool
     ensures { IsTrue result ↔ handler_of a.now ≡ handler_of b.now }
 {
     same_standing(a, b) && same_requests(a, b)
+}
+
+/// Whether two handlers are read alike, each by the counts of the sessions in its core: they are equal but for the
+/// counts in their marks, and if one may be tried again, so may the other.
+pub fn read_alike(a: &Handler, sessions: &[u64], b: &Handler, their_sessions: &[u64]) -> bool
+    ensures { IsTrue result ↔ canon_handler (slice_index sessions.now) (handler_of a.now) ≡ canon_handler (slice_index their_sessions.now) (handler_of b.now) }
+{
+    read_standing_alike(a, sessions, b, their_sessions) && same_requests(a, b)
+}
+
+/// Whether two handlers have stages that are read alike and equal counts of refusals, whatever they serve and whatever
+/// is in their queues.
+fn read_standing_alike(a: &Handler, sessions: &[u64], b: &Handler, their_sessions: &[u64]) -> bool
+    ensures { IsTrue result
+        ↔ StandAlike (canon_handler (slice_index sessions.now) (handler_of a.now)) (canon_handler (slice_index their_sessions.now) (handler_of b.now)) }
+{
+    read_stage_alike(a, sessions, b, their_sessions)
+        && same_handlers(&a.entry, &b.entry)
+        && a.answer == b.answer
+        && a.failure == b.failure
+        && a.refused == b.refused
+}
+
+/// Whether the stages of two handlers are read alike. An entry and its mark count only if they are to be reserved.
+fn read_stage_alike(a: &Handler, sessions: &[u64], b: &Handler, their_sessions: &[u64]) -> bool
+    ensures { IsTrue result
+        ↔ canon_stage (slice_index sessions.now) (stage_of a.now.entry.items a.now.mark a.now.stage)
+        ≡ canon_stage (slice_index their_sessions.now) (stage_of b.now.entry.items b.now.mark b.now.stage) }
+{
+    match (a.stage, b.stage) {
+        (HandlerStage::Reserves, HandlerStage::Reserves) => {
+            same_handlers(&a.entry, &b.entry)
+                && a.mark.reads_alike(sessions, &b.mark, their_sessions)
+        }
+        (stage, its_stage) => stage == its_stage,
+    }
 }
 
 /// Whether two handlers have equal stages and counts, whatever they serve and whatever is in their queues.

@@ -1,0 +1,8 @@
+use Rattle.std.proofs.Common.{◌∙◌, slice_index, sym, ap}
+use Rattle.sc_handler.specs.Canonical.{marked_in}
+use Rattle.sc_handler.proofs.ReadAlike.{marked_of}
+use Rattle.sc_handler.proofs.wait_mark.WaitMark.of.Goals as goal
+
+pub invariant_of-result : goal.invariant_of-result
+invariant_of-result c =
+    (c.listed.ensures ∙ sym (marked_of (slice_index c.args.sessions.now) c.args.reserved.now) ∙ ap marked_in (sym c.of.ensures), tt)
