@@ -1,8 +1,9 @@
 -- What a search finds, or doesn't, beside the machine.
 use Rattle.std.proofs.Common.{◌≡◌, ◌⊎◌, ◌*◌, inl, inr, ℕ, List, [], ◌∷◌, Some, slice_get, sym, subst}
 use Rattle.sc_lockpass.specs.declared.version.Version.{Version}
+use Rattle.sc_lockpass.specs.Versions.{most_handlers}
 use Rattle.sc_code.specs.declared.program.Image.{Image}
-use Rattle.sc_world.specs.Kept.{PlainKept, kept}
+use Rattle.sc_world.specs.Kept.{KeptAlikeReadAlike, PlainKept, kept}
 use Rattle.sc_world.specs.Reports.{statuses}
 use Rattle.sc_world.specs.Worlds.{PlainWorld, opened}
 use Rattle.sc_refines_world.specs.Anew.{AnewRunsAsMachine, RunsAnew}
@@ -43,8 +44,8 @@ module _ (p : Image) (v : Version) (a : Aim) (ks : List PlainKept) (closed : IsC
       let next = stays_in hs t.after t.among.number t.among.stands in
       (next.0, (t.before, t.after, (t.stands_in.handlers, t.stands_in.runs), t.stands_in.kept, t.turn, next.1), next.2)
 
-pub whole : AnewRunsAsMachine → StandingWorldIsNear → WorldReportsAsMachine → WholeSearchesFindAll
-whole runs_as near tells text root program version aim states loaded closed =
+pub whole : AnewRunsAsMachine → KeptAlikeReadAlike → StandingWorldIsNear → WorldReportsAsMachine → WholeSearchesFindAll
+whole runs_as alike near tells text root program version aim states loaded closed =
     let s = loaded.system in
     record {
       system = s;
@@ -53,9 +54,10 @@ whole runs_as near tells text root program version aim states loaded closed =
       none = λ handlers met.
           let there = stays_in program version aim states closed handlers (opened program version) closed.opens.number closed.opens.stands in
           let w = machine_after s root version handlers in
-          let stands = runs_as s root loaded.sound.faultless loaded.sound.well_formed program version handlers there.0 loaded.is_program loaded.fits there.1 in
-          let told = tells s program w there.0 (near s program w there.0 stands) in
-          there.2 (subst (IsMet aim) (sym told.1) met);
+          let kept_as = runs_as s root loaded.sound.faultless loaded.sound.well_formed program version handlers there.0 loaded.is_program loaded.fits there.1 in
+          let told = tells s program w kept_as.world (near s program w kept_as.world kept_as.stands) in
+          let same = (alike program (most_handlers version) kept_as.world there.0 kept_as.alike).statuses in
+          there.2 (subst (IsMet aim) same (subst (IsMet aim) (sym told.1) met));
     }
 
 -- ---- where a search gives up

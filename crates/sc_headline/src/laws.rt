@@ -16,7 +16,9 @@ use sc_refines_world::laws::{
 use sc_refines_world::once::runs_are_functional;
 use sc_request::laws::core_picks_where_the_machine_turns;
 use sc_world::World;
-use sc_world::laws::{attempts_stay_of_their_program, openings_are_of_their_program};
+use sc_world::laws::{
+    attempts_stay_of_their_program, kept_alike_read_alike, openings_are_of_their_program,
+};
 
 /// For every source text that is accepted, and whatever handlers make turns, in every order, of the state that the machine on
 /// trees reaches: requests are posted under a right, taken once and in order, and none is dropped but by a failure; the handlers of
@@ -151,6 +153,7 @@ pub fn whole_searches_find_all()
     ensures { WholeSearchesFindAll }
 {
     anew_runs_as_machine();
+    kept_alike_read_alike();
     standing_world_is_near();
     world_reports_as_machine();
 }

@@ -15,6 +15,7 @@ pub mod Picks
 pub mod PuttingBack
 mod ReachedStates
 mod Refined
+mod PlayedAnew
 mod OtherStages
 mod Reports
 mod WorldTurns

@@ -29,12 +29,10 @@ use Rattle.sc_refines_world.specs.regions.Order.{EachInOrder, OpensInOrder, Turn
 use Rattle.sc_machine_laws.specs.SettledObjects.{SettledMeetWhereReached}
 use Rattle.sc_machine_laws.specs.settlements.Reached.{EntriesAreRemembered, HalvesWhereReached}
 use Rattle.sc_refines_world.specs.regions.Joined as joined
-use Rattle.sc_world.specs.Kept.{KeptAlikeAreAlike, OpeningsAreOf, RunsStayOf}
 use Rattle.sc_world.specs.Worlds.{opened}
 use Rattle.sc_refines_world.specs.Refining.{IsRunWithin, MachineHasHeadline, RoundsRunAsMachine, StoppedRoundsStayNear, StoppedWorldStaysNear, WorldHasHeadline, WorldRunsAsMachine}
 use Rattle.sc_refines_world.specs.Standing.{names_in}
-use Rattle.sc_refines_world.specs.Anew.{AnewRunsAsMachine}
-use Rattle.sc_refines_world.proofs.RefinedRuns.{stands_along, stands_anew}
+use Rattle.sc_refines_world.proofs.RefinedRuns.{stands_along}
 use Rattle.sc_refines_world.proofs.Rounds.{refused_next_stops, rounds_are_turns, stops_join}
 use Rattle.sc_refines_world.proofs.RoundTurns.{WorldsStand, rounds_go}
 use Rattle.sc_refines_world.proofs.IdleWorlds.{idle_world_is_idle}
@@ -113,14 +111,6 @@ module _ (picks : PicksWhereTurns) (halves : HalvesWhereReached) (remembered : E
       (stores_turn s root faultless well p program fits most) (halves_meet s root faultless well p program fits most) (λ h. new_sound p) (followed s root faultless well p program fits most)
       (asked s root faultless well p program fits most) (kept s root faultless well p program fits most) (λ h k w stage past few. created most s h k w stage past few)
       (settled_here s root faultless well p program fits most) (end_there s root faultless well p program fits most) picks halves remembered hs y runs
-
-  pub anew_runs_as_machine : KeptAlikeAreAlike → OpeningsAreOf → RunsStayOf → AnewRunsAsMachine
-  anew_runs_as_machine alike open_of stay s root faultless well p v hs y program fits runs =
-      let most : ℕ = most_handlers v in
-      stands_anew s root p faultless well program fits v (Placed s root faultless well p program fits most) (Needs s root faultless well p program fits most)
-      (stores_turn s root faultless well p program fits most) (halves_meet s root faultless well p program fits most) (λ h. new_sound p) (followed s root faultless well p program fits most)
-      (asked s root faultless well p program fits most) (kept s root faultless well p program fits most) (λ h k w stage past few. created most s h k w stage past few)
-      (settled_here s root faultless well p program fits most) (end_there s root faultless well p program fits most) picks halves remembered alike open_of stay hs y runs
 
 -- ---- what follows of that alone
 

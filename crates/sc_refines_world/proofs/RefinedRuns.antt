@@ -22,13 +22,11 @@ use Rattle.sc_play.specs.Regions.{PlainRegion, new_region}
 use Rattle.sc_code.specs.RequestRoom.{FitsRequests}
 use Rattle.sc_request.specs.Laws.{PicksWhereTurns}
 use Rattle.sc_machine_laws.specs.settlements.Reached.{EntriesAreRemembered, HalvesWhereReached, RemembersAlong}
-use Rattle.sc_world.specs.Kept.{KeptAlikeAreAlike, OpeningsAreOf, RunsStayOf}
 use Rattle.sc_world.specs.Turning.{Runs}
 use Rattle.sc_world.specs.Worlds.{PlainWorld, max_handlers, opened}
-use Rattle.sc_refines_world.specs.Anew.{RunsAnew}
 use Rattle.sc_refines_world.specs.Standing.{IsRegionFor, StandsFor, names_in}
 use Rattle.sc_refines_world.proofs.Opening.{opened_at, opened_length, opened_named, opened_state, opens_new}
-use Rattle.sc_refines_world.proofs.WorldTurns.{Beside, CreatedAreNew, HalvesMeet, OthersKeep, RegionsAskSo, RegionsFollow, SettledMeet, StoresTurn, TurnsEndThere, along, along_anew, beside_stands}
+use Rattle.sc_refines_world.proofs.WorldTurns.{Beside, CreatedAreNew, HalvesMeet, OthersKeep, RegionsAskSo, RegionsFollow, SettledMeet, StoresTurn, TurnsEndThere, along, beside_stands}
 
 some_room : (v : Version) → 1 ≤ most_handlers v
 some_room One = omega arith
@@ -91,13 +89,3 @@ module _ (s : System) (root : Root) (p : Image) (faultless : IsFaultless s root)
 
     pub remembered : (hs : List ℕ) → RemembersAlong most n s hs (opening s root) (opened p v).center.state
     remembered hs = subst (RemembersAlong most n s hs (opening s root)) (sym (opened_state s root p program fits)) (entries_are_remembered s root faultless well most n hs)
-
-    -- the same where each turn is made in a world that is played anew
-    pub stands_anew : KeptAlikeAreAlike → OpeningsAreOf → RunsStayOf → (hs : List ℕ) (y : PlainWorld) → RunsAnew p v hs (opened p v) y →
-        StandsFor s p (run most s hs (opening s root)) y
-    stands_anew alike open_of stay hs y runs =
-        let last = along_anew s root p faultless well most Placed Needs stores_turn halves_meet new_placed follow ask others_keep created settled_meet end_there picks reached_halves
-        v alike stay (λ u played. stay p most played.0 (opened p v) u (open_of p v) played.1)
-        hs (opening s root) (opened p v) y (record { numbers = []; run_is = refl }) core (remembered hs) start (open_of p v) runs in
-        beside_stands s root p faultless well most Placed Needs stores_turn halves_meet new_placed follow ask others_keep created settled_meet end_there picks reached_halves
-        (run most s hs (opening s root)) y (few_handlers v) last.1 last.0

@@ -34,11 +34,9 @@ use Rattle.sc_play.specs.Regions.{PlainRegion, Plays, new_region}
 use Rattle.sc_play.specs.Turns.{FirstTurn, Turns, first, more}
 use Rattle.sc_refines_world.specs.regions.Taking.{IsNamed}
 use Rattle.sc_machine_laws.specs.settlements.Reached.{HalvesWhereReached, RemembersAlong, RemembersEntry}
-use Rattle.sc_world.specs.Kept.{IsOf, KeptAlikeAreAlike, RunsStayOf, with_last}
 use Rattle.sc_world.specs.Turning.{IsTurn, Makes, Runs, TurnsUnder}
 use Rattle.sc_world.specs.Worlds.{PlainWorld, max_handlers}
 use Rattle.sc_lockpass.specs.declared.version.Version.{Version}
-use Rattle.sc_refines_world.specs.Anew.{IsPlayed, RunsAnew}
 use Rattle.sc_refines_world.specs.Standing.{IsRegionFor, StandsFor, names_in}
 use Rattle.sc_refines_world.proofs.Asked.{AllAsk, WantAsks, settled_asks, settled_counts}
 use Rattle.sc_refines_world.proofs.RequestNames.{are_named}
@@ -345,38 +343,3 @@ module _ (s : System) (root : Root) (p : Image) (faultless : IsFaultless s root)
             let at = slice_get-get_or x.regions h (new_region p h) there in
             let few : h < x.center.state.count = omega (arith, l, half.count) in
             (slice_index_or x.regions h (new_region p h), at, (b.regions h (slice_index_or x.regions h (new_region p h)) at few).0)
-
-    -- ---- turns in worlds that are played anew
-
-    -- It matters to none of that which handler was picked last.
-    relast : (k : ℕ) (w : machine.World) (x : PlainWorld) → Here w x → Here w (with_last k x)
-    relast k w x b = record {
-      same_most = b.same_most;
-      none_out = b.none_out;
-      few = b.few;
-      named = b.named;
-      many = b.many;
-      regions = b.regions;
-      others = b.others;
-    }
-
-    module _ (of : Version) (alike : KeptAlikeAreAlike) (stay : RunsStayOf) (are_of : (u : PlainWorld) → IsPlayed p of u → IsOf p most u) where
-      pub along_anew : (hs : List ℕ) (w : machine.World) (x y : PlainWorld) → IsReached most s root w → IsHalfOf n w x.center.state →
-          RemembersAlong most n s hs w x.center.state → Here w x → IsOf p most x → RunsAnew p of hs x y → Here (run most s hs w) y × IsHalfOf n (run most s hs w) y.center.state
-      along_anew [] w x y reached half all b is_of runs =
-          let same : with_last y.center.last x ≡ y = alike p most x y is_of (are_of y runs.0) (sym runs.1) in (
-            subst (Here w) same (relast y.center.last w x b),
-            subst (λ (v : PlainWorld). IsHalfOf n w v.center.state) same half,
-          )
-      along_anew (h ∷ hs) w x y reached half all b is_of runs =
-          let u = runs.0 in
-          let z = runs.1 in
-          let u_of = are_of u runs.2 in
-          let same : with_last u.center.last x ≡ u = alike p most x u is_of u_of (sym runs.3) in
-          let bu : Here w u = subst (Here w) same (relast u.center.last w x b) in
-          let half_u : IsHalfOf n w u.center.state = subst (λ (v : PlainWorld). IsHalfOf n w v.center.state) same half in
-          let all_u : RemembersAlong most n s (h ∷ hs) w u.center.state = subst (λ (v : PlainWorld). RemembersAlong most n s (h ∷ hs) w v.center.state) same all in
-          let t = turn_steps h w u z reached half_u all_u.0 bu runs.4 in
-          let next = reached_halves s root faultless well most n h w u.center.state reached half_u all_u.0 in
-          along_anew hs (turn most s h w) z y (one_further most s root h w reached) (subst (IsHalfOf n (turn most s h w)) (sym t.1) next)
-          (subst (RemembersAlong most n s hs (turn most s h w)) (sym t.1) all_u.1) t.0 (stay p most (h ∷ []) u z u_of (z, runs.4, refl)) runs.5

@@ -15,7 +15,7 @@ use sc_machine_laws::settlements::laws::{
 };
 use sc_request::laws::core_picks_where_the_machine_turns;
 use sc_world::laws::{
-    kept_alike_are_alike, openings_are_of_their_program, runs_stay_of_their_program,
+    kept_alike_turn_alike, openings_are_of_their_program, runs_stay_of_their_program,
 };
 
 /// The turns of any handlers lead the world of an accepted system's program to one that represents the state to which
@@ -37,23 +37,13 @@ pub fn world_runs_as_machine()
     sound_jobs_are_taken();
 }
 
-/// So do turns that are each made in a world that is played anew, where that is kept alike with what the turn before left.
+/// Turns that are each made in a world that is played anew, of which the same is kept as of what the turn before left,
+/// lead to a world of which the same is kept as of that one.
 pub fn anew_runs_as_machine()
     ensures { AnewRunsAsMachine }
 {
-    core_picks_where_the_machine_turns();
-    core_settles_as_half_where_reached();
-    entries_are_remembered();
-    settled_objects_meet();
-    regions_follow();
-    regions_ask();
-    others_keep_halves();
-    created_are_new();
-    openings_are_in_order();
-    turns_keep_order();
-    new_stores_are_sound();
-    sound_jobs_are_taken();
-    kept_alike_are_alike();
+    world_runs_as_machine();
+    kept_alike_turn_alike();
     openings_are_of_their_program();
     runs_stay_of_their_program();
 }

@@ -2,12 +2,13 @@
 ghost use Rattle.std.specs.Prelude.{◌≡◌, ◌≤◌, ◌↔◌, IfOk, IsTrue, slice_get, slice_index, vec_len};
 ghost use Rattle.sc_lockpass.specs.Tables.{rights_of};
 ghost use Rattle.sc_handler.specs.Handlers.{new_handler};
+ghost use Rattle.sc_handler.specs.Canonical.{canon};
 ghost use Rattle.sc_request.specs.Tables.{handler_at, handler_in};
 ghost use Rattle.sc_request.specs.Cores.{state_of};
-ghost use Rattle.sc_request.specs.Keeping.{AreNewFrom, holders_in, rights_in};
+ghost use Rattle.sc_request.specs.Keeping.{AreNewFrom, holders_in, read_at, rights_in};
 
 use crate::center::Core;
-use sc_handler::{Handler, same_handler};
+use sc_handler::{Handler, read_alike, same_handler};
 use sc_lockpass::{HandlerNumber, Rights};
 use std::alloc::{AllocError, Global};
 
@@ -18,8 +19,9 @@ pub(crate) struct Holders {
     top: Option<HandlerNumber>,
 }
 
-/// The state of a core: its handlers, and who holds which. It takes memory for the handlers that there are, and for
-/// their queues. The jobs that handlers are out with, the handler picked last and the log are no part of it.
+/// The state of a core as it is read: its handlers, and who holds which. It takes memory for the handlers that there
+/// are, and for their queues. Of the counts of sessions it matters only whether one has risen since a mark was made.
+/// The jobs that handlers are out with, the handler picked last and the log are no part of it.
 #[derive(Drop)]
 pub struct KeptCore {
     /// How many handlers there are.
@@ -36,13 +38,13 @@ pub struct KeptCore {
 impl Core {
     ghost use Rattle.sc_request.specs.Kept.{kept_of};
 
-    /// The state of the core, to be kept. The core is consumed.
+    /// The state of the core as it is read, to be kept. The core is consumed.
     ///
     /// # Errors
     /// Memory ran out. The core is gone then, too.
-    #[tactic(auto, using(crate::proofs::KeptCores::same_states))]
+    #[tactic(auto, using(crate::proofs::KeptCores::same_canon))]
     pub fn keep(self, alloc: Global) -> Result<KeptCore, AllocError>
-        ensures { IfOk result (λ core. kept_of core ≡ state_of self) }
+        ensures { IfOk result (λ core. kept_of core ≡ canon (state_of self)) }
     {
         let holders = all_holders(alloc, &self.state.rights)?;
         let (handlers, sessions) = without_new(self.state.handlers, self.state.sessions);
@@ -58,19 +60,20 @@ impl Core {
 impl KeptCore {
     ghost use Rattle.sc_request.specs.Kept.{kept_of};
 
-    /// Whether the state of a core is the one that is kept.
-    #[tactic(auto, using(crate::proofs::KeptCores::same_states))]
+    /// Whether the state of a core is read as the one that is kept.
     pub fn is_same(&self, core: &Core) -> bool
-        ensures { IsTrue result ↔ kept_of self.now ≡ state_of core.now }
+        ensures { IsTrue result ↔ kept_of self.now ≡ canon (state_of core.now) }
     {
-        self.count == core.state.count
-            && same_handlers(
-                &self.handlers,
-                &self.sessions,
-                &core.state.handlers,
-                &core.state.sessions,
-            )
-            && self.has_same_rights(&core.state.rights)
+        if self.count != core.state.count {
+            return false;
+        }
+        let state = &core.state;
+        are_read_alike(
+            &self.handlers,
+            &self.sessions,
+            &state.handlers,
+            &state.sessions,
+        ) && self.has_same_rights(&state.rights)
     }
 
     /// Whether each has the same holders.
@@ -134,23 +137,40 @@ fn sessions_at(sessions: &[u64], place: usize) -> u64
     sessions.get(place).copied().unwrap_or(0)
 }
 
-/// Whether the handlers and the counts of their sessions are equal, if all after them are new.
-fn same_handlers(
+/// Whether the handlers are read alike, each by the counts of its core, if all after them are new.
+fn are_read_alike(
     handlers: &[Handler],
     sessions: &[u64],
     others: &[Handler],
     their_sessions: &[u64],
 ) -> bool
-    ensures { IsTrue result ↔ handler_at handlers.now sessions.now ≡ handler_at others.now their_sessions.now }
+    ensures { IsTrue result ↔ read_at handlers.now sessions.now ≡ read_at others.now their_sessions.now }
 {
     let most = handlers.len().max(others.len());
-    let most = most.max(sessions.len()).max(their_sessions.len());
     for place in 0..most {
-        if !same_at(handlers, sessions, others, their_sessions, place) {
+        if !are_read_alike_at(handlers, sessions, others, their_sessions, place) {
             return false;
         }
     }
     true
+}
+
+/// Whether the handlers at a place are read alike. A missing one counts as new.
+fn are_read_alike_at(
+    handlers: &[Handler],
+    sessions: &[u64],
+    others: &[Handler],
+    their_sessions: &[u64],
+    place: usize,
+) -> bool
+    ensures { IsTrue result ↔ read_at handlers.now sessions.now place ≡ read_at others.now their_sessions.now place }
+{
+    match (handlers.get(place), others.get(place)) {
+        (Some(handler), Some(other)) => read_alike(handler, sessions, other, their_sessions),
+        (Some(handler), None) => handler.is_fresh(),
+        (None, Some(other)) => other.is_fresh(),
+        (None, None) => true,
+    }
 }
 
 /// Whether the handlers at a place, and the counts of their sessions, are equal. A missing one counts as new.

@@ -9,8 +9,7 @@ ghost use Rattle.sc_request.specs.Settling.{reserves};
 
 use crate::state::State;
 use arrayvec::ArrayVec;
-use sc_handler::{Answer, Dropped, HandlerStage, SparePlaces, copy_handlers};
-use sc_lockpass::wait_conditions::Mark;
+use sc_handler::{Answer, Dropped, HandlerStage, SparePlaces, WaitMark, copy_handlers};
 use sc_lockpass::{HandlerNumber, Passed};
 use sc_model::Cause;
 use sc_region::Request;
@@ -66,11 +65,11 @@ impl State {
         let place = &mut self.handlers[handler as usize];
         place.stage = HandlerStage::Reserves;
         place.entry = copy_handlers(entry);
-        place.mark = Mark::new();
+        place.mark = WaitMark::new();
     }
 
     /// The reserve step of the handler comes again, after a wait with this mark.
-    pub(crate) fn reserve_again(&mut self, handler: HandlerNumber, mark: Mark)
+    pub(crate) fn reserve_again(&mut self, handler: HandlerNumber, mark: WaitMark)
         requires { handler < 512 }
         ensures plain { plain self.new ≡ with_stage handler (Reserves ((plain self.old).handlers handler).entry mark) (plain self.old) }
         ensures outs { outs_of self.new ≡ outs_of self.old }

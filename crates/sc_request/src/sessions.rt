@@ -12,7 +12,7 @@ ghost use Rattle.sc_request.specs.Settling.{waits_again};
 ghost use Rattle.sc_request.specs.Tables.{CountsUp};
 
 use crate::state::State;
-use sc_lockpass::wait_conditions::Mark;
+use sc_handler::WaitMark;
 use sc_lockpass::{HandlerNumber, Rights};
 
 /// Releases these handlers, whoever holds them.
@@ -85,7 +85,7 @@ impl State {
         ensures outs { outs_of self.new ≡ outs_of self.old }
         ensures version { self.new.rights.version ≡ self.old.rights.version }
     {
-        let mark = Mark::of(handlers, self.sessions.as_slice());
+        let mark = WaitMark::of(handlers, self.sessions.as_slice());
         self.reserve_again(handler, mark);
         release_each(&mut self.rights, handlers);
     }

@@ -9,8 +9,8 @@ use sc_request::KeptCore;
 use std::alloc::AllocError;
 use std::hash::{FoldHasher, Hasher};
 
-/// What a world held: the state of its core, and the regions of its handlers. It takes memory for the handlers that there
-/// are. The handler picked last and the log are no part of it.
+/// What a world held: the state of its core as it is read, and the regions of its handlers. It takes memory for the
+/// handlers that there are. The counts of sessions, the handler picked last and the log are no part of it.
 #[derive(Drop)]
 pub struct KeptWorld<'p> {
     pub(crate) core: KeptCore,
@@ -51,8 +51,8 @@ impl<'p> KeptWorld<'p> {
     ghost use Rattle.sc_world.specs.Kept.{kept, kept_of};
     ghost use Rattle.sc_world.specs.Views.{world_of};
 
-    /// Whether a world holds what is kept: an equal state of the core, and in each region equal objects, frames,
-    /// output and failure.
+    /// Whether a world holds what is kept: a state of the core that is read alike, and in each region equal objects,
+    /// frames, output and failure.
     pub fn is_same(&self, world: &World<'_>) -> bool
         ensures { IsTrue result ↔ kept_of self.now ≡ kept (world_of world.now) }
     {

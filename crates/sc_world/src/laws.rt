@@ -1,9 +1,13 @@
 //! What holds in each world that turns lead to, each the contract of a function that does nothing.
 ghost use Rattle.sc_world.specs.Free.{FreeObjectsMeet, OpeningsAreLinked, RoundsStayLinked, RunsStayLinked, StoppedRoundsStayLinked, StoppedRunsStayLinked};
-ghost use Rattle.sc_world.specs.Kept.{AttemptsStayOf, KeptAlikeAreAlike, OpeningsAreOf, RunsStayOf};
+ghost use Rattle.sc_world.specs.Kept.{AttemptsStayOf, KeptAlikeReadAlike, KeptAlikeTurnAlike, OpeningsAreOf, RunsStayOf};
 ghost use Rattle.sc_world.specs.Views.{world_of};
 
 use crate::world::World;
+use sc_counts::laws::{
+    alike_are_read_alike, alike_settle_alike, openings_are_counted, picks_stay_counted,
+    put_backs_stay_counted, settlements_stay_counted,
+};
 use sc_lockpass::HandlerNumber;
 
 /// At the opening each handler serves in the core what its region serves.
@@ -45,19 +49,38 @@ pub fn free_objects_meet(world: &World<'_>, handler: HandlerNumber)
 /// At the opening of a program all regions belong to it, and no handler is out.
 pub fn openings_are_of_their_program()
     ensures { OpeningsAreOf }
-{}
+{
+    openings_are_counted();
+}
 
 /// and it stays so after the turns of any handlers.
 pub fn runs_stay_of_their_program()
     ensures { RunsStayOf }
-{}
+{
+    settlements_stay_counted();
+}
 
 /// So it does where memory is refused to some of them.
 pub fn attempts_stay_of_their_program()
     ensures { AttemptsStayOf }
-{}
+{
+    picks_stay_counted();
+    put_backs_stay_counted();
+    settlements_stay_counted();
+}
 
-/// Worlds of one program whose kept parts are equal are equal, apart from the handler picked last.
-pub fn kept_alike_are_alike()
-    ensures { KeptAlikeAreAlike }
-{}
+/// In worlds of one program that are kept alike the handlers have the same jobs and statuses, and the reports are the
+/// same.
+pub fn kept_alike_read_alike()
+    ensures { KeptAlikeReadAlike }
+{
+    alike_are_read_alike();
+}
+
+/// From worlds of one program that are kept alike the turns of a handler lead to worlds that are kept alike.
+pub fn kept_alike_turn_alike()
+    ensures { KeptAlikeTurnAlike }
+{
+    alike_are_read_alike();
+    alike_settle_alike();
+}

@@ -2,4 +2,4 @@ use Rattle.sc_headline.proofs.SearchLaws.{whole}
 use Rattle.sc_headline.proofs.laws.whole_searches_find_all.Goals as goal
 
 pub returns : goal.returns
-returns c = whole c.anew_runs_as_machine.ensures c.standing_world_is_near.ensures c.world_reports_as_machine.ensures
+returns c = whole c.anew_runs_as_machine.ensures c.kept_alike_read_alike.ensures c.standing_world_is_near.ensures c.world_reports_as_machine.ensures

@@ -1,21 +1,10 @@
-use Rattle.sc_refines_world.proofs.Refined.{anew_runs_as_machine}
+use Rattle.sc_refines_world.proofs.PlayedAnew.{anew_runs_as_machine}
 use Rattle.sc_refines_world.proofs.laws.anew_runs_as_machine.Goals as goal
 
 pub returns : goal.returns
 returns c =
     anew_runs_as_machine
-    c.core_picks_where_the_machine_turns.ensures
-    c.core_settles_as_half_where_reached.ensures
-    c.entries_are_remembered.ensures
-    c.settled_objects_meet.ensures
-    c.regions_follow.ensures
-    c.regions_ask.ensures
-    c.others_keep_halves.ensures
-    c.created_are_new.ensures
-    c.openings_are_in_order.ensures
-    c.turns_keep_order.ensures
-    c.new_stores_are_sound.ensures
-    c.sound_jobs_are_taken.ensures
-    c.kept_alike_are_alike.ensures
+    c.world_runs_as_machine.ensures
+    c.kept_alike_turn_alike.ensures
     c.openings_are_of_their_program.ensures
     c.runs_stay_of_their_program.ensures

@@ -1,0 +1,5 @@
+use Rattle.sc_world.proofs.KeptWorlds.{kept_alike_turn_alike}
+use Rattle.sc_world.proofs.laws.kept_alike_turn_alike.Goals as goal
+
+pub returns : goal.returns
+returns c = kept_alike_turn_alike c.alike_are_read_alike.ensures c.alike_settle_alike.ensures
