@@ -1,0 +1,9 @@
+//! Orders of turns: which handlers an order may still give a turn, whatever worlds and turns are.
+//!
+//! A search knows states and the edges between them. [`may_move`] goes back over the edges, from the states in which a
+//! handler has a turn. `specs/Orders` says what it means that a handler never moves.
+#![tactic(auto)]
+
+mod edges;
+
+pub use edges::{Edge, may_move};
