@@ -1,5 +1,5 @@
 -- What edges tell of orders.
-use Rattle.std.proofs.Common.{◌≡◌, ◌⊎◌, ◌∙◌, ◌++◌, inl, inr, ℕ, Bool, true, false, List, [], ◌∷◌, Some, get_or, slice_get, refl, sym, ap, subst}
+use Rattle.std.proofs.Common.{◌≡◌, ◌⊎◌, ◌∙◌, ◌++◌, inl, inr, ℕ, Bool, true, false, List, [], ◌∷◌, get_or, refl, sym, ap, subst}
 use Rattle.sc_orders.specs.declared.edges.Edge.{Edge}
 use Rattle.sc_orders.specs.Edges as edge
 use Rattle.sc_orders.specs.Edges.{Along, HasEdge, Here}

@@ -9,7 +9,8 @@ use Rattle.sc_world.specs.Reports.{statuses}
 use Rattle.sc_world.specs.Worlds.{PlainWorld}
 use Rattle.sc_search.specs.declared.aims.Aim.{Aim}
 use Rattle.sc_search.specs.Aims.{IsMet}
-use Rattle.sc_search.specs.Steps.{Keeps}
+use Rattle.sc_search.specs.Steps.{AddsEdge, Keeps}
+use Rattle.sc_search.specs.Views.{Met}
 
 -- ---- lists
 
@@ -45,20 +46,22 @@ pub unmet_not : (b : Bool) (P : Type 0) → b ≡ false → (IsTrue b ↔ P) →
 unmet_not true P e is p = let no : true ≡ false = e in cc
 unmet_not false P e is p = let no : false ≡ true = is.1 p in cc
 
-module _ (a : Aim) (w : PlainWorld) (ks : List PlainKept) (b : Bool) (not_met : b ≡ false) (tells : IsTrue b ↔ IsMet a (statuses w)) where
+module _ (a : Aim) (w : PlainWorld) (from : Option ℕ) (x : Met) (b : Bool) (not_met : b ≡ false) (tells : IsTrue b ↔ IsMet a (statuses w)) where
   -- the state was met before
-  pub keeps_found : (ls : List PlainKept) (number : ℕ) → ls ≡ ks → slice_get ks number ≡ Some (kept w) → Keeps a w ks ls
-  keeps_found ls number same at = record {
+  pub keeps_found : (y : Met) (number : ℕ) → y.states ≡ x.states → slice_get x.states number ≡ Some (kept w) → AddsEdge from number x.edges y.edges → Keeps a w from x y
+  keeps_found y number same at edge = record {
     among = record { number = number; stands = ap (λ (ms : List PlainKept). slice_get ms number) same ∙ at };
     grows = inl same;
+    edge = edge;
     unmet = unmet_not b (IsMet a (statuses w)) not_met tells;
   }
 
   -- it is met now
-  pub keeps_new : (ls : List PlainKept) → ls ≡ ks ++ kept w ∷ [] → Keeps a w ks ls
-  keeps_new ls more = record {
-    among = record { number = length ks; stands = ap (λ (ms : List PlainKept). slice_get ms (length ks)) more ∙ get_last ks (kept w) };
+  pub keeps_new : (y : Met) → y.states ≡ x.states ++ kept w ∷ [] → AddsEdge from (length x.states) x.edges y.edges → Keeps a w from x y
+  keeps_new y more edge = record {
+    among = record { number = length x.states; stands = ap (λ (ms : List PlainKept). slice_get ms (length x.states)) more ∙ get_last x.states (kept w) };
     grows = inr more;
+    edge = edge;
     unmet = unmet_not b (IsMet a (statuses w)) not_met tells;
   }
 

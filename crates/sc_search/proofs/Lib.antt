@@ -5,3 +5,4 @@ mod TriedTurns
 mod Reasons
 mod Verdicts
 mod Rows
+mod Waits

@@ -63,10 +63,11 @@ met_by a b ss w tells met same = subst (λ (ts : List Status). IsMet a ts) same 
 module _ (p : Image) (v : Version) (a : Aim) where
   -- ---- what is played
 
-  pub reached_none : AreReached p v a [] [] 0
+  pub reached_none : AreReached p v a [] [] [] 0
   reached_none = record {
     each = λ number k at. cc;
     count = refl;
+    rows = refl;
     played = record { orders = []; each = λ i order at. cc; many = omega arith };
   }
 
@@ -81,19 +82,20 @@ module _ (p : Image) (v : Version) (a : Aim) where
   }
 
   -- the state was met before
-  pub reached_again : (ks : List PlainKept) (os : List (List ℕ)) (turns more : ℕ) (order : List ℕ) (w : PlainWorld) → Runs order (opened p v) w →
-      more ≤ turns + length order → AreReached p v a ks os turns → AreReached p v a ks os more
-  reached_again ks os turns more order w runs le so = record {
+  pub reached_again : (ks : List PlainKept) (os : List (List ℕ)) (ts : List (List Status)) (turns more : ℕ) (order : List ℕ) (w : PlainWorld) → Runs order (opened p v) w →
+      more ≤ turns + length order → AreReached p v a ks os ts turns → AreReached p v a ks os ts more
+  reached_again ks os ts turns more order w runs le so = record {
     each = so.each;
     count = so.count;
+    rows = so.rows;
     played = played_more turns more order w runs le so.played;
   }
 
   -- it is met now
-  pub reached_new : (ks ls : List PlainKept) (os ms : List (List ℕ)) (turns more : ℕ) (order : List ℕ) (w : PlainWorld) → Runs order (opened p v) w →
-      (IsMet a (statuses w) → ⊥) → more ≤ turns + length order → ls ≡ ks ++ kept w ∷ [] → ms ≡ os ++ order ∷ [] →
-      AreReached p v a ks os turns → AreReached p v a ls ms more
-  reached_new ks ls os ms turns more order w runs unmet le states orders so = record {
+  pub reached_new : (ks ls : List PlainKept) (os ms : List (List ℕ)) (ts us : List (List Status)) (turns more : ℕ) (order : List ℕ) (w : PlainWorld) →
+      Runs order (opened p v) w → (IsMet a (statuses w) → ⊥) → more ≤ turns + length order → ls ≡ ks ++ kept w ∷ [] → ms ≡ os ++ order ∷ [] →
+      us ≡ ts ++ statuses w ∷ [] → AreReached p v a ks os ts turns → AreReached p v a ls ms us more
+  reached_new ks ls os ms ts us turns more order w runs unmet le states orders told so = record {
     each = λ i k at. one i k (get_split ks (kept w) i k (subst (λ (xs : List PlainKept). slice_get xs i ≡ Some k) states at));
     count = omega (
       arith,
@@ -103,10 +105,18 @@ module _ (p : Image) (v : Version) (a : Aim) where
       length-append ks (kept w ∷ []),
       length-append os (order ∷ []),
     );
+    rows = omega (
+      arith,
+      ap (λ (xs : List PlainKept). length xs) states,
+      ap (λ (xs : List (List Status)). length xs) told,
+      so.rows,
+      length-append ks (kept w ∷ []),
+      length-append ts (statuses w ∷ []),
+    );
     played = played_more turns more order w runs le so.played;
   }
     where
-      one : (i : ℕ) (k : PlainKept) → (slice_get ks i ≡ Some k) ⊎ ((i ≡ length ks) × (k ≡ kept w)) → IsReached p v a ms i k
+      one : (i : ℕ) (k : PlainKept) → (slice_get ks i ≡ Some k) ⊎ ((i ≡ length ks) × (k ≡ kept w)) → IsReached p v a ms us i k
       one i k (inl before) =
           let r = so.each i k before in
           record {
@@ -115,6 +125,7 @@ module _ (p : Image) (v : Version) (a : Aim) where
             world = r.world;
             runs = r.runs;
             kept_is = r.kept_is;
+            told_is = subst (λ (xs : List (List Status)). slice_get xs i ≡ Some (statuses r.world)) (sym told) (get_before ts (statuses w) i (statuses r.world) r.told_is);
             unmet = r.unmet;
           }
       one i k (inr last) = record {
@@ -125,14 +136,17 @@ module _ (p : Image) (v : Version) (a : Aim) where
         world = w;
         runs = runs;
         kept_is = sym last.1;
+        told_is =
+            subst (λ (xs : List (List Status)). slice_get xs i ≡ Some (statuses w)) (sym told)
+            (subst (λ (j : ℕ). slice_get (ts ++ statuses w ∷ []) j ≡ Some (statuses w)) (so.rows ∙ sym last.0) (get_last ts (statuses w)));
         unmet = unmet;
       }
 
   -- ---- why it stops
 
   -- as many states are met as may be
-  pub full : (ks : List PlainKept) (os : List (List ℕ)) (turns limit : ℕ) → AreReached p v a ks os turns → limit ≤ length ks → GivesUp p v a limit
-  full ks os turns limit so many = AllMet (record {
+  pub full : (ks : List PlainKept) (os : List (List ℕ)) (ts : List (List Status)) (turns limit : ℕ) → AreReached p v a ks os ts turns → limit ≤ length ks → GivesUp p v a limit
+  full ks os ts turns limit so many = AllMet (record {
     states = ks;
     many = many;
     unmet = λ i k at.
@@ -156,9 +170,9 @@ module _ (p : Image) (v : Version) (a : Aim) where
     differ = λ e. apart (led.1.stands ∙ ap (λ (x : PlainWorld). Some (kept x)) e);
   })
 
-  pub led : (ks : List PlainKept) (os : List (List ℕ)) (turns number : ℕ) (path : List ℕ) → AreReached p v a ks os turns → number < length ks →
+  pub led : (ks : List PlainKept) (os : List (List ℕ)) (ts : List (List Status)) (turns number : ℕ) (path : List ℕ) → AreReached p v a ks os ts turns → number < length ks →
       ((order : List ℕ) → slice_get os number ≡ Some order → path ≡ order) → IsLedTo p v ks number path
-  led ks os turns number path so there same =
+  led ks os ts turns number path so there same =
       let k = there_is ks number there in
       let r = so.each number k.0 k.1 in (
         r.world,

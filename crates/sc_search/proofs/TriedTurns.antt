@@ -1,5 +1,5 @@
 -- Turns that are tried.
-use Rattle.std.proofs.Common.{◌≡◌, ◌⊎◌, ◌+◌, ◌<◌, ◌≤◌, ◌++◌, ◌∙◌, inl, inr, ℕ, Bool, true, false, List, [], ◌∷◌, Option, Some, None, get_or, is_some, length, slice_get, refl, sym, ap, subst, arith}
+use Rattle.std.proofs.Common.{◌≡◌, ◌⊎◌, ◌+◌, ◌<◌, ◌^◌, ◌≤◌, ◌++◌, ◌∙◌, inl, inr, ℕ, Bool, true, false, List, [], ◌∷◌, Option, Some, None, get_or, is_some, length, slice_get, refl, sym, ap, subst, arith}
 use Rattle.std.specs.Prelude.{nat_lt, if◌then◌else◌}
 use Rattle.std.proofs.lemmas.Bool.{cases_lt, ltb-true}
 use Rattle.std.proofs.lemmas.Option.{slice_get-get_or, slice_get_within}
@@ -7,59 +7,142 @@ use Rattle.sc_lockpass.specs.declared.version.Version.{Version}
 use Rattle.sc_code.specs.declared.program.Image.{Image}
 use Rattle.sc_region.specs.declared.job.Job.{Job}
 use Rattle.sc_request.specs.Logs.{Center, pick_for}
+use Rattle.sc_orders.specs.declared.edges.Edge.{Edge}
+use Rattle.sc_orders.specs.Edges.{HasEdge}
 use Rattle.sc_world.specs.Kept.{PlainKept, kept}
+use Rattle.sc_world.specs.Reports.{statuses}
 use Rattle.sc_world.specs.Turning.{IsTurn, Runs, TurnsUnder}
 use Rattle.sc_world.specs.Worlds.{PlainWorld, opened}
 use Rattle.sc_world.proofs.Runs.{runs-more}
 use Rattle.sc_search.specs.declared.aims.Aim.{Aim}
 use Rattle.sc_search.specs.Closed.{IsAmong, IsClosed, IsTried, IsUnmet}
-use Rattle.sc_search.specs.Steps.{AreUnmet, Extends, IsTriedAt, Keeps, Opens, Stands, Tries, TriesAll}
-use Rattle.sc_search.proofs.KeptStates.{get_before, get_either, same_some}
+use Rattle.sc_search.specs.Aims.{IsMet}
+use Rattle.sc_search.specs.Steps.{AddsEdge, AreTurns, AreUnmet, Extends, IsEdge, IsExplored, IsTriedAlong, IsTriedAt, Keeps, Opens, OpensAlone, Stands, Tries, TriesAll}
+use Rattle.sc_search.specs.Views.{Met, nothing_met}
+use Rattle.sc_search.proofs.KeptStates.{get_before, get_either, get_last, same_some}
+
+-- an edge that is added
+adds_stay : (from : Option ℕ) (to : ℕ) (es fs : List Edge) → AddsEdge from to es fs → (place : ℕ) (e : Edge) → slice_get es place ≡ Some e → slice_get fs place ≡ Some e
+adds_stay None to es fs same place e at = subst (λ (xs : List Edge). slice_get xs place ≡ Some e) (sym same) at
+adds_stay (Some from) to es fs more place e at = subst (λ (xs : List Edge). slice_get xs place ≡ Some e) (sym more.3) (get_before es more.0 place e at)
+
+adds_here : (from to : ℕ) (es fs : List Edge) → AddsEdge (Some from) to es fs → HasEdge fs from to
+adds_here from to es fs more = record {
+  place = length es;
+  edge = more.0;
+  at = subst (λ (xs : List Edge). slice_get xs (length es) ≡ Some more.0) (sym more.3) (get_last es more.0);
+  from_is = more.1;
+  to_is = more.2;
+}
 
 module _ (p : Image) (v : Version) (a : Aim) where
   -- ---- states behind others
 
-  pub extends_none : (ks : List PlainKept) → Extends p v a ks ks
-  extends_none ks = record { stay = λ i k at. at; unmet = λ all. all }
+  pub extends_none : (x : Met) → Extends p v a x x
+  extends_none x = record { stay = λ i k at. at; unmet = λ all. all; edges_stay = λ place e at. at; turns = λ all. all }
 
-  pub extends_all : (ks ls ms : List PlainKept) → Extends p v a ks ls → Extends p v a ls ms → Extends p v a ks ms
-  extends_all ks ls ms e f = record { stay = λ i k at. f.stay i k (e.stay i k at); unmet = λ all. f.unmet (e.unmet all) }
-
-  -- a world to which turns lead is kept
-  pub extends_kept : (hs : List ℕ) (w : PlainWorld) (ks ls : List PlainKept) → Runs hs (opened p v) w → Keeps a w ks ls → Extends p v a ks ls
-  extends_kept hs w ks ls runs keeps = elim keeps.grows [
-    | inl same ↦ subst (λ (ms : List PlainKept). Extends p v a ks ms) (sym same) (extends_none ks)
-    | inr more ↦ subst (λ (ms : List PlainKept). Extends p v a ks ms) (sym more) (record {
-      stay = λ i k at. get_before ks (kept w) i k at;
-      unmet = λ all i k at. one all i k (get_either ks (kept w) i k at);
-    })
-  ]
-    where
-      one : AreUnmet p v a ks → (i : ℕ) (k : PlainKept) → (slice_get ks i ≡ Some k) ⊎ (k ≡ kept w) → IsUnmet p v a k
-      one all i k (inl at) = all i k at
-      one all i k (inr new) = record { world = w; stands_in = record { handlers = hs; runs = runs; kept = sym new }; unmet = keeps.unmet }
-
-  tried_still : (ls ms : List PlainKept) (k : PlainKept) (h : ℕ) → Extends p v a ls ms → IsTried p v ls k h → IsTried p v ms k h
-  tried_still ls ms k h e t = record {
-    before = t.before;
-    after = t.after;
-    stands_in = t.stands_in;
-    turn = t.turn;
-    among = record { number = t.among.number; stands = e.stay t.among.number (kept t.after) t.among.stands };
+  pub extends_all : (x y z : Met) → Extends p v a x y → Extends p v a y z → Extends p v a x z
+  extends_all x y z e f = record {
+    stay = λ i k at. f.stay i k (e.stay i k at);
+    unmet = λ all. f.unmet (e.unmet all);
+    edges_stay = λ place g at. f.edges_stay place g (e.edges_stay place g at);
+    turns = λ all. f.turns (e.turns all);
   }
+
+  grows_stay : (w : PlainWorld) (ks ls : List PlainKept) → (ls ≡ ks) ⊎ (ls ≡ ks ++ kept w ∷ []) → (i : ℕ) (k : PlainKept) → slice_get ks i ≡ Some k → slice_get ls i ≡ Some k
+  grows_stay w ks ls (inl same) i k at = subst (λ (ms : List PlainKept). slice_get ms i ≡ Some k) (sym same) at
+  grows_stay w ks ls (inr more) i k at = subst (λ (ms : List PlainKept). slice_get ms i ≡ Some k) (sym more) (get_before ks (kept w) i k at)
+
+  grows_unmet : (hs : List ℕ) (w : PlainWorld) (ks ls : List PlainKept) → Runs hs (opened p v) w → (IsMet a (statuses w) → ⊥) →
+      (ls ≡ ks) ⊎ (ls ≡ ks ++ kept w ∷ []) → AreUnmet p v a ks → AreUnmet p v a ls
+  grows_unmet hs w ks ls runs unmet (inl same) all = subst (AreUnmet p v a) (sym same) all
+  grows_unmet hs w ks ls runs unmet (inr more) all = subst (AreUnmet p v a) (sym more) (λ i k at. one i k (get_either ks (kept w) i k at))
+    where
+      one : (i : ℕ) (k : PlainKept) → (slice_get ks i ≡ Some k) ⊎ (k ≡ kept w) → IsUnmet p v a k
+      one i k (inl at) = all i k at
+      one i k (inr new) = record { world = w; stands_in = record { handlers = hs; runs = runs; kept = sym new }; unmet = unmet }
+
+  edge_still : (ks ls : List PlainKept) (e : Edge) → ((i : ℕ) (k : PlainKept) → slice_get ks i ≡ Some k → slice_get ls i ≡ Some k) → IsEdge p v ks e → IsEdge p v ls e
+  edge_still ks ls e stay is = record {
+    handler = is.handler;
+    before = is.before;
+    after = is.after;
+    played = is.played;
+    turn = is.turn;
+    from = stay e.from (kept is.before) is.from;
+    to = stay e.to (kept is.after) is.to;
+  }
+
+  -- the first state is kept
+  pub extends_opening : (hs : List ℕ) (w : PlainWorld) (x y : Met) → Runs hs (opened p v) w → Keeps a w None x y → Extends p v a x y
+  extends_opening hs w x y runs keeps = record {
+    stay = grows_stay w x.states y.states keeps.grows;
+    unmet = grows_unmet hs w x.states y.states runs keeps.unmet keeps.grows;
+    edges_stay = adds_stay None keeps.among.number x.edges y.edges keeps.edge;
+    turns = λ all place e at. edge_still x.states y.states e (grows_stay w x.states y.states keeps.grows)
+        (all place e (subst (λ (xs : List Edge). slice_get xs place ≡ Some e) keeps.edge at));
+  }
+
+  -- a world to which the turn of a handler leads is kept
+  pub extends_kept : (hs : List ℕ) (number h : ℕ) (u w : PlainWorld) (x y : Met) → Runs hs (opened p v) u → slice_get x.states number ≡ Some (kept u) → IsTurn h u w →
+      Keeps a w (Some number) x y → Extends p v a x y
+  extends_kept hs number h u w x y runs at turn keeps = record {
+    stay = stay;
+    unmet = grows_unmet (hs ++ h ∷ []) w x.states y.states (runs-more hs h (opened p v) u w runs turn) keeps.unmet keeps.grows;
+    edges_stay = adds_stay (Some number) keeps.among.number x.edges y.edges keeps.edge;
+    turns = λ all place e at_e. one all place e
+        (get_either x.edges keeps.edge.0 place e (subst (λ (xs : List Edge). slice_get xs place ≡ Some e) keeps.edge.3 at_e));
+  }
+    where
+      stay : (i : ℕ) (k : PlainKept) → slice_get x.states i ≡ Some k → slice_get y.states i ≡ Some k
+      stay = grows_stay w x.states y.states keeps.grows
+
+      new : IsEdge p v y.states keeps.edge.0
+      new = record {
+        handler = h;
+        before = u;
+        after = w;
+        played = (hs, runs);
+        turn = turn;
+        from = subst (λ (n : ℕ). slice_get y.states n ≡ Some (kept u)) (sym keeps.edge.1) (stay number (kept u) at);
+        to = subst (λ (n : ℕ). slice_get y.states n ≡ Some (kept w)) (sym keeps.edge.2) keeps.among.stands;
+      }
+
+      one : AreTurns p v x → (place : ℕ) (e : Edge) → (slice_get x.edges place ≡ Some e) ⊎ (e ≡ keeps.edge.0) → IsEdge p v y.states e
+      one all place e (inl before) = edge_still x.states y.states e stay (all place e before)
+      one all place e (inr last) = subst (IsEdge p v y.states) (sym last) new
+
+  tried_still : (y z : Met) (number : ℕ) (k : PlainKept) (h : ℕ) → Extends p v a y z → IsTriedAlong p v y number k h → IsTriedAlong p v z number k h
+  tried_still y z number k h e t = record {
+    tried = record {
+      before = t.tried.before;
+      after = t.tried.after;
+      stands_in = t.tried.stands_in;
+      turn = t.tried.turn;
+      among = record { number = t.tried.among.number; stands = e.stay t.tried.among.number (kept t.tried.after) t.tried.among.stands };
+    };
+    edge = along t.edge;
+  }
+    where
+      along : (t.tried.among.number ≡ number) ⊎ HasEdge y.edges number t.tried.among.number → (t.tried.among.number ≡ number) ⊎ HasEdge z.edges number t.tried.among.number
+      along (inl same) = inl same
+      along (inr has) = inr (record { place = has.place; edge = has.edge; at = e.edges_stay has.place has.edge has.at; from_is = has.from_is; to_is = has.to_is })
 
   -- ---- one turn
 
-  pub tries : (hs : List ℕ) (number h : ℕ) (x y : PlainWorld) (ks ls : List PlainKept) → Runs hs (opened p v) x → slice_get ks number ≡ Some (kept x) → IsTurn h x y →
-      Keeps a y ks ls → Tries p v a ks ls number h
-  tries hs number h x y ks ls runs at turn keeps = record {
-    extends = extends_kept (hs ++ h ∷ []) y ks ls (runs-more hs h (opened p v) x y runs turn) keeps;
+  pub tries : (hs : List ℕ) (number h : ℕ) (u w : PlainWorld) (x y : Met) → Runs hs (opened p v) u → slice_get x.states number ≡ Some (kept u) → IsTurn h u w →
+      Keeps a w (Some number) x y → Tries p v a x y number h
+  tries hs number h u w x y runs at turn keeps = record {
+    extends = extends_kept hs number h u w x y runs at turn keeps;
     tried = λ k here. record {
-      before = x;
-      after = y;
-      stands_in = record { handlers = hs; runs = runs; kept = same_some (kept x) k (sym at ∙ here) };
-      turn = turn;
-      among = keeps.among;
+      tried = record {
+        before = u;
+        after = w;
+        stands_in = record { handlers = hs; runs = runs; kept = same_some (kept u) k (sym at ∙ here) };
+        turn = turn;
+        among = keeps.among;
+      };
+      edge = inr (adds_here number keeps.among.number x.edges y.edges keeps.edge);
     };
   }
 
@@ -67,48 +150,51 @@ module _ (p : Image) (v : Version) (a : Aim) where
   stays : (h : ℕ) (x : PlainWorld) → pick_for h x.center ≡ None → IsTurn h x x
   stays h x e = subst (λ (o : Option Job). TurnsUnder h o x x) (sym e) refl
 
-  stays_tried : (number h : ℕ) (hs : List ℕ) (x : PlainWorld) (ks : List PlainKept) → Stands p v ks number hs x → pick_for h x.center ≡ None → IsTriedAt p v ks ks number h
-  stays_tried number h hs x ks stands e k here = record {
-    before = x;
-    after = x;
-    stands_in = record { handlers = hs; runs = stands.runs; kept = same_some (kept x) k (sym stands.stands ∙ here) };
-    turn = stays h x e;
-    among = record { number = number; stands = stands.stands };
+  stays_tried : (number h : ℕ) (hs : List ℕ) (w : PlainWorld) (x : Met) → Stands p v x.states number hs w → pick_for h w.center ≡ None → IsTriedAt p v x x number h
+  stays_tried number h hs w x stands e k here = record {
+    tried = record {
+      before = w;
+      after = w;
+      stands_in = record { handlers = hs; runs = stands.runs; kept = same_some (kept w) k (sym stands.stands ∙ here) };
+      turn = stays h w e;
+      among = record { number = number; stands = stands.stands };
+    };
+    edge = inl refl;
   }
 
-  pub tries_none : (number h : ℕ) (hs : List ℕ) (x : PlainWorld) (ks : List PlainKept) → Stands p v ks number hs x → pick_for h x.center ≡ None → Tries p v a ks ks number h
-  tries_none number h hs x ks stands e = record { extends = extends_none ks; tried = stays_tried number h hs x ks stands e }
+  pub tries_none : (number h : ℕ) (hs : List ℕ) (w : PlainWorld) (x : Met) → Stands p v x.states number hs w → pick_for h w.center ≡ None → Tries p v a x x number h
+  tries_none number h hs w x stands e = record { extends = extends_none x; tried = stays_tried number h hs w x stands e }
 
   -- ---- the turns of all
 
   -- the turns of the handlers below are tried
-  pub record TriesBelow (ks ls : List PlainKept) (number below : ℕ) : Type 0 where
-    pub extends : Extends p v a ks ls
-    pub tried : (h : ℕ) → h < below → IsTriedAt p v ks ls number h
+  pub record TriesBelow (x y : Met) (number below : ℕ) : Type 0 where
+    pub extends : Extends p v a x y
+    pub tried : (h : ℕ) → h < below → IsTriedAt p v x y number h
 
-  pub tries_first : (ks : List PlainKept) (number : ℕ) → TriesBelow ks ks number 0
-  tries_first ks number = record { extends = extends_none ks; tried = λ h few. absurd (omega (arith, few)) }
+  pub tries_first : (x : Met) (number : ℕ) → TriesBelow x x number 0
+  tries_first x number = record { extends = extends_none x; tried = λ h few. absurd (omega (arith, few)) }
 
   pub stands_along : (ks : List PlainKept) (number : ℕ) (hs gs path : List ℕ) (x : PlainWorld) → hs ≡ path → gs ≡ path → Runs hs (opened p v) x → slice_get ks number ≡ Some (kept x) →
       Stands p v ks number gs x
   stands_along ks number hs gs path x e f runs at = record { runs = subst (λ (ts : List ℕ). Runs ts (opened p v) x) (e ∙ sym f) runs; stands = at }
 
-  pub stands_still : (ks ls : List PlainKept) (number : ℕ) (hs : List ℕ) (x : PlainWorld) → Extends p v a ks ls → Stands p v ks number hs x → Stands p v ls number hs x
-  stands_still ks ls number hs x e stands = record { runs = stands.runs; stands = e.stay number (kept x) stands.stands }
+  pub stands_still : (x y : Met) (number : ℕ) (hs : List ℕ) (w : PlainWorld) → Extends p v a x y → Stands p v x.states number hs w → Stands p v y.states number hs w
+  stands_still x y number hs w e stands = record { runs = stands.runs; stands = e.stay number (kept w) stands.stands }
 
-  pub tries_next : (ks ls ms : List PlainKept) (number below : ℕ) → TriesBelow ks ls number below → Tries p v a ls ms number below → TriesBelow ks ms number (below + 1)
-  tries_next ks ls ms number below so one = record {
-    extends = extends_all ks ls ms so.extends one.extends;
+  pub tries_next : (x y z : Met) (number below : ℕ) → TriesBelow x y number below → Tries p v a y z number below → TriesBelow x z number (below + 1)
+  tries_next x y z number below so one = record {
+    extends = extends_all x y z so.extends one.extends;
     tried = λ h few k here. elim (cases_lt h below) [
-      | inl less ↦ tried_still ls ms k h one.extends (so.tried h less k here)
+      | inl less ↦ tried_still y z number k h one.extends (so.tried h less k here)
       | inr more ↦
           let same : h ≡ below = omega (arith, few, more) in
-          subst (λ (i : ℕ). IsTried p v ms k i) (sym same) (one.tried k (so.extends.stay number k here))
+          subst (λ (i : ℕ). IsTriedAlong p v z number k i) (sym same) (one.tried k (so.extends.stay number k here))
     ];
   }
 
   -- there is none from the count on
-  none_past : (h : ℕ) (c : Center) → c.state.count ≤ h → pick_for h c ≡ None
+  pub none_past : (h : ℕ) (c : Center) → c.state.count ≤ h → pick_for h c ≡ None
   none_past h c past = by (is_some (c.out h)) (nat_lt h c.state.count) _ refl
     where
       by : (o b : Bool) (j : Option Job) → nat_lt h c.state.count ≡ b → (if o then None else (if b then j else None)) ≡ None
@@ -116,58 +202,80 @@ module _ (p : Image) (v : Version) (a : Aim) where
       by false false j e = refl
       by false true j e = absurd (omega (arith, past, ltb-true h c.state.count e))
 
-  pub tries_all : (ks ls : List PlainKept) (number : ℕ) (hs : List ℕ) (x : PlainWorld) (below : ℕ) → TriesBelow ks ls number below → Stands p v ks number hs x →
-      x.center.state.count ≤ below → TriesAll p v a ks ls number
-  tries_all ks ls number hs x below so stands all = record {
+  pub tries_all : (x y : Met) (number : ℕ) (hs : List ℕ) (w : PlainWorld) (below : ℕ) → TriesBelow x y number below → Stands p v x.states number hs w →
+      w.center.state.count ≤ below → TriesAll p v a x y number
+  tries_all x y number hs w below so stands all = record {
     extends = so.extends;
     tried = λ h k here. elim (cases_lt h below) [
       | inl less ↦ so.tried h less k here
       | inr more ↦
-          stays_tried number h hs x ls (stands_still ks ls number hs x so.extends stands) (none_past h x.center (omega (arith, all, more))) k (so.extends.stay number k here)
+          stays_tried number h hs w y (stands_still x y number hs w so.extends stands) (none_past h w.center (omega (arith, all, more))) k (so.extends.stay number k here)
     ];
   }
 
   -- ---- all states
 
   -- the states of the numbers below are done
-  pub record ClosesBelow (ks : List PlainKept) (below : ℕ) : Type 0 where
-    pub opens : Opens p v a ks
-    pub tried : (i : ℕ) (k : PlainKept) → i < below → slice_get ks i ≡ Some k → (h : ℕ) → IsTried p v ks k h
+  pub record ClosesBelow (x : Met) (below : ℕ) : Type 0 where
+    pub opens : Opens p v a x.states
+    pub turns : AreTurns p v x
+    pub tried : (i : ℕ) (k : PlainKept) → i < below → slice_get x.states i ≡ Some k → (h : ℕ) → IsTriedAlong p v x i k h
 
-  pub opens_kept : (w : PlainWorld) (ks : List PlainKept) → Runs [] (opened p v) w → Keeps a w [] ks → Opens p v a ks
-  opens_kept w ks runs keeps = record {
-    opens = subst (λ (x : PlainWorld). IsAmong ks (kept x)) runs keeps.among;
-    unmet = (extends_kept [] w [] ks runs keeps).unmet (λ i k at. cc);
+  pub opens_kept : (w : PlainWorld) (x y : Met) → x ≡ nothing_met → Runs [] (opened p v) w → Keeps a w None x y → OpensAlone p v a y
+  opens_kept w x y none runs keeps = record {
+    opens = record {
+      opens = subst (λ (u : PlainWorld). IsAmong y.states (kept u)) runs keeps.among;
+      unmet = (extends_opening [] w x y runs keeps).unmet (λ i k at. nowhere i k (subst (λ (m : Met). slice_get m.states i ≡ Some k) none at));
+    };
+    alone = keeps.edge ∙ ap (λ (m : Met). m.edges) none;
   }
+    where
+      nowhere : (i : ℕ) (k : PlainKept) → slice_get [] i ≡ Some k → IsUnmet p v a k
+      nowhere i k at = cc
 
-  pub closes_first : (ks : List PlainKept) → Opens p v a ks → ClosesBelow ks 0
-  closes_first ks opens = record { opens = opens; tried = λ i k few at h. absurd (omega (arith, few)) }
+  pub closes_first : (x : Met) → OpensAlone p v a x → ClosesBelow x 0
+  closes_first x opens = record {
+    opens = opens.opens;
+    turns = λ place e at. nowhere place e (subst (λ (xs : List Edge). slice_get xs place ≡ Some e) opens.alone at);
+    tried = λ i k few at h. absurd (omega (arith, few));
+  }
+    where
+      nowhere : (place : ℕ) (e : Edge) → slice_get [] place ≡ Some e → IsEdge p v x.states e
+      nowhere place e at = cc
 
-  pub closes_next : (ks ls : List PlainKept) (below : ℕ) → ClosesBelow ks below → TriesAll p v a ks ls below → below < length ks → ClosesBelow ls (below + 1)
-  closes_next ks ls below so all there = record {
+  pub closes_next : (x y : Met) (below : ℕ) → ClosesBelow x below → TriesAll p v a x y below → below < length x.states → ClosesBelow y (below + 1)
+  closes_next x y below so all there = record {
     opens = record {
       opens = record { number = so.opens.opens.number; stands = all.extends.stay so.opens.opens.number (kept (opened p v)) so.opens.opens.stands };
       unmet = all.extends.unmet so.opens.unmet;
     };
+    turns = all.extends.turns so.turns;
     tried = λ i k few at h. one i k few at h;
   }
     where
-      one : (i : ℕ) (k : PlainKept) → i < below + 1 → slice_get ls i ≡ Some k → (h : ℕ) → IsTried p v ls k h
+      one : (i : ℕ) (k : PlainKept) → i < below + 1 → slice_get y.states i ≡ Some k → (h : ℕ) → IsTriedAlong p v y i k h
       one i k few at h =
-          let was : PlainKept = get_or ks i k in
-          let stood : slice_get ks i ≡ Some was = slice_get-get_or ks i k (omega (arith, few, there)) in
+          let was : PlainKept = get_or x.states i k in
+          let stood : slice_get x.states i ≡ Some was = slice_get-get_or x.states i k (omega (arith, few, there)) in
           let same : was ≡ k = same_some was k (sym (all.extends.stay i was stood) ∙ at) in
-          let here : slice_get ks i ≡ Some k = stood ∙ ap Some same in
+          let here : slice_get x.states i ≡ Some k = stood ∙ ap Some same in
           elim (cases_lt i below) [
-            | inl less ↦ tried_still ks ls k h all.extends (so.tried i k less here h)
+            | inl less ↦ tried_still x y i k h all.extends (so.tried i k less here h)
             | inr more ↦
                 let last : i ≡ below = omega (arith, few, more) in
-                all.tried h k (subst (λ (j : ℕ). slice_get ks j ≡ Some k) last here)
+                subst (λ (j : ℕ). IsTriedAlong p v y j k h) (sym last) (all.tried h k (subst (λ (j : ℕ). slice_get x.states j ≡ Some k) last here))
           ]
 
-  pub closes : (ks : List PlainKept) (below : ℕ) → ClosesBelow ks below → length ks ≤ below → IsClosed p v a ks
-  closes ks below so all = record {
+  pub closes : (x : Met) (below : ℕ) → ClosesBelow x below → length x.states ≤ below → IsClosed p v a x.states
+  closes x below so all = record {
     opens = so.opens.opens;
     unmet = so.opens.unmet;
-    tried = λ i k at h. let there = slice_get_within ks i k at in so.tried i k (omega (arith, all, there)) at h;
+    tried = λ i k at h. let there = slice_get_within x.states i k at in (so.tried i k (omega (arith, all, there)) at h).tried;
+  }
+
+  pub explores : (x : Met) (below : ℕ) → ClosesBelow x below → length x.states ≤ below → below < 2 ^ 32 → IsExplored p v x
+  explores x below so all few = record {
+    along = λ i k at h. let there = slice_get_within x.states i k at in so.tried i k (omega (arith, all, there)) at h;
+    turns = so.turns;
+    few = omega (arith, all, few);
   }

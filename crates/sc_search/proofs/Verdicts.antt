@@ -1,29 +1,82 @@
 -- What is found, and what a whole search shows.
-use Rattle.std.proofs.Common.{◌≡◌, ℕ, List, sym, subst}
+use Rattle.std.proofs.Common.{◌≡◌, ◌∙◌, ℕ, Bool, true, false, List, Option, Some, None, Result, Ok, Err, length, refl, sym, subst}
+use Rattle.std.specs.Prelude.{IfNone, IfOk, IfSome, min}
 use Rattle.sc_lockpass.specs.declared.version.Version.{Version}
 use Rattle.sc_audit.specs.declared.line.RecordLine.{RecordLine}
-use Rattle.sc_model.specs.declared.status.Status.{Status}
 use Rattle.sc_code.specs.declared.program.Image.{Image}
-use Rattle.sc_world.specs.Reports.{statuses}
+use Rattle.sc_world.specs.Kept.{PlainKept}
 use Rattle.sc_world.specs.Turning.{Runs}
 use Rattle.sc_world.specs.Worlds.{PlainWorld, opened}
 use Rattle.sc_search.specs.declared.aims.Aim.{Aim}
-use Rattle.sc_search.specs.Aims.{IsMet}
+use Rattle.sc_search.specs.declared.progress.Stop.{Stop}
+use Rattle.sc_search.specs.declared.verdict.Finding.TheVariants as finding
+use Rattle.sc_search.specs.declared.verdict.Verdict.{Verdict}
+use Rattle.sc_search.specs.Closed.{IsClosed}
 use Rattle.sc_search.specs.Found.{EndsFirst, LeadsTo, RunsUnmet, turns_of}
+use Rattle.sc_search.specs.Verdicts.{IsShown}
+use Rattle.sc_search.specs.Waiting.{AreMoving, IsSought, seeks_stuck}
+use Rattle.sc_search.specs.Limits.{SaysWhy}
 use Rattle.sc_search.proofs.OrderEnds.{unmet_runs}
+use Rattle.sc_search.proofs.Reasons.{says_whole}
 
-pub leads : (p : Image) (v : Version) (a : Aim) (lines : List RecordLine) (turns : List ℕ) (w : PlainWorld) (Stand : List Status → Type 0) (ss : List Status) →
-    turns_of lines ≡ turns → RunsUnmet a turns (opened p v) w → ss ≡ statuses w → Stand ss → LeadsTo p v lines Stand
-leads p v a lines turns w Stand ss same runs told stand = record {
+pub leads : (p : Image) (v : Version) (a : Aim) (lines : List RecordLine) (turns : List ℕ) (w : PlainWorld) (Holds : PlainWorld → Type 0) →
+    turns_of lines ≡ turns → RunsUnmet a turns (opened p v) w → Holds w → LeadsTo p v lines Holds
+leads p v a lines turns w Holds same runs holds = record {
   world = w;
   runs = subst (λ (hs : List ℕ). Runs hs (opened p v) w) (sym same) (unmet_runs a turns (opened p v) w runs);
-  stand = subst Stand told stand;
+  holds = holds;
 }
 
-pub ends_first : (p : Image) (v : Version) (a : Aim) (lines : List RecordLine) (turns : List ℕ) (w : PlainWorld) (ss : List Status) →
-    turns_of lines ≡ turns → RunsUnmet a turns (opened p v) w → ss ≡ statuses w → IsMet a ss → EndsFirst p v a lines
-ends_first p v a lines turns w ss same runs told met = record {
+pub ends_first : (p : Image) (v : Version) (a : Aim) (lines : List RecordLine) (turns : List ℕ) (w : PlainWorld) →
+    turns_of lines ≡ turns → RunsUnmet a turns (opened p v) w → IsSought p v a w → EndsFirst p v a lines
+ends_first p v a lines turns w same runs sought = record {
   world = w;
   runs = subst (λ (hs : List ℕ). RunsUnmet a hs (opened p v) w) (sym same) runs;
-  met = subst (λ (ts : List Status). IsMet a ts) told met;
+  sought = sought;
 }
+
+-- ---- whole searches
+
+abbrev nowhere : Option Stop
+nowhere = None
+
+never : {A : Type 0} → true ≡ false → A
+never e = cc
+
+pub never_none : {A X : Type 0} (x : X) → Some x ≡ None → A
+never_none x e = cc
+
+pub at_some : {X : Type 0} (P : X → Type 0) (o : Option X) (x : X) → o ≡ Some x → IfSome o P → IfSome (Some x) P
+at_some P o x e is = subst (λ m. IfSome m P) e is
+
+pub of_limit : {X E : Type 0} (P : X → ℕ → Type 0) (r : Result X E) (n : ℕ) → IfOk r (λ x. (l : ℕ) → P x l) → IfOk r (λ x. P x n)
+of_limit P (Ok x) n all = all n
+of_limit P (Err e) n all = tt
+
+module _ (p : Image) (v : Version) (a : Aim) (ks : List PlainKept) (b : Bool) where
+  -- of states that are closed and in which no handler waits for good
+  pub closed_shown : {E : Type 0} (r : Result Verdict E) → IsClosed p v a ks → AreMoving p v a ks →
+      IfOk r (λ d. d.is_whole ≡ true → (b ≡ true) × (nowhere ≡ None) × (d.finding ≡ finding.Nothing)) →
+      IfOk r (λ d. d.states ≡ min (length ks) 4294967295) → IfOk r (IsShown p v a)
+  closed_shown (Ok d) closed moving whole count = λ e. record { nothing = (whole e).2; states = ks; number = count; closed = closed; moving = moving }
+  closed_shown (Err e) closed moving whole count = tt
+
+  -- if stuck handlers aren't looked for, or the search stopped before
+  pub other_shown : {E : Type 0} (r : Result Verdict E) (s : Option Stop) → IfNone s (IsClosed p v a ks) → (s ≡ None → seeks_stuck a ≡ true → ⊥) →
+      IfOk r (λ d. d.is_whole ≡ true → (b ≡ true) × (s ≡ None) × (d.finding ≡ finding.Nothing)) →
+      IfOk r (λ d. d.states ≡ min (length ks) 4294967295) → IfOk r (IsShown p v a)
+  other_shown (Ok d) None closed other whole count =
+      λ e. record { nothing = (whole e).2; states = ks; number = count; closed = closed; moving = λ seeks. absurd (other refl seeks) }
+  other_shown (Ok d) (Some s) closed other whole count = λ e. never_none s (whole e).1
+  other_shown (Err e) s closed other whole count = tt
+
+  -- one that found an order isn't whole
+  pub found_shown : {E : Type 0} (r : Result Verdict E) → IfOk r (λ d. d.is_whole ≡ false) → IfOk r (IsShown p v a)
+  found_shown (Ok d) not_whole = λ e. never (sym e ∙ not_whole)
+  found_shown (Err e) not_whole = tt
+
+  -- and says why, whole or not
+  pub says_any : {E : Type 0} (r : Result Verdict E) → IfOk r (λ d. (limit : ℕ) → SaysWhy p v a limit false d.finding) →
+      IfOk r (λ d. (limit : ℕ) → SaysWhy p v a limit d.is_whole d.finding)
+  says_any (Ok d) why = λ limit. says_whole p v a limit d.is_whole d.finding (why limit)
+  says_any (Err e) why = tt

@@ -27,7 +27,7 @@ is_of kind.IsWaiting Free = false
 abbrev pub some_is : Kind → List Status → Bool
 some_is k statuses = list_any (is_of k) statuses
 
--- None of the handlers has anything to do, and one waits.
+-- None of the handlers has anything to do, and one waits: it waits for good.
 pub record AreStuck (statuses : List Status) : Type 0 where
   pub idle : some_is kind.IsBusy statuses ≡ false
   pub waits : some_is kind.IsWaiting statuses ≡ true
@@ -36,7 +36,7 @@ pub record AreStuck (statuses : List Status) : Type 0 where
 abbrev pub HasFailed : List Status → Type 0
 HasFailed statuses = some_is kind.HasFailed statuses ≡ true
 
--- The statuses are what is looked for.
+-- The statuses show what is looked for: by themselves they show that handlers are stuck only if none has a turn.
 abbrev pub IsMet : Aim → List Status → Type 0
 IsMet aim.Stuck statuses = AreStuck statuses
 IsMet aim.Fails statuses = HasFailed statuses

@@ -30,13 +30,13 @@ pub record IsTried (p : Image) (v : Version) (ks : List PlainKept) (k : PlainKep
   pub turn : IsTurn h before after
   pub among : IsAmong ks (kept after)
 
--- A world is in the state, and its statuses aren't what is looked for.
+-- A world is in the state, and its statuses don't show what is looked for.
 pub record IsUnmet (p : Image) (v : Version) (a : Aim) (k : PlainKept) : Type 0 where
   pub world : PlainWorld
   pub stands_in : IsIn p v k world
   pub unmet : IsMet a (statuses world) → ⊥
 
--- The opening of the program is in one of the states. In none of them the statuses are what is looked for, and each
+-- The opening of the program is in one of the states. In none of them the statuses show what is looked for, and each
 -- turn of each handler leads from each of them to one of them.
 pub record IsClosed (p : Image) (v : Version) (a : Aim) (ks : List PlainKept) : Type 0 where
   pub opens : IsAmong ks (kept (opened p v))

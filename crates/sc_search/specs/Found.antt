@@ -3,7 +3,6 @@ use Rattle.std.specs.Prelude.{◌≡◌, ℕ, List, [], ◌∷◌, is_some, repl
 use Rattle.std.specs.List.{flat_map}
 use Rattle.sc_lockpass.specs.declared.version.Version.{Version}
 use Rattle.sc_audit.specs.declared.line.RecordLine.{RecordLine}
-use Rattle.sc_model.specs.declared.status.Status.{Status}
 use Rattle.sc_code.specs.declared.program.Image.{Image}
 use Rattle.sc_request.specs.Logs.{pick_for}
 use Rattle.sc_world.specs.Reports as told
@@ -12,7 +11,8 @@ use Rattle.sc_world.specs.Worlds.{PlainWorld, opened}
 use Rattle.sc_search.specs.declared.verdict.Finding.{Finding}
 use Rattle.sc_search.specs.declared.verdict.Finding.TheVariants as finding
 use Rattle.sc_search.specs.declared.aims.Aim.{Aim}
-use Rattle.sc_search.specs.Aims.{AreStuck, HasFailed, IsMet}
+use Rattle.sc_search.specs.Aims.{HasFailed, IsMet}
+use Rattle.sc_search.specs.Waiting.{IsSought, SomeWaits}
 
 abbrev pub line_turns : RecordLine → List ℕ
 line_turns line = replicate line.turns line.handler
@@ -21,36 +21,40 @@ line_turns line = replicate line.turns line.handler
 abbrev pub turns_of : List RecordLine → List ℕ
 turns_of lines = flat_map line_turns lines
 
--- The turns of the lines lead from the opening of the program, with the version's limit on handlers, to this world,
--- with these statuses.
-pub record LeadsTo (p : Image) (v : Version) (lines : List RecordLine) (Stand : List Status → Type 0) : Type 0 where
+-- The turns of the lines lead from the opening of the program, with the version's limit on handlers, to a world of
+-- which this holds.
+pub record LeadsTo (p : Image) (v : Version) (lines : List RecordLine) (Holds : PlainWorld → Type 0) : Type 0 where
   pub world : PlainWorld
   pub runs : Runs (turns_of lines) (opened p v) world
-  pub stand : Stand (told.statuses world)
+  pub holds : Holds world
+
+-- in it, one of the handlers has failed
+abbrev pub HasFailedIn : PlainWorld → Type 0
+HasFailedIn w = HasFailed (told.statuses w)
 
 -- What is said to be found is so.
 abbrev pub IsFound : Image → Version → Finding → Type 0
 IsFound p v finding.Nothing = Unit {0}
-IsFound p v (finding.Stuck order) = LeadsTo p v order.lines.items AreStuck
-IsFound p v (finding.Fails order) = LeadsTo p v order.lines.items HasFailed
+IsFound p v (finding.Stuck order) = LeadsTo p v order.lines.items (SomeWaits p v)
+IsFound p v (finding.Fails order) = LeadsTo p v order.lines.items HasFailedIn
 IsFound p v finding.Undecided = Unit {0}
 
 -- ---- where an order ends
 
 -- The turns of these handlers, one after the other, lead from the first world to the second. Each of them has a job,
--- and before its turn the statuses aren't what is looked for.
+-- and before its turn the statuses don't show what is looked for.
 abbrev pub RunsUnmet : Aim → List ℕ → PlainWorld → PlainWorld → Type 0
 RunsUnmet a [] x y = y ≡ x
 RunsUnmet a (h ∷ hs) x y =
     (IsMet a (told.statuses x) → ⊥) × (is_some (pick_for h x.center) ≡ true)
     × (z : PlainWorld) × IsTurn h x z × RunsUnmet a hs z y
 
--- The order leads from the opening of the program to a world whose statuses are what is looked for, and no shorter
--- beginning of it does.
+-- The order leads from the opening of the program to a world with what is looked for. In no world on the way the
+-- statuses alone show it.
 pub record EndsFirst (p : Image) (v : Version) (a : Aim) (lines : List RecordLine) : Type 0 where
   pub world : PlainWorld
   pub runs : RunsUnmet a (turns_of lines) (opened p v) world
-  pub met : IsMet a (told.statuses world)
+  pub sought : IsSought p v a world
 
 -- An order that is reported as found ends at the first world with what is looked for.
 abbrev pub IsFirst : Image → Version → Aim → Finding → Type 0

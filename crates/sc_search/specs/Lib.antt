@@ -1,4 +1,5 @@
 pub mod Aims
+pub mod Waiting
 pub mod Found
 pub mod Ends
 pub mod Closed

@@ -1,29 +1,44 @@
 -- How a search goes on.
-use Rattle.std.specs.Prelude.{◌≡◌, ◌⊎◌, ◌++◌, ◌∷◌, [], ℕ, List, Some, slice_get}
+use Rattle.std.specs.Prelude.{◌≡◌, ◌⊎◌, ◌<◌, ◌^◌, ◌++◌, ◌∷◌, [], ℕ, List, Option, Some, None, length, slice_get}
 use Rattle.sc_lockpass.specs.declared.version.Version.{Version}
 use Rattle.sc_code.specs.declared.program.Image.{Image}
 use Rattle.sc_world.specs.Kept.{PlainKept, kept}
 use Rattle.sc_world.specs.Reports.{statuses}
-use Rattle.sc_world.specs.Turning.{Runs}
+use Rattle.sc_orders.specs.declared.edges.Edge.{Edge}
+use Rattle.sc_orders.specs.Edges.{HasEdge}
+use Rattle.sc_world.specs.Turning.{IsTurn, Runs}
 use Rattle.sc_world.specs.Worlds.{PlainWorld, opened}
 use Rattle.sc_search.specs.declared.aims.Aim.{Aim}
 use Rattle.sc_search.specs.Aims.{IsMet}
 use Rattle.sc_search.specs.Closed.{IsAmong, IsTried, IsUnmet}
+use Rattle.sc_search.specs.Views.{Met}
+use Rattle.sc_search.specs.Waiting.{IsPlayed}
 
--- The state of the world was met, or is met now. Its statuses aren't what is looked for.
-pub record Keeps (a : Aim) (w : PlainWorld) (ks ls : List PlainKept) : Type 0 where
-  pub among : IsAmong ls (kept w)
-  pub grows : (ls ≡ ks) ⊎ (ls ≡ ks ++ kept w ∷ [])
+-- An edge from the state of the first number to that of the second is added, unless there is no first.
+abbrev pub AddsEdge : Option ℕ → ℕ → List Edge → List Edge → Type 0
+AddsEdge None to es fs = fs ≡ es
+AddsEdge (Some from) to es fs = (e : Edge) × (e.from ≡ from) × (e.to ≡ to) × (fs ≡ es ++ e ∷ [])
+
+-- The state of the world was met, or is met now, and an edge leads to it. Its statuses don't show what is looked for.
+pub record Keeps (a : Aim) (w : PlainWorld) (from : Option ℕ) (x y : Met) : Type 0 where
+  pub among : IsAmong y.states (kept w)
+  pub grows : (y.states ≡ x.states) ⊎ (y.states ≡ x.states ++ kept w ∷ [])
+  pub edge : AddsEdge from among.number x.edges y.edges
   pub unmet : IsMet a (statuses w) → ⊥
 
--- In none of the states the statuses are what is looked for.
+-- In none of the states the statuses show what is looked for.
 abbrev pub AreUnmet : Image → Version → Aim → List PlainKept → Type 0
 AreUnmet p v a ks = (i : ℕ) (k : PlainKept) → slice_get ks i ≡ Some k → IsUnmet p v a k
 
--- The opening of the program is in one of the states, and in none of them the statuses are what is looked for.
+-- The opening of the program is in one of the states, and in none of them the statuses show what is looked for.
 pub record Opens (p : Image) (v : Version) (a : Aim) (ks : List PlainKept) : Type 0 where
   pub opens : IsAmong ks (kept (opened p v))
   pub unmet : AreUnmet p v a ks
+
+-- So it is, and there is no edge yet.
+pub record OpensAlone (p : Image) (v : Version) (a : Aim) (x : Met) : Type 0 where
+  pub opens : Opens p v a x.states
+  pub alone : x.edges ≡ []
 
 -- These turns lead to the world from the opening of the program, and it is in the state of this number.
 pub record Stands (p : Image) (v : Version) (ks : List PlainKept) (number : ℕ) (path : List ℕ)
@@ -35,21 +50,48 @@ pub record Stands (p : Image) (v : Version) (ks : List PlainKept) (number : ℕ)
 abbrev pub IsLedTo : Image → Version → List PlainKept → ℕ → List ℕ → Type 0
 IsLedTo p v ks number path = (w : PlainWorld) × Stands p v ks number path w
 
--- States are met after these, and in none of them the statuses are what is looked for.
-pub record Extends (p : Image) (v : Version) (a : Aim) (ks ls : List PlainKept) : Type 0 where
-  pub stay : (i : ℕ) (k : PlainKept) → slice_get ks i ≡ Some k → slice_get ls i ≡ Some k
-  pub unmet : AreUnmet p v a ks → AreUnmet p v a ls
+-- The edge is the turn of a handler from a world in a state to one in another, or in the same.
+pub record IsEdge (p : Image) (v : Version) (ks : List PlainKept) (e : Edge) : Type 0 where
+  pub handler : ℕ
+  pub before : PlainWorld
+  pub after : PlainWorld
+  pub played : IsPlayed p v before
+  pub turn : IsTurn handler before after
+  pub from : slice_get ks e.from ≡ Some (kept before)
+  pub to : slice_get ks e.to ≡ Some (kept after)
 
--- The turn of the handler is tried in the state of this number,
-abbrev pub IsTriedAt : Image → Version → List PlainKept → List PlainKept → ℕ → ℕ → Type 0
-IsTriedAt p v ks ls number h = (k : PlainKept) → slice_get ks number ≡ Some k → IsTried p v ls k h
+abbrev pub AreTurns : Image → Version → Met → Type 0
+AreTurns p v x = (place : ℕ) (e : Edge) → slice_get x.edges place ≡ Some e → IsEdge p v x.states e
 
--- and on the way there.
-pub record Tries (p : Image) (v : Version) (a : Aim) (ks ls : List PlainKept) (number h : ℕ) : Type 0 where
-  pub extends : Extends p v a ks ls
-  pub tried : IsTriedAt p v ks ls number h
+-- States are met after these, and in none of them the statuses show what is looked for. Edges are added, each a turn.
+pub record Extends (p : Image) (v : Version) (a : Aim) (x y : Met) : Type 0 where
+  pub stay : (i : ℕ) (k : PlainKept) → slice_get x.states i ≡ Some k → slice_get y.states i ≡ Some k
+  pub unmet : AreUnmet p v a x.states → AreUnmet p v a y.states
+  pub edges_stay : (place : ℕ) (e : Edge) → slice_get x.edges place ≡ Some e → slice_get y.edges place ≡ Some e
+  pub turns : AreTurns p v x → AreTurns p v y
+
+-- The turn of the handler is tried in the state of this number, and leads along an edge, or stays in the state.
+pub record IsTriedAlong (p : Image) (v : Version) (x : Met) (number : ℕ) (k : PlainKept) (h : ℕ) : Type 0 where
+  pub tried : IsTried p v x.states k h
+  pub edge : (tried.among.number ≡ number) ⊎ HasEdge x.edges number tried.among.number
+
+abbrev pub IsTriedAt : Image → Version → Met → Met → ℕ → ℕ → Type 0
+IsTriedAt p v x y number h = (k : PlainKept) → slice_get x.states number ≡ Some k → IsTriedAlong p v y number k h
+
+-- It is tried, and on the way there.
+pub record Tries (p : Image) (v : Version) (a : Aim) (x y : Met) (number h : ℕ) : Type 0 where
+  pub extends : Extends p v a x y
+  pub tried : IsTriedAt p v x y number h
 
 -- The turns of all handlers are tried in the state of this number.
-pub record TriesAll (p : Image) (v : Version) (a : Aim) (ks ls : List PlainKept) (number : ℕ) : Type 0 where
-  pub extends : Extends p v a ks ls
-  pub tried : (h : ℕ) → IsTriedAt p v ks ls number h
+pub record TriesAll (p : Image) (v : Version) (a : Aim) (x y : Met) (number : ℕ) : Type 0 where
+  pub extends : Extends p v a x y
+  pub tried : (h : ℕ) → IsTriedAt p v x y number h
+
+-- ---- when all turns of all states are tried
+
+-- Each turn of each state is tried along an edge, each edge is a turn, and there are no more states than numbers.
+pub record IsExplored (p : Image) (v : Version) (x : Met) : Type 0 where
+  pub along : (i : ℕ) (k : PlainKept) → slice_get x.states i ≡ Some k → (h : ℕ) → IsTriedAlong p v x i k h
+  pub turns : AreTurns p v x
+  pub few : length x.states < 2 ^ 32

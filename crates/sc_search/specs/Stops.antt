@@ -1,6 +1,7 @@
 -- What a search has played, and why it stops.
 use Rattle.std.specs.Prelude.{◌≡◌, ◌++◌, ℕ, Bool, true, false, List, Option, Some, None, length, slice_get}
 use Rattle.sc_lockpass.specs.declared.version.Version.{Version}
+use Rattle.sc_model.specs.declared.status.Status.{Status}
 use Rattle.sc_code.specs.declared.program.Image.{Image}
 use Rattle.sc_world.specs.Kept.{PlainKept, kept}
 use Rattle.sc_world.specs.Reports.{statuses}
@@ -18,27 +19,30 @@ use Rattle.sc_search.specs.declared.verdict.Finding.{Finding}
 use Rattle.sc_search.specs.declared.verdict.Finding.TheVariants as finding
 use Rattle.sc_search.specs.Aims.{IsMet}
 use Rattle.sc_search.specs.Limits.{ArePlayed, GivesUp, SaysWhyFor}
-use Rattle.sc_search.specs.Views.{orders_of, states_of}
+use Rattle.sc_search.specs.Views.{orders_of, states_of, statuses_of}
 
--- The order of the number leads to a world in the state, whose statuses aren't what is looked for.
-pub record IsReached (p : Image) (v : Version) (a : Aim) (orders : List (List ℕ)) (number : ℕ)
-    (k : PlainKept) : Type 0 where
+-- The order of the number leads to a world in the state, whose statuses are those that are kept and don't show what
+-- is looked for.
+pub record IsReached (p : Image) (v : Version) (a : Aim) (orders : List (List ℕ)) (told : List (List Status))
+    (number : ℕ) (k : PlainKept) : Type 0 where
   pub order : List ℕ
   pub stands : slice_get orders number ≡ Some order
   pub world : PlainWorld
   pub runs : Runs order (opened p v) world
   pub kept_is : kept world ≡ k
+  pub told_is : slice_get told number ≡ Some (statuses world)
   pub unmet : IsMet a (statuses world) → ⊥
 
 -- Each state is reached so, and this number of turns were played.
 pub record AreReached (p : Image) (v : Version) (a : Aim) (ks : List PlainKept) (orders : List (List ℕ))
-    (turns : ℕ) : Type 0 where
-  pub each : (number : ℕ) (k : PlainKept) → slice_get ks number ≡ Some k → IsReached p v a orders number k
+    (told : List (List Status)) (turns : ℕ) : Type 0 where
+  pub each : (number : ℕ) (k : PlainKept) → slice_get ks number ≡ Some k → IsReached p v a orders told number k
   pub count : length orders ≡ length ks
+  pub rows : length told ≡ length ks
   pub played : ArePlayed p v turns
 
 abbrev pub HasReached : Image → Version → Aim → Progress → Type 0
-HasReached p v a x = AreReached p v a (states_of x) (orders_of x) x.turns
+HasReached p v a x = AreReached p v a (states_of x) (orders_of x) (statuses_of x) x.turns
 
 -- ---- why a search stops
 

@@ -3,7 +3,7 @@
 /// What ends a search.
 #[derive(Clone, Copy)]
 pub enum Aim {
-    /// Handlers are stuck: none has anything to do, and some handler waits.
+    /// A handler is stuck: it waits, and no order gives it a turn any more, whatever others do.
     Stuck,
     /// Some handler has failed.
     Fails,

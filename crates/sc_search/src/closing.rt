@@ -1,10 +1,10 @@
 //! The search over all turns.
-ghost use Rattle.std.specs.Prelude.{◌≡◌, ◌<◌, [], IfNone, IfOk, IfSome, length};
+ghost use Rattle.std.specs.Prelude.{◌≡◌, ◌<◌, IfNone, IfOk, IfSome, length};
 ghost use Rattle.sc_world.specs.Views.{world_of};
 ghost use Rattle.sc_search.specs.Closed.{IsClosedFor};
-ghost use Rattle.sc_search.specs.Steps.{IsLedTo, Opens, Stands, Tries, TriesAll};
+ghost use Rattle.sc_search.specs.Steps.{IsExplored, IsLedTo, OpensAlone, Stands, Tries, TriesAll};
 ghost use Rattle.sc_search.specs.Stops.{HasReached, StopsFor};
-ghost use Rattle.sc_search.specs.Views.{states_of};
+ghost use Rattle.sc_search.specs.Views.{met_of, nothing_met, states_of};
 
 use crate::progress::{Progress, Stop, Way};
 use crate::replay::{Subject, world_after};
@@ -24,9 +24,11 @@ pub(crate) fn play_all<'p, W: Watch>(
     limit: u32,
     watch: &mut W,
 ) -> Result<Option<Stop>, AllocError>
-    requires none { states_of progress.old ≡ [] }
+    requires none { met_of progress.old ≡ nothing_met }
     requires reached { HasReached subject.program.now.image subject.version subject.aim progress.old }
     ensures closed { IfOk result (λ stop. IfNone stop (IsClosedFor subject.entry (states_of progress.new))) }
+    ensures explored { IfOk result (λ stop. IfNone stop (IsExplored subject.entry.program.now.image subject.entry.version (met_of progress.new))) }
+    ensures reached { IfOk result (λ stop. IfNone stop (HasReached subject.entry.program.now.image subject.entry.version subject.entry.aim progress.new)) }
     ensures stops { IfOk result (λ stop. IfSome stop (StopsFor subject.entry.program.now.image subject.entry.version subject.entry.aim limit)) }
 {
     if let Some(stop) = keep_opening(subject, progress, limit)? {
@@ -55,9 +57,9 @@ fn keep_opening<'p>(
     progress: &mut Progress<'p>,
     limit: u32,
 ) -> Result<Option<Stop>, AllocError>
-    requires none { states_of progress.old ≡ [] }
+    requires none { met_of progress.old ≡ nothing_met }
     requires reached { HasReached subject.program.now.image subject.version subject.aim progress.old }
-    ensures opens { IfOk result (λ stop. IfNone stop (Opens subject.entry.program.now.image subject.entry.version subject.entry.aim (states_of progress.new))) }
+    ensures opens { IfOk result (λ stop. IfNone stop (OpensAlone subject.entry.program.now.image subject.entry.version subject.entry.aim (met_of progress.new))) }
     ensures reached { IfOk result (λ stop. IfNone stop (HasReached subject.entry.program.now.image subject.entry.version subject.entry.aim progress.new)) }
     ensures stops { IfOk result (λ stop. IfSome stop (StopsFor subject.entry.program.now.image subject.entry.version subject.entry.aim limit)) }
 {
@@ -81,7 +83,7 @@ fn try_all<'p>(
     requires there { number < length (states_of progress.old) }
     requires reached { HasReached subject.program.now.image subject.version subject.aim progress.old }
     ensures tries { IfOk result (λ stop. IfNone stop
-        (TriesAll subject.entry.program.now.image subject.entry.version subject.entry.aim (states_of progress.old) (states_of progress.new) number)) }
+        (TriesAll subject.entry.program.now.image subject.entry.version subject.entry.aim (met_of progress.old) (met_of progress.new) number)) }
     ensures reached { IfOk result (λ stop. IfNone stop (HasReached subject.entry.program.now.image subject.entry.version subject.entry.aim progress.new)) }
     ensures stops { IfOk result (λ stop. IfSome stop (StopsFor subject.entry.program.now.image subject.entry.version subject.entry.aim limit)) }
 {
@@ -112,7 +114,7 @@ fn try_turn<'p>(
     requires stands { Stands subject.program.now.image subject.version (states_of progress.old) number path.now (world_of world.now) }
     requires reached { HasReached subject.program.now.image subject.version subject.aim progress.old }
     ensures tries { IfOk result (λ stop. IfNone stop
-        (Tries subject.entry.program.now.image subject.entry.version subject.entry.aim (states_of progress.old) (states_of progress.new) number handler)) }
+        (Tries subject.entry.program.now.image subject.entry.version subject.entry.aim (met_of progress.old) (met_of progress.new) number handler)) }
     ensures reached { IfOk result (λ stop. IfNone stop (HasReached subject.entry.program.now.image subject.entry.version subject.entry.aim progress.new)) }
     ensures stops { IfOk result (λ stop. IfSome stop (StopsFor subject.entry.program.now.image subject.entry.version subject.entry.aim limit)) }
 {
@@ -134,7 +136,7 @@ fn move_on<'p>(
     requires leads { IsLedTo subject.program.now.image subject.version (states_of progress.old) number path.now }
     requires reached { HasReached subject.program.now.image subject.version subject.aim progress.old }
     ensures tries { IfOk result (λ stop. IfNone stop
-        (Tries subject.entry.program.now.image subject.entry.version subject.entry.aim (states_of progress.old) (states_of progress.new) number handler)) }
+        (Tries subject.entry.program.now.image subject.entry.version subject.entry.aim (met_of progress.old) (met_of progress.new) number handler)) }
     ensures reached { IfOk result (λ stop. IfNone stop (HasReached subject.entry.program.now.image subject.entry.version subject.entry.aim progress.new)) }
     ensures stops { IfOk result (λ stop. IfSome stop (StopsFor subject.entry.program.now.image subject.entry.version subject.entry.aim limit)) }
 {

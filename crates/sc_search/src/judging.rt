@@ -1,8 +1,10 @@
-//! Whether the statuses of a state are what is looked for.
-ghost use Rattle.std.specs.Prelude.{◌≡◌, ◌↔◌, IfOk, IsTrue};
+//! Whether the statuses of a state show what is looked for.
+ghost use Rattle.std.specs.Prelude.{◌≡◌, ◌↔◌, IfOk, IsTrue, get_or};
 ghost use Rattle.sc_world.specs.Reports.{statuses};
 ghost use Rattle.sc_world.specs.Views.{world_of};
+ghost use Rattle.sc_model.specs.declared.status.Status.TheVariants.{Free};
 ghost use Rattle.sc_search.specs.Aims.{AreStuck, HasFailed, IsMet, is_of, some_is, tells_failure};
+ghost use Rattle.sc_search.specs.Waiting.{seeks_stuck};
 
 use crate::aims::Aim;
 use sc_model::Status;
@@ -17,7 +19,17 @@ pub(crate) enum Kind {
     IsWaiting,
 }
 
-/// Whether these statuses meet what is looked for.
+/// Whether stuck handlers are looked for.
+pub(crate) fn seeks_stuck(aim: Aim) -> bool
+    ensures { result ≡ seeks_stuck aim }
+{
+    match aim {
+        Aim::Stuck | Aim::Any => true,
+        Aim::Fails => false,
+    }
+}
+
+/// Whether these statuses show what is looked for. They show that handlers are stuck if none has a turn.
 pub(crate) fn is_met(aim: Aim, statuses: &[Status]) -> bool
     ensures { IsTrue result ↔ IsMet aim statuses.now }
 {
@@ -60,6 +72,17 @@ pub(crate) fn some_is_in(kind: Kind, world: &World<'_>) -> Result<bool, AllocErr
     ensures { IfOk result (λ some. some ≡ some_is kind (statuses (world_of world.now))) }
 {
     Ok(some_is(kind, &world.statuses()?))
+}
+
+/// Whether the status of a handler is of this kind. It isn't if there is no such handler.
+pub(crate) fn is_at(kind: Kind, statuses: &[Status], handler: usize) -> bool
+    ensures { result ≡ is_of kind (get_or statuses.now handler Free) }
+{
+    let status = match statuses.get(handler) {
+        Some(status) => *status,
+        None => Status::Free,
+    };
+    is_of(kind, status)
 }
 
 /// Whether one of the statuses is of this kind.

@@ -1,15 +1,8 @@
 //! How long the orders are that lead through the states.
 
 use crate::verdict::Length;
+use sc_orders::Edge;
 use std::alloc::{AllocError, Global};
-
-/// This number of turns leads from one state to another.
-#[derive(Clone, Copy)]
-pub(crate) struct Edge {
-    pub(crate) from: u32,
-    pub(crate) to: u32,
-    pub(crate) turns: u32,
-}
 
 /// A state on the way through all of them.
 #[derive(Clone, Copy)]

@@ -17,6 +17,7 @@ mod replay;
 mod searching;
 mod states;
 mod verdict;
+mod waiting;
 mod watch;
 
 pub use aims::Aim;

@@ -1,16 +1,16 @@
 //! How far a search has come.
-ghost use Rattle.std.specs.Prelude.{◌≡◌, [], IfNone, IfOk, IfSome};
+ghost use Rattle.std.specs.Prelude.{◌≡◌, IfNone, IfOk, IfSome, OnOk};
 ghost use Rattle.sc_world.specs.Turning.{Runs};
 ghost use Rattle.sc_world.specs.Views.{world_of};
 ghost use Rattle.sc_world.specs.Worlds.{opened};
-ghost use Rattle.sc_search.specs.Steps.{Keeps};
+ghost use Rattle.sc_search.specs.Steps.{AddsEdge, Keeps};
 
 use crate::ends::{FoundEnd, push_outcome};
 use crate::judging::{Kind, is_met, some_is};
-use crate::length::Edge;
 use crate::replay::Subject;
 use crate::states::States;
 use sc_lockpass::HandlerNumber;
+use sc_orders::Edge;
 use sc_world::World;
 use std::alloc::AllocError;
 
@@ -51,14 +51,14 @@ pub(crate) struct Way {
 
 impl<'p> Progress<'p> {
     ghost use Rattle.sc_search.specs.Stops.{HasReached, StopsFor};
-    ghost use Rattle.sc_search.specs.Views.{states_of};
+    ghost use Rattle.sc_search.specs.Views.{met_of, nothing_met};
 
     /// Progress with nothing searched yet.
     ///
     /// # Errors
     /// Memory ran out.
     pub(crate) fn new(subject: Subject<'p>) -> Result<Progress<'p>, AllocError>
-        ensures none { IfOk result (λ progress. states_of progress ≡ []) }
+        ensures none { IfOk result (λ progress. met_of progress ≡ nothing_met) }
         ensures reached { IfOk result (HasReached subject.entry.program.now.image subject.entry.version subject.entry.aim) }
     {
         Ok(Progress {
@@ -83,7 +83,7 @@ impl<'p> Progress<'p> {
     ) -> Result<Option<Stop>, AllocError>
         requires leads { Runs way.turns.items (opened subject.program.now.image subject.version) (world_of world) }
         requires reached { HasReached subject.program.now.image subject.version subject.aim self.old }
-        ensures keeps { IfOk result (λ stop. IfNone stop (Keeps subject.entry.aim (world_of world.entry) (states_of self.old) (states_of self.new))) }
+        ensures keeps { IfOk result (λ stop. IfNone stop (Keeps subject.entry.aim (world_of world.entry) way.parent (met_of self.old) (met_of self.new))) }
         ensures reached { IfOk result (λ stop. IfNone stop (HasReached subject.entry.program.now.image subject.entry.version subject.entry.aim self.new)) }
         ensures stops { IfOk result (λ stop. IfSome stop (StopsFor subject.entry.program.now.image subject.entry.version subject.entry.aim limit)) }
     {
@@ -104,7 +104,7 @@ impl<'p> Progress<'p> {
             push_outcome(subject.alloc, &mut self.outcomes, &world, &way.turns)?;
         }
         self.push_edge(&way, number)?;
-        self.states.push(world, way.turns)?;
+        self.states.push(world, way.turns, statuses)?;
         Ok(None)
     }
 
@@ -112,6 +112,7 @@ impl<'p> Progress<'p> {
     fn push_edge(&mut self, way: &Way, to: u32) -> Result<(), AllocError>
         ensures states { self.new.states ≡ self.old.states }
         ensures turns { self.new.turns ≡ self.old.turns }
+        ensures edge { OnOk result (AddsEdge way.now.parent to self.old.edges.items self.new.edges.items) }
     {
         if let Some(from) = way.parent {
             let turns = way

@@ -1,16 +1,21 @@
 //! Worlds that are played anew.
-ghost use Rattle.std.specs.Prelude.{IfNone, IfOk, IfSome};
+ghost use Rattle.std.specs.Prelude.{◌≡◌, ℕ, IfNone, IfOk, IfSome, false, true};
 ghost use Rattle.sc_world.specs.Turning.{Runs};
 ghost use Rattle.sc_world.specs.Views.{world_of};
 ghost use Rattle.sc_world.specs.Worlds.{opened};
 ghost use Rattle.sc_world.specs.Reports.{statuses};
 ghost use Rattle.sc_search.specs.Aims.{IsMet};
 ghost use Rattle.sc_search.specs.Found.{IsFirst, IsFound, RunsUnmet, turns_of};
+ghost use Rattle.sc_search.specs.Limits.{SaysWhyFor};
+ghost use Rattle.sc_search.specs.Steps.{IsLedTo};
 ghost use Rattle.sc_search.specs.Stops.{IsOrdered, MissesAfter};
+ghost use Rattle.sc_search.specs.Views.{states_in};
+ghost use Rattle.sc_search.specs.Waiting.{HasStuck, seeks_stuck};
 
 use crate::aims::Aim;
 use crate::judging::{is_met, tells_failure};
 use crate::lines::lines_of;
+use crate::states::States;
 use crate::verdict::{Finding, Order};
 use sc_audit::RecordLine;
 use sc_code::Program;
@@ -55,6 +60,34 @@ fn world_after_lines<'p>(
     Ok(world)
 }
 
+/// What is found if a handler waits for good in the state of a number, to which these turns led.
+///
+/// # Errors
+/// Memory ran out.
+pub(crate) fn stuck_after(
+    subject: Subject<'_>,
+    states: &States<'_>,
+    number: u32,
+    turns: &[HandlerNumber],
+) -> Result<Finding, AllocError>
+    requires stuck { HasStuck subject.program.now.image subject.version (states_in states.now) number }
+    requires seeks { seeks_stuck subject.aim ≡ true }
+    requires leads { IsLedTo subject.program.now.image subject.version (states_in states.now) number turns.now }
+    ensures found { IfOk result (IsFound subject.entry.program.now.image subject.entry.version) }
+    ensures first { IfOk result (IsFirst subject.entry.program.now.image subject.entry.version subject.entry.aim) }
+    ensures why { IfOk result (λ found. (limit : ℕ) → SaysWhyFor subject.entry limit false found) }
+{
+    let (world, made) = play_until_met(subject, turns)?;
+    if let Some(finding) = finding_in(subject, &world, &made)? {
+        return Ok(finding);
+    }
+    if !states.is_at(number, &world) {
+        return Ok(Finding::Undecided);
+    }
+    let lines = lines_of(subject.alloc, &made)?;
+    Ok(Finding::Stuck(Order { lines }))
+}
+
 /// The finding of these turns, if they meet what is looked for. The order that is reported ends there.
 ///
 /// # Errors
@@ -69,11 +102,26 @@ pub(crate) fn finding_after(
     ensures none { IfOk result (λ found. IfNone found (MissesAfter subject.entry.program.now.image subject.entry.version subject.entry.aim turns.now)) }
 {
     let (world, made) = play_until_met(subject, turns)?;
+    finding_in(subject, &world, &made)
+}
+
+/// What the statuses of the world show that these turns led to, if it is looked for.
+fn finding_in(
+    subject: Subject<'_>,
+    world: &World<'_>,
+    made: &[HandlerNumber],
+) -> Result<Option<Finding>, AllocError>
+    requires { RunsUnmet subject.aim made.now (opened subject.program.now.image subject.version) (world_of world.now) }
+    ensures found { IfOk result (λ found. IfSome found (IsFound subject.entry.program.now.image subject.entry.version)) }
+    ensures first { IfOk result (λ found. IfSome found (IsFirst subject.entry.program.now.image subject.entry.version subject.entry.aim)) }
+    ensures ordered { IfOk result (λ found. IfSome found IsOrdered) }
+    ensures none { IfOk result (λ found. IfNone found (IsMet subject.entry.aim (statuses (world_of world.now)) → ⊥)) }
+{
     let statuses = world.statuses()?;
     if !is_met(subject.aim, &statuses) {
         return Ok(None);
     }
-    let lines = lines_of(subject.alloc, &made)?;
+    let lines = lines_of(subject.alloc, made)?;
     if tells_failure(subject.aim, &statuses) {
         return Ok(Some(Finding::Fails(Order { lines })));
     }

@@ -1,20 +1,25 @@
 //! The search.
-ghost use Rattle.std.specs.Prelude.{◌≡◌, IfOk, IfSome, None, false, length, min, true};
+ghost use Rattle.std.specs.Prelude.{◌≡◌, ℕ, IfOk, IfSome, None, false, length, min, true};
+ghost use Rattle.sc_search.specs.Closed.{IsClosedFor};
 ghost use Rattle.sc_search.specs.Ends.{AreEnds};
 ghost use Rattle.sc_search.specs.Found.{IsFirst, IsFound};
 ghost use Rattle.sc_search.specs.Limits.{SaysWhy, SaysWhyFor};
-ghost use Rattle.sc_search.specs.Stops.{SaysWhyAt, goes_on, is_undecided};
+ghost use Rattle.sc_search.specs.Steps.{IsExplored};
+ghost use Rattle.sc_search.specs.Stops.{HasReached, SaysWhyAt, goes_on, is_undecided};
 ghost use Rattle.sc_search.specs.Verdicts.{IsShown};
-ghost use Rattle.sc_search.specs.Views.{states_of};
+ghost use Rattle.sc_search.specs.Views.{met_of, states_of};
+ghost use Rattle.sc_search.specs.Waiting.{HasStuck, seeks_stuck};
 
 use crate::aims::Aim;
 use crate::choices::play_choices;
 use crate::closing::play_all;
 use crate::ends::ends_after;
+use crate::judging::seeks_stuck;
 use crate::length::length_of;
 use crate::progress::{Progress, Stop};
-use crate::replay::{Subject, finding_after};
+use crate::replay::{Subject, finding_after, stuck_after};
 use crate::verdict::{Finding, Length, Verdict};
+use crate::waiting::first_stuck;
 use crate::watch::Watch;
 use sc_code::Program;
 use sc_lockpass::Version;
@@ -88,8 +93,70 @@ fn search_all<W: Watch>(
     ensures why { IfOk result (λ verdict. SaysWhyFor subject.entry limit verdict.is_whole verdict.finding) }
 {
     let mut progress = Progress::new(subject)?;
-    let stop = play_all(subject, &mut progress, limit, watch)?;
-    verdict_of(subject, progress, stop, true)
+    if let Some(stop) = play_all(subject, &mut progress, limit, watch)? {
+        return verdict_of(subject, progress, Some(stop), true);
+    }
+    if seeks_stuck(subject.aim) {
+        return closed_verdict(subject, progress);
+    }
+    verdict_of(subject, progress, None, true)
+}
+
+/// The verdict on states of which all turns are tried, if stuck handlers are looked for.
+fn closed_verdict<'p>(subject: Subject<'p>, progress: Progress<'p>) -> Result<Verdict, AllocError>
+    requires closed { IsClosedFor subject (states_of progress) }
+    requires explored { IsExplored subject.program.now.image subject.version (met_of progress) }
+    requires reached { HasReached subject.program.now.image subject.version subject.aim progress }
+    requires seeks { seeks_stuck subject.aim ≡ true }
+    ensures found { IfOk result (λ verdict. IsFound subject.entry.program.now.image subject.entry.version verdict.finding) }
+    ensures first { IfOk result (λ verdict. IsFirst subject.entry.program.now.image subject.entry.version subject.entry.aim verdict.finding) }
+    ensures ends { IfOk result (λ verdict. AreEnds subject.entry.program.now.image subject.entry.version verdict.ends.items) }
+    ensures whole { IfOk result (IsShown subject.entry.program.now.image subject.entry.version subject.entry.aim) }
+    ensures why { IfOk result (λ verdict. (limit : ℕ) → SaysWhyFor subject.entry limit verdict.is_whole verdict.finding) }
+{
+    match first_stuck(subject, &progress)? {
+        Some(number) => stuck_verdict(subject, progress, number),
+        None => verdict_of(subject, progress, None, true),
+    }
+}
+
+/// The verdict if a handler waits for good in the state of the number.
+fn stuck_verdict<'p>(
+    subject: Subject<'p>,
+    progress: Progress<'p>,
+    number: u32,
+) -> Result<Verdict, AllocError>
+    requires stuck { HasStuck subject.program.now.image subject.version (states_of progress) number }
+    requires reached { HasReached subject.program.now.image subject.version subject.aim progress }
+    requires seeks { seeks_stuck subject.aim ≡ true }
+    ensures found { IfOk result (λ verdict. IsFound subject.entry.program.now.image subject.entry.version verdict.finding) }
+    ensures first { IfOk result (λ verdict. IsFirst subject.entry.program.now.image subject.entry.version subject.entry.aim verdict.finding) }
+    ensures ends { IfOk result (λ verdict. AreEnds subject.entry.program.now.image subject.entry.version verdict.ends.items) }
+    ensures whole { IfOk result (λ verdict. verdict.is_whole ≡ false) }
+    ensures why { IfOk result (λ verdict. (limit : ℕ) → SaysWhyFor subject.entry limit false verdict.finding) }
+{
+    let turns = progress.states.order(number)?;
+    let finding = stuck_after(subject, &progress.states, number, &turns)?;
+    let length = orders_length(subject.alloc, &progress)?;
+    let ends = ends_after(subject, &progress.outcomes)?;
+    Ok(Verdict {
+        finding,
+        states: progress.states.len(),
+        is_whole: false,
+        ends,
+        length,
+    })
+}
+
+/// How long orders are, if all turns of all states were played.
+fn orders_length(alloc: Global, progress: &Progress<'_>) -> Result<Length, AllocError> {
+    let first = progress.states.order(0)?.len().min(u32::MAX as usize) as u32;
+    length_of(
+        alloc,
+        first,
+        progress.states.len() as usize,
+        &progress.edges,
+    )
 }
 
 /// The verdict of a search that stopped so, and played all turns or choices alone.
@@ -110,10 +177,7 @@ fn verdict_of(
     let states = progress.states.len();
     let is_whole = is_all && stop.is_none();
     let length = match stop {
-        None => {
-            let first = progress.states.order(0)?.len().min(u32::MAX as usize) as u32;
-            length_of(subject.alloc, first, states as usize, &progress.edges)?
-        }
+        None => orders_length(subject.alloc, &progress)?,
         Some(_) => Length::Unknown,
     };
     let finding = finding_of(subject, stop)?;

@@ -5,6 +5,7 @@ ghost use Rattle.sc_world.specs.Kept.{kept};
 ghost use Rattle.sc_world.specs.Views.{world_of};
 
 use sc_lockpass::HandlerNumber;
+use sc_model::Status;
 use sc_world::{KeptWorld, World};
 use std::alloc::{AllocError, Global};
 
@@ -26,13 +27,15 @@ pub(crate) struct States<'p> {
     kept: Vec<KeptWorld<'p>>,
     /// The turns that led to each, from the opening on.
     orders: Vec<Vec<HandlerNumber>>,
+    /// The statuses of its handlers in each.
+    pub(crate) statuses: Vec<Vec<Status>>,
     links: Vec<Link>,
     /// The first number in each list.
     buckets: Vec<Option<u32>>,
 }
 
 impl<'p> States<'p> {
-    ghost use Rattle.sc_search.specs.Views.{orders_in, states_in};
+    ghost use Rattle.sc_search.specs.Views.{orders_in, states_in, statuses_in};
 
     /// No states.
     ///
@@ -41,11 +44,13 @@ impl<'p> States<'p> {
     pub(crate) fn new(alloc: Global) -> Result<States<'p>, AllocError>
         ensures states { IfOk result (λ states. states_in states ≡ []) }
         ensures orders { IfOk result (λ states. orders_in states ≡ []) }
+        ensures statuses { IfOk result (λ states. statuses_in states ≡ []) }
     {
         Ok(States {
             alloc,
             kept: Vec::new(alloc),
             orders: Vec::new(alloc),
+            statuses: Vec::new(alloc),
             links: Vec::new(alloc),
             buckets: vec![in alloc; None; BUCKETS]?,
         })
@@ -97,7 +102,7 @@ impl<'p> States<'p> {
         *self.buckets.get(bucket_of(hash))?
     }
 
-    /// Keeps the state that the world is in, to which these turns led from the opening.
+    /// Keeps the state that the world is in, with these statuses, to which these turns led from the opening.
     ///
     /// # Errors
     /// Memory ran out.
@@ -105,9 +110,11 @@ impl<'p> States<'p> {
         &mut self,
         world: World<'p>,
         order: Vec<HandlerNumber>,
+        statuses: Vec<Status>,
     ) -> Result<(), AllocError>
         ensures states { OnOk result (states_in self.new ≡ states_in self.old ++ kept (world_of world.entry) ∷ []) }
         ensures orders { OnOk result (orders_in self.new ≡ orders_in self.old ++ order.items ∷ []) }
+        ensures statuses { OnOk result (statuses_in self.new ≡ statuses_in self.old ++ statuses.items ∷ []) }
     {
         let hash = world.hash();
         let next = self.first_of(hash);
@@ -118,6 +125,7 @@ impl<'p> States<'p> {
         }
         self.kept.push(world.keep()?)?;
         self.orders.push(order)?;
+        self.statuses.push(statuses)?;
         Ok(())
     }
 

@@ -14,7 +14,7 @@ pub struct Order {
 pub enum Finding {
     /// No order. Where the search was whole, there is none.
     Nothing,
-    /// After these turns no handler has anything to do, and some handler waits.
+    /// After these turns some handler waits, and no order gives it a turn any more, whatever others do.
     Stuck(Order),
     /// After these turns some handler has failed.
     Fails(Order),

@@ -1,11 +1,11 @@
 use Rattle.sc_search.specs.Stops.{HasReached}
-use Rattle.sc_search.specs.Views.{states_of}
+use Rattle.sc_search.specs.Views.{met_of}
 use Rattle.sc_search.proofs.TriedTurns.{TriesBelow}
 use Rattle.sc_search.proofs.closing.try_all.Given as goal
 
 -- the turns of those before are tried
 abbrev pub invariant-loop-place : goal.invariant-loop-place
 invariant-loop-place l = record {
-  tries : TriesBelow l.subject.program.now.image l.subject.version l.subject.aim (states_of l.fn.progress) (states_of l.progress) l.number l.place;
+  tries : TriesBelow l.subject.program.now.image l.subject.version l.subject.aim (met_of l.fn.progress) (met_of l.progress) l.number l.place;
   reached : HasReached l.subject.program.now.image l.subject.version l.subject.aim l.progress;
 }
