@@ -1,64 +1,244 @@
 -- What a search finds, or doesn't, beside the machine.
-use Rattle.std.proofs.Common.{◌≡◌, ◌⊎◌, ◌*◌, inl, inr, ℕ, List, [], ◌∷◌, Some, slice_get, sym, subst}
-use Rattle.sc_lockpass.specs.declared.version.Version.{Version}
+use Rattle.std.proofs.Common.{◌≡◌, ◌⊎◌, ◌<◌, ◌*◌, ◌++◌, ◌∙◌, ◌&&◌, inl, inr, ℕ, Bool, true, false, List, [], ◌∷◌, Option, Some, None, get_or, length, slice_get, refl, sym, ap, subst, arith}
+use Rattle.std.specs.Prelude.{nat_lt}
+use Rattle.std.proofs.lemmas.Bool.{cases_lt, ltb-true}
+use Rattle.std.proofs.lemmas.List.FromFn.{get_or-map-range_with_len, length-map-range_with_len}
+use Rattle.std.proofs.lemmas.List.{get_or_past}
+use Rattle.sc_tree.specs.Plain.{System}
+use Rattle.sc_class.specs.ClassNames.{Root}
 use Rattle.sc_lockpass.specs.Versions.{most_handlers}
+use Rattle.sc_lockpass.specs.declared.version.Version.{Version}
+use Rattle.sc_model.specs.declared.cause.Cause.{Cause}
+use Rattle.sc_model.specs.declared.status.Status.{Status}
+use Rattle.sc_model.specs.declared.status.Status.TheVariants.{Busy, Failed, Free, Waiting}
+use Rattle.sc_model.specs.Handlers.{Frame, World}
+use Rattle.sc_model.specs.Reports.{status_of, status_with}
+use Rattle.sc_model.specs.Runs.{has_turn, has_turn_with, opening, run}
+use Rattle.sc_model.proofs.Joins.{run_append}
 use Rattle.sc_code.specs.declared.program.Image.{Image}
+use Rattle.sc_orders.specs.Orders.{Leads}
 use Rattle.sc_world.specs.Kept.{KeptAlikeReadAlike, PlainKept, kept}
 use Rattle.sc_world.specs.Reports.{statuses}
+use Rattle.sc_world.specs.Turning.{Runs}
 use Rattle.sc_world.specs.Worlds.{PlainWorld, opened}
-use Rattle.sc_refines_world.specs.Anew.{AnewRunsAsMachine, RunsAnew}
+use Rattle.sc_world.proofs.Runs.{runs-more}
+use Rattle.sc_frontend.specs.Texts.{IsLoaded}
+use Rattle.sc_refines_world.specs.Anew.{AnewRunsAsMachine, IsPlayed, RunsAnew}
 use Rattle.sc_refines_world.specs.Refining.{StandingWorldIsNear, WorldReportsAsMachine, WorldRunsAsMachine}
 use Rattle.sc_search.specs.declared.aims.Aim.{Aim}
-use Rattle.sc_search.specs.Aims.{IsMet}
+use Rattle.sc_search.specs.declared.aims.Aim.TheVariants as aim
+use Rattle.sc_search.specs.Aims.{HasFailed, IsMet}
 use Rattle.sc_search.specs.Closed.{IsClosed}
 use Rattle.sc_search.specs.Found.{turns_of}
 use Rattle.sc_search.specs.Limits.{AllMet, AllPlayed, AreMet, ArePlayed, GivesUp, Two, turns_a_state}
+use Rattle.sc_search.specs.Waiting.{AreMoving, IsAnewTurn}
+use Rattle.sc_search.specs.Waiting as world
 use Rattle.sc_headline.specs.Exactly.{OneWorld}
 use Rattle.sc_headline.specs.Headline.{machine_after}
-use Rattle.sc_headline.specs.Searched.{FoundOrdersAreTheMachines, SearchesGiveUpAtLimits, WholeSearchesFindAll}
+use Rattle.sc_headline.specs.Searched.{FoundOrdersAreTheMachines, IsSought, SearchesGiveUpAtLimits, SomeWaits, WaitsForGood, WholeSearchesFindAll, statuses_in}
+use Rattle.sc_headline.proofs.Stuck.{busy_with, lives}
 
-pub found : WorldRunsAsMachine → StandingWorldIsNear → WorldReportsAsMachine → FoundOrdersAreTheMachines
-found runs_as near tells text root program version lines aim loaded leads =
-    let s = loaded.system in
-    let w = machine_after s root version (turns_of lines) in
-    let stands = runs_as s root loaded.sound.faultless loaded.sound.well_formed program version (turns_of lines) leads.world loaded.is_program loaded.fits leads.runs in
-    let told = tells s program w leads.world (near s program w leads.world stands) in
-    record {
-      system = s;
-      read = loaded.read;
-      sound = loaded.sound;
-      met = subst (IsMet aim) told.1 leads.stand;
-    }
+-- ---- statuses
 
--- ---- where nothing was found
+abbrev is_waiting : Status → Bool
+is_waiting (Failed why) = false
+is_waiting Busy = false
+is_waiting Waiting = true
+is_waiting Free = false
 
-module _ (p : Image) (v : Version) (a : Aim) (ks : List PlainKept) (closed : IsClosed p v a ks) where
-  -- From a world in one of the states the turns of any handlers lead to a world in one of them, each in a world that is played
-  -- anew.
-  stays_in : (hs : List ℕ) (x : PlainWorld) (i : ℕ) → slice_get ks i ≡ Some (kept x) → (y : PlainWorld) × RunsAnew p v hs x y × (IsMet a (statuses y) → ⊥)
-  stays_in [] x i at =
-      let u = closed.unmet i (kept x) at in
-      (u.world, ((u.stands_in.handlers, u.stands_in.runs), u.stands_in.kept), u.unmet)
-  stays_in (h ∷ hs) x i at =
-      let t = closed.tried i (kept x) at h in
-      let next = stays_in hs t.after t.among.number t.among.stands in
-      (next.0, (t.before, t.after, (t.stands_in.handlers, t.stands_in.runs), t.stands_in.kept, t.turn, next.1), next.2)
+abbrev is_busy : Status → Bool
+is_busy (Failed why) = false
+is_busy Busy = true
+is_busy Waiting = false
+is_busy Free = false
+
+-- ---- a handler's status in the list of all
+
+-- it is there if it isn't free
+is_there : (P : Status → Bool) (h : ℕ) (w : World) → P Free ≡ false → P (get_or (statuses_in w) h Free) ≡ true → h < w.count
+is_there P h w not_free e = elim (cases_lt h w.count) [
+  | inl few ↦ few
+  | inr past ↦
+      let none : get_or (statuses_in w) h Free ≡ Free =
+      get_or_past (statuses_in w) h Free (omega (arith, past, length-map-range_with_len (λ (i : ℕ). status_of i w) 0 w.count)) in
+      let no : true ≡ false = sym e ∙ ap P none ∙ not_free in
+      cc
+]
+
+listed : (h : ℕ) (w : World) → h < w.count → get_or (statuses_in w) h Free ≡ status_of h w
+listed h w few = get_or-map-range_with_len (λ (i : ℕ). status_of i w) 0 w.count h h Free few (omega arith)
+
+waits_with : (why : Option Cause) (b : Bool) (stack : List Frame) → is_waiting (status_with why b stack) ≡ true → status_with why b stack ≡ Waiting
+waits_with (Some why) b stack e = cc
+waits_with None true stack e = cc
+waits_with None false [] e = cc
+waits_with None false (f ∷ below) e = refl
+
+turns_with : (why : Option Cause) (b : Bool) (stack : List Frame) → is_busy (status_with why b stack) ≡ true → b ≡ true
+turns_with (Some why) b stack e = cc
+turns_with None true stack e = refl
+turns_with None false [] e = cc
+turns_with None false (f ∷ below) e = cc
+
+waits_in : (h : ℕ) (w : World) → is_waiting (get_or (statuses_in w) h Free) ≡ true → (h < w.count) × (status_of h w ≡ Waiting)
+waits_in h w e =
+    let few = is_there is_waiting h w refl e in
+    (few, waits_with (w.handlers h).failure (has_turn h w) (w.handlers h).stack (sym (ap is_waiting (listed h w few)) ∙ e))
+
+turns_in : (h : ℕ) (w : World) → is_busy (get_or (statuses_in w) h Free) ≡ true → has_turn h w ≡ true
+turns_in h w e =
+    let few = is_there is_busy h w refl e in
+    turns_with (w.handlers h).failure (has_turn h w) (w.handlers h).stack (sym (ap is_busy (listed h w few)) ∙ e)
+
+has_within : (h : ℕ) (w : World) → has_turn h w ≡ true → h < w.count
+has_within h w e = ltb-true h w.count (by (nat_lt h w.count) (has_turn_with h (w.handlers h).failure (w.handlers h).stack w) e)
+  where
+    by : (b c : Bool) → b && c ≡ true → b ≡ true
+    by true c e = refl
+    by false c e = e
+
+idle_in : (h : ℕ) (w : World) → is_busy (get_or (statuses_in w) h Free) ≡ false → has_turn h w ≡ false
+idle_in h w e = by (has_turn h w) refl
+  where
+    by : (b : Bool) → has_turn h w ≡ b → has_turn h w ≡ false
+    by false is = is
+    by true is =
+        let few = has_within h w is in
+        let busy : status_of h w ≡ Busy = busy_with (w.handlers h).failure (has_turn h w) (w.handlers h).stack is (lives h w is) in
+        let no : true ≡ false = sym (ap is_busy (listed h w few ∙ busy)) ∙ e in
+        cc
+
+-- ---- turns that are played anew
+
+module _ (p : Image) (v : Version) where
+  anew_from : (hs : List ℕ) (x y z : PlainWorld) → kept y ≡ kept x → RunsAnew p v hs y z → RunsAnew p v hs x z
+  anew_from [] x y z same runs = (runs.0, runs.1 ∙ same)
+  anew_from (h ∷ hs) x y z same runs = (runs.0, runs.1, runs.2, runs.3 ∙ same, runs.4, runs.5)
+
+  anew_join : (hs gs : List ℕ) (x y z : PlainWorld) → RunsAnew p v hs x y → RunsAnew p v gs y z → RunsAnew p v (hs ++ gs) x z
+  anew_join [] gs x y z runs more = anew_from gs x y z runs.1 more
+  anew_join (h ∷ hs) gs x y z runs more = (runs.0, runs.1, runs.2, runs.3, runs.4, anew_join hs gs runs.1 y z runs.5 more)
+
+  anew_runs : (hs ks : List ℕ) (x y : PlainWorld) → Runs ks (opened p v) x → Runs hs x y → RunsAnew p v hs x y
+  anew_runs [] ks x y played same = ((ks, subst (λ (u : PlainWorld). Runs ks (opened p v) u) (sym same) played), ap kept same)
+  anew_runs (h ∷ hs) ks x y played runs =
+      (x, runs.0, (ks, played), refl, runs.1, anew_runs hs (ks ++ h ∷ []) runs.0 y (runs-more ks h (opened p v) x runs.0 played runs.1) runs.2)
+
+  anew_leads : (hs : List ℕ) (x y : PlainWorld) → IsPlayed p v x → Leads (IsAnewTurn p v) hs x y → RunsAnew p v hs x y
+  anew_leads [] x y played same = (subst (IsPlayed p v) (sym same) played, ap kept same)
+  anew_leads (h ∷ hs) x y played leads =
+      let t = leads.1 in
+      let on : IsPlayed p v leads.0 = (t.played.0 ++ h ∷ [], runs-more t.played.0 h (opened p v) t.before leads.0 t.played.1 t.turn) in
+      (t.before, leads.0, t.played, t.alike, t.turn, anew_leads hs leads.0 y on leads.2)
+
+  module _ (a : Aim) (ks : List PlainKept) (closed : IsClosed p v a ks) where
+    -- From a world in one of the states the turns of any handlers lead to one of the states, each in a world that is played anew.
+    reaches : (hs : List ℕ) (x : PlainWorld) (i : ℕ) → slice_get ks i ≡ Some (kept x) →
+        (j : ℕ) × (k : PlainKept) × (slice_get ks j ≡ Some k) × ((y : PlainWorld) → IsPlayed p v y → kept y ≡ k → RunsAnew p v hs x y)
+    reaches [] x i at = (i, kept x, at, λ y played same. (played, same))
+    reaches (h ∷ hs) x i at =
+        let t = closed.tried i (kept x) at h in
+        let next = reaches hs t.after t.among.number t.among.stands in (
+          next.0,
+          next.1,
+          next.2,
+          λ y played same. (t.before, t.after, (t.stands_in.handlers, t.stands_in.runs), t.stands_in.kept, t.turn, next.3 y played same),
+        )
+
+-- ---- an order that was found
+
+module _ (anew : AnewRunsAsMachine) (alike : KeptAlikeReadAlike) (near : StandingWorldIsNear) (tells : WorldReportsAsMachine)
+    (text : List ℕ) (root : Root) (p : Image) (v : Version) (loaded : IsLoaded text root p) where
+  abbrev s : System
+  s = loaded.system
+
+  abbrev most : ℕ
+  most = most_handlers v
+
+  -- the statuses of a world that is played anew are the machine's
+  told : (hs : List ℕ) (y : PlainWorld) → RunsAnew p v hs (opened p v) y → statuses y ≡ statuses_in (machine_after s root v hs)
+  told hs y runs =
+      let w = machine_after s root v hs in
+      let kept_as = anew s root loaded.sound.faultless loaded.sound.well_formed p v hs y loaded.is_program loaded.fits runs in
+      sym (alike p most kept_as.world y kept_as.alike).statuses ∙ (tells s p w kept_as.world (near s p w kept_as.world kept_as.stands)).1
+
+  waits_too : (hs : List ℕ) (x : PlainWorld) → Runs hs (opened p v) x → world.SomeWaits p v x → SomeWaits s v (machine_after s root v hs)
+  waits_too hs x runs waits =
+      let w = machine_after s root v hs in
+      let h : ℕ = waits.0 in
+      let first : RunsAnew p v hs (opened p v) x = anew_runs p v hs [] (opened p v) x refl runs in
+      let now = waits_in h w (subst (λ (ss : List Status). is_waiting (get_or ss h Free) ≡ true) (told hs x first) waits.1.waits_now) in (
+        h,
+        record {
+          there = now.0;
+          waits = now.1;
+          never = λ gs.
+              let there = waits.1.never gs in
+              let all = anew_join p v hs gs (opened p v) x there.0 first (anew_leads p v gs x there.0 (hs, runs) there.1) in
+              ap (has_turn h) (sym (run_append most s hs gs (opening s root)))
+              ∙ idle_in h (machine_after s root v (hs ++ gs))
+              (subst (λ (ss : List Status). is_busy (get_or ss h Free) ≡ false) (told (hs ++ gs) there.0 all) there.2);
+        },
+      )
+
+  failed_too : (hs : List ℕ) (x : PlainWorld) → Runs hs (opened p v) x → HasFailed (statuses x) → HasFailed (statuses_in (machine_after s root v hs))
+  failed_too hs x runs failed = subst HasFailed (told hs x (anew_runs p v hs [] (opened p v) x refl runs)) failed
+
+  pub sought_too : (a : Aim) (hs : List ℕ) (x : PlainWorld) → Runs hs (opened p v) x → world.IsSought p v a x → IsSought s v a (machine_after s root v hs)
+  sought_too aim.Stuck hs x runs waits = waits_too hs x runs waits
+  sought_too aim.Fails hs x runs failed = failed_too hs x runs failed
+  sought_too aim.Any hs x runs (inl waits) = inl (waits_too hs x runs waits)
+  sought_too aim.Any hs x runs (inr failed) = inr (failed_too hs x runs failed)
+
+  -- ---- where nothing was found
+
+  module _ (a : Aim) (ks : List PlainKept) (closed : IsClosed p v a ks) where
+    none_fails : (hs : List ℕ) → ((ss : List Status) → HasFailed ss → IsMet a ss) → HasFailed (statuses_in (machine_after s root v hs)) → ⊥
+    none_fails hs meets failed =
+        let there = reaches p v a ks closed hs (opened p v) closed.opens.number closed.opens.stands in
+        let u = closed.unmet there.0 there.1 there.2 in
+        let runs = there.3 u.world (u.stands_in.handlers, u.stands_in.runs) u.stands_in.kept in
+        u.unmet (meets (statuses u.world) (subst HasFailed (sym (told hs u.world runs)) failed))
+
+    none_waits : (hs : List ℕ) → AreMoving p v a ks → world.seeks_stuck a ≡ true → SomeWaits s v (machine_after s root v hs) → ⊥
+    none_waits hs moving seeks waits =
+        let w = machine_after s root v hs in
+        let h : ℕ = waits.0 in
+        let there = reaches p v a ks closed hs (opened p v) closed.opens.number closed.opens.stands in
+        let m = moving seeks there.0 there.1 there.2 in
+        let runs = there.3 m.world m.played m.kept_is in
+        let now : is_waiting (get_or (statuses m.world) h Free) ≡ true =
+        ap (λ (ss : List Status). is_waiting (get_or ss h Free)) (told hs m.world runs)
+        ∙ ap is_waiting (listed h w waits.1.there ∙ waits.1.waits) in
+        let on = m.moves h now in
+        let gs : List ℕ = on.handlers in
+        let all = anew_join p v hs gs (opened p v) m.world on.world runs (anew_leads p v gs m.world on.world m.played on.leads) in
+        let turns : has_turn h (machine_after s root v (hs ++ gs)) ≡ true =
+        turns_in h (machine_after s root v (hs ++ gs)) (subst (λ (ss : List Status). is_busy (get_or ss h Free) ≡ true) (told (hs ++ gs) on.world all) on.turn) in
+        let no : true ≡ false = sym turns ∙ ap (has_turn h) (run_append most s hs gs (opening s root)) ∙ waits.1.never gs in
+        cc
+
+  pub none_sought : (a : Aim) (ks : List PlainKept) → IsClosed p v a ks → AreMoving p v a ks → (hs : List ℕ) → IsSought s v a (machine_after s root v hs) → ⊥
+  none_sought aim.Stuck ks closed moving hs waits = none_waits aim.Stuck ks closed hs moving refl waits
+  none_sought aim.Fails ks closed moving hs failed = none_fails aim.Fails ks closed hs (λ ss f. f) failed
+  none_sought aim.Any ks closed moving hs (inl waits) = none_waits aim.Any ks closed hs moving refl waits
+  none_sought aim.Any ks closed moving hs (inr failed) = none_fails aim.Any ks closed hs (λ ss f. inr f) failed
+
+pub found : AnewRunsAsMachine → KeptAlikeReadAlike → StandingWorldIsNear → WorldReportsAsMachine → FoundOrdersAreTheMachines
+found anew alike near tells text root program version lines a loaded leads = record {
+  system = loaded.system;
+  read = loaded.read;
+  sound = loaded.sound;
+  sought = sought_too anew alike near tells text root program version loaded a (turns_of lines) leads.world leads.runs leads.holds;
+}
 
 pub whole : AnewRunsAsMachine → KeptAlikeReadAlike → StandingWorldIsNear → WorldReportsAsMachine → WholeSearchesFindAll
-whole runs_as alike near tells text root program version aim states loaded closed =
-    let s = loaded.system in
-    record {
-      system = s;
-      read = loaded.read;
-      sound = loaded.sound;
-      none = λ handlers met.
-          let there = stays_in program version aim states closed handlers (opened program version) closed.opens.number closed.opens.stands in
-          let w = machine_after s root version handlers in
-          let kept_as = runs_as s root loaded.sound.faultless loaded.sound.well_formed program version handlers there.0 loaded.is_program loaded.fits there.1 in
-          let told = tells s program w kept_as.world (near s program w kept_as.world kept_as.stands) in
-          let same = (alike program (most_handlers version) kept_as.world there.0 kept_as.alike).statuses in
-          there.2 (subst (IsMet aim) same (subst (IsMet aim) (sym told.1) met));
-    }
+whole anew alike near tells text root program version a states loaded closed moving = record {
+  system = loaded.system;
+  read = loaded.read;
+  sound = loaded.sound;
+  none = λ handlers sought. none_sought anew alike near tells text root program version loaded a states closed moving handlers sought;
+}
 
 -- ---- where a search gives up
 

@@ -13,7 +13,7 @@ use Rattle.sc_model.specs.Runs.{has_turn, has_turn_with}
 use Rattle.sc_headline.specs.Searched.{StuckHaveNoTurn, statuses_in}
 
 -- one that has a turn has not failed
-lives : (h : ℕ) (w : World) → has_turn h w ≡ true → (w.handlers h).failure ≡ None
+pub lives : (h : ℕ) (w : World) → has_turn h w ≡ true → (w.handlers h).failure ≡ None
 lives h w = by (nat_lt h w.count) (w.handlers h).failure refl
   where
     by : (b : Bool) (why : Option Cause) → (w.handlers h).failure ≡ why → b && has_turn_with h why (w.handlers h).stack w ≡ true → (w.handlers h).failure ≡ None
@@ -22,7 +22,7 @@ lives h w = by (nat_lt h w.count) (w.handlers h).failure refl
     by false (Some why) e is = cc
 
 -- so it is busy
-busy_with : (why : Option Cause) (b : Bool) (stack : List Frame) → b ≡ true → why ≡ None → status_with why b stack ≡ Busy
+pub busy_with : (why : Option Cause) (b : Bool) (stack : List Frame) → b ≡ true → why ≡ None → status_with why b stack ≡ Busy
 busy_with None true stack has alive = refl
 busy_with None false stack has alive = cc
 busy_with (Some why) b stack has alive = cc

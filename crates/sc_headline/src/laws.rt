@@ -137,18 +137,20 @@ pub fn runs_are_answered_yes()
     runs_audit_yes();
 }
 
-/// For every source text that is accepted: after the turns of an order that a search found, the handlers of the
-/// machine on trees have the statuses of the world's, stuck or with one that has failed.
+/// For every source text that is accepted: the turns of an order that a search found lead the machine on trees to a
+/// state from which some handler waits for good, whatever others do, or in which one has failed.
 pub fn found_orders_are_the_machines()
     ensures { FoundOrdersAreTheMachines }
 {
-    world_runs_as_machine();
+    anew_runs_as_machine();
+    kept_alike_read_alike();
     standing_world_is_near();
     world_reports_as_machine();
 }
 
-/// For every source text that is accepted: where a search of its program played every order and found none, no list of handler
-/// numbers, of any length, leads the machine on trees to a state as was looked for.
+/// For every source text that is accepted: if a search of its program played every order and found none, no list of handler numbers,
+/// of any length, leads the machine on trees to a state from which some handler waits for good, or in which one has
+/// failed, whichever was looked for.
 pub fn whole_searches_find_all()
     ensures { WholeSearchesFindAll }
 {
