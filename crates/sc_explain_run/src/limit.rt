@@ -18,10 +18,15 @@ pub enum Limit {
     Output,
     /// With the record that it plays.
     Record,
+    /// With an order after which some handler waits for good.
+    Stuck,
 }
 
 /// Adds how many turns were made, where a handler still has something to do, and what helps.
 pub fn push_limit(lines: &mut Lines, played: Played<'_>, ended: &World<'_>) {
+    if matches!(played.limit, Limit::Stuck) {
+        return push_going_on(lines, ended);
+    }
     if matches!(played.limit, Limit::Output) || !is_any_busy(ended) {
         return;
     }
@@ -38,6 +43,20 @@ pub fn push_limit(lines: &mut Lines, played: Played<'_>, ended: &World<'_>) {
     lines.fill_number(template, made);
     if let Limit::Turns(limit) = played.limit {
         lines.fill_number(used_up(limit, made), u64::from(MOST_TURNS))
+    }
+}
+
+/// Adds which handlers go on beside one that waits for good, if any do.
+fn push_going_on(lines: &mut Lines, ended: &World<'_>) {
+    let mut template = "handler ~";
+    for handler in 0..count_of(ended) {
+        if let Some(Status::Busy) = ended.status(handler) {
+            lines.fill_number(template, u64::from(handler));
+            template = ", handler ~";
+        }
+    }
+    if is_any_busy(ended) {
+        lines.push(" can go on, but no order of turns gives each handler that waits another turn\n")
     }
 }
 

@@ -42,22 +42,11 @@ exit_for finding.Undecided = Undecided
 
 -- ---- the lines of a verdict
 
--- it is known that some order goes on for ever
-abbrev pub is_endless : Length → Bool
-is_endless (span.AtMost turns) = false
-is_endless span.Endless = true
-is_endless span.Unknown = false
-
--- The line that says that no order does what was looked for. If stuck orders were looked for and some order goes on
--- for ever, it adds that a handler that waits for good while another goes on for ever was not looked for.
-abbrev pub none_line : Sought → Bool → List ℕ
-none_line sought.Fails is_endless = codes "none fails (proved)\n"
-none_line sought.Stuck false = codes "none stuck (proved)\n"
-none_line sought.Stuck true =
-    codes "none stuck (proved): handlers that wait beside one that goes on were not looked for\n"
-none_line sought.Any false = codes "none stuck, none fails (proved)\n"
-none_line sought.Any true =
-    codes "none stuck, none fails (proved): handlers that wait beside one that goes on were not looked for\n"
+-- The line that says that no order does what was looked for.
+abbrev pub none_line : Sought → List ℕ
+none_line sought.Fails = codes "none fails (proved)\n"
+none_line sought.Stuck = codes "none stuck (proved)\n"
+none_line sought.Any = codes "none stuck, none fails (proved)\n"
 
 -- the number of turns of these lines, or the largest number of 64 bits if that is smaller
 abbrev pub told_turns : List RecordLine → ℕ
@@ -68,15 +57,15 @@ abbrev pub found_line : List ℕ → Order → List ℕ
 found_line what order = what ++ (codes " after " ++ (decimal (told_turns order.lines.items) ++ codes " turns\n"))
 
 -- the line for the finding `Nothing`: if every order was played, it says that there is none
-abbrev pub nothing_line : Sought → Bool → Length → List ℕ
-nothing_line what true length = none_line what (is_endless length)
-nothing_line what false length = codes "none found\n"
+abbrev pub nothing_line : Sought → Bool → List ℕ
+nothing_line what true = none_line what
+nothing_line what false = codes "none found\n"
 
-abbrev pub finding_line : Sought → Bool → Length → Finding → List ℕ
-finding_line what is_whole length finding.Nothing = nothing_line what is_whole length
-finding_line what is_whole length (finding.Stuck order) = found_line (codes "stuck") order
-finding_line what is_whole length (finding.Fails order) = found_line (codes "fails") order
-finding_line what is_whole length finding.Undecided = codes "undecided\n"
+abbrev pub finding_line : Sought → Bool → Finding → List ℕ
+finding_line what is_whole finding.Nothing = nothing_line what is_whole
+finding_line what is_whole (finding.Stuck order) = found_line (codes "stuck") order
+finding_line what is_whole (finding.Fails order) = found_line (codes "fails") order
+finding_line what is_whole finding.Undecided = codes "undecided\n"
 
 -- the line that says whether orders end; nothing if that isn't known
 abbrev pub length_line : Length → List ℕ
@@ -97,7 +86,7 @@ states_line count = codes "states " ++ (decimal count ++ codes "\n")
 
 abbrev pub verdict_lines : Sought → Verdict → List ℕ
 verdict_lines what verdict =
-    finding_line what verdict.is_whole verdict.length verdict.finding
+    finding_line what verdict.is_whole verdict.finding
     ++ (length_line verdict.length
     ++ (outcomes_line verdict.finding (length verdict.ends.items) ++ states_line verdict.states))
 

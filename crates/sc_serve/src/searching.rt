@@ -164,12 +164,20 @@ fn note_of(
                 program,
                 version: Version::Two,
                 lines,
-                limit: Limit::Record,
+                limit: limit_of(finding),
                 may_refuse: true,
             };
             order_note(alloc, played)
         }
         _ => Ok(Vec::new(alloc)),
+    }
+}
+
+/// Where the order that was found ends.
+fn limit_of(finding: &Finding) -> Limit {
+    match finding {
+        Finding::Stuck(_) => Limit::Stuck,
+        Finding::Nothing | Finding::Fails(_) | Finding::Undecided => Limit::Record,
     }
 }
 

@@ -34,11 +34,11 @@ fn push_finding(
     sought: Sought,
     verdict: &Verdict,
 ) -> Result<(), AllocError>
-    ensures { OnOk result (lines.new.items ≡ lines.old.items ++ spec.finding_line sought verdict.now.is_whole verdict.now.length verdict.now.finding) }
+    ensures { OnOk result (lines.new.items ≡ lines.old.items ++ spec.finding_line sought verdict.now.is_whole verdict.now.finding) }
 {
     match &verdict.finding {
         Finding::Nothing => {
-            let told = nothing_of(sought, verdict.is_whole, verdict.length);
+            let told = nothing_of(sought, verdict.is_whole);
             lines.extend_from_slice(told.as_bytes())
         }
         Finding::Stuck(order) => push_found(alloc, lines, "stuck", order),
@@ -48,38 +48,24 @@ fn push_finding(
 }
 
 /// The line that says that nothing was found: there is nothing if every order was played.
-fn nothing_of(sought: Sought, is_whole: bool, length: Length) -> &'static str
-    ensures { result.now ≡ spec.nothing_line sought is_whole length }
+fn nothing_of(sought: Sought, is_whole: bool) -> &'static str
+    ensures { result.now ≡ spec.nothing_line sought is_whole }
 {
     if is_whole {
-        none_of(sought, is_endless(length))
+        none_of(sought)
     } else {
         "none found\n"
     }
 }
 
-/// Whether some order goes on for ever, as far as that is known.
-fn is_endless(length: Length) -> bool
-    ensures { result ≡ spec.is_endless length }
+/// The line that says that no order does what was looked for.
+fn none_of(sought: Sought) -> &'static str
+    ensures { result.now ≡ spec.none_line sought }
 {
-    matches!(length, Length::Endless)
-}
-
-/// The line that says that no order at all does what was looked for. Handlers that wait for good while others go on for
-/// ever aren't looked for.
-fn none_of(sought: Sought, is_endless: bool) -> &'static str
-    ensures { result.now ≡ spec.none_line sought is_endless }
-{
-    match (sought, is_endless) {
-        (Sought::Fails, _) => "none fails (proved)\n",
-        (Sought::Stuck, false) => "none stuck (proved)\n",
-        (Sought::Stuck, true) => {
-            "none stuck (proved): handlers that wait beside one that goes on were not looked for\n"
-        }
-        (Sought::Any, false) => "none stuck, none fails (proved)\n",
-        (Sought::Any, true) => {
-            "none stuck, none fails (proved): handlers that wait beside one that goes on were not looked for\n"
-        }
+    match sought {
+        Sought::Fails => "none fails (proved)\n",
+        Sought::Stuck => "none stuck (proved)\n",
+        Sought::Any => "none stuck, none fails (proved)\n",
     }
 }
 

@@ -60,19 +60,20 @@ The system is checked first, as by `scoop check`. Then it is played in every ord
 of turns, first in those that differ where handlers touch each other. The answer is
 one of the lines
 
-  none stuck, none fails (proved)  no order of turns makes a handler fail, or leaves one
-                                   waiting and none with a turn: every order was played
+  none stuck, none fails (proved)  no order of turns makes a handler fail, or leads to where
+                                   one waits for good: every order was played
   none found                       no order was found that does, and some were left
                                    out that should come to the same
   stuck after N turns              an order leaves handlers waiting for good
   fails after N turns              a handler fails in an order
   undecided                        the states were used up before all was played
 
-and below it how many outcomes and states there are. Stuck means that no handler has
-a turn and one waits: handlers that wait for good beside one that goes on are not
-looked for. By `--for stuck` an order may be left out in which a handler fails, and
-with it how that ends, unless the answer is `proved`. An order that is found is a
-record for `scoop replay`, which plays to the same.";
+and below it how many outcomes and states there are. A handler is stuck, and waits
+for good, if no order gives it a turn any more, whatever others do. Beside others that
+go on it is found only once every order is played. By `--for stuck` an order may be
+left out in which a handler fails, and with it how that ends, unless the answer is
+`proved`. An order that is found is a record for `scoop replay`, which plays to the
+same.";
 
 const SEARCH_AFTER_HELP: &str = "\
 Limits:
