@@ -1,2 +1,3 @@
+pub mod Movers
 pub mod Swept
 pub mod Orders

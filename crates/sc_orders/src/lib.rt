@@ -2,6 +2,9 @@
 //!
 //! A search knows states and the edges between them. [`may_move`] goes back over the edges, from the states in which a
 //! handler has a turn. `specs/Orders` says what it means that a handler never moves.
+//!
+//! `specs/Movers` says which turns may be played at once, before any turn of others, and that a search which plays them so
+//! loses no answer.
 #![tactic(auto)]
 
 mod edges;
