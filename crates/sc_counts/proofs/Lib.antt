@@ -1,5 +1,5 @@
 mod Marks
-mod Jobs
+pub mod Jobs
 mod Likes
 mod Handlers
 mod Counting

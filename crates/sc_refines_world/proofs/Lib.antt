@@ -16,7 +16,7 @@ pub mod PuttingBack
 mod ReachedStates
 mod Refined
 mod PlayedAnew
-mod OtherStages
+pub mod OtherStages
 mod Reports
 mod WorldTurns
 mod Wants

@@ -256,7 +256,7 @@ no_idle_go : {A : Type 0} (ps : List Posted) → job_idle ps ≡ Some job.Go →
 no_idle_go [] e = cc
 no_idle_go (p ∷ ps) e = cc
 
-go_runs : (k : ℕ) (stage : HandlerStage) (x : Handler) (s : State) → job_at k stage x s ≡ Some job.Go → stage ≡ Runs
+pub go_runs : (k : ℕ) (stage : HandlerStage) (x : Handler) (s : State) → job_at k stage x s ≡ Some job.Go → stage ≡ Runs
 go_runs k Idle x s e = no_idle_go x.queue e
 go_runs k Runs x s e = refl
 go_runs k (HasMade i) x s e = cc
@@ -308,7 +308,7 @@ has_job h s j e = by (nat_lt h s.count) (s.handlers h).failure refl refl e
     by true (Some why) there stands e = cc
     by false o there stands e = cc
 
-job_there : (h : ℕ) (s : State) (stage : HandlerStage) (j : Job) → h < s.count → (s.handlers h).failure ≡ None → (s.handlers h).stage ≡ stage →
+pub job_there : (h : ℕ) (s : State) (stage : HandlerStage) (j : Job) → h < s.count → (s.handlers h).failure ≡ None → (s.handlers h).stage ≡ stage →
     job_at h stage (s.handlers h) s ≡ Some j → job_of h s ≡ Some j
 job_there h s stage j there stands at due =
     ap (λ (b : Bool). if b then job_with h (s.handlers h).failure (s.handlers h) s else None) (lt-ltb h s.count there)

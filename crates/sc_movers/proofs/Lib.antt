@@ -1,0 +1,3 @@
+pub mod Failed
+pub mod Kept
+pub mod Own

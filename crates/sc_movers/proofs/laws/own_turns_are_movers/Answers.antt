@@ -1,0 +1,10 @@
+use Rattle.sc_movers.proofs.Own.{own_turns_are_movers}
+use Rattle.sc_movers.proofs.laws.own_turns_are_movers.Goals as goal
+
+pub returns : goal.returns
+returns c =
+    own_turns_are_movers
+    c.kept_alike_turn_alike.ensures
+    c.openings_are_of_their_program.ensures
+    c.runs_stay_of_their_program.ensures
+    c.runs_are_functional.ensures
