@@ -38,3 +38,8 @@ lost_by h holder = if is_handler h holder then None else holder
 -- Every right that the handler holds is free, also one that was passed to it.
 abbrev pub release_all : ℕ → Rights → Rights
 release_all h r = record { queue = λ k. lost_by h (r.queue k); top = λ k. lost_by h (r.top k) }
+
+-- These two hold the rights over the handler.
+abbrev pub with_holders : ℕ → Option ℕ → Option ℕ → Rights → Rights
+with_holders h queue top r =
+    record { queue = λ k. if k == h then queue else r.queue k; top = λ k. if k == h then top else r.top k }

@@ -15,6 +15,12 @@ impl HandlerSet {
         HandlerSet { words: [0; 8] }
     }
 
+    pub(crate) fn copy(&self) -> Self
+        ensures { result ≡ self.now }
+    {
+        HandlerSet { words: self.words }
+    }
+
     pub(crate) fn contains(&self, handler: usize) -> bool
         requires { handler < 512 }
         ensures { result ≡ is_member self.now.words handler }

@@ -6,8 +6,8 @@ use std::marker::Model;
 
 /// The rights that a client passed to its supplier, with their holders before.
 ///
-/// Only [`Rights::pass`](crate::Rights::pass) makes one, it can't be copied, and
-/// [`Rights::give_back`](crate::Rights::give_back) takes it. It takes 144 bytes, for any number of handlers.
+/// Only [`Rights::pass`](crate::Rights::pass) makes one, and [`Rights::give_back`](crate::Rights::give_back) takes it. It
+/// is copied only where a state of handlers is kept whole. It takes 144 bytes, for any number of handlers.
 #[derive(Drop)]
 pub struct Passed {
     pub(crate) client: HandlerNumber,
@@ -33,4 +33,21 @@ impl Model for Passed {
       queues : IsBelow p.reach p.queues.words;
       tops : IsBelow p.reach p.tops.words;
     } };
+}
+
+impl Passed {
+    ghost use Rattle.std.specs.Prelude.{◌≡◌};
+
+    /// A copy, for a state that is kept.
+    pub fn copy(&self) -> Passed
+        ensures { result ≡ self.now }
+    {
+        Passed {
+            client: self.client,
+            top_holder: self.top_holder,
+            reach: self.reach,
+            queues: self.queues.copy(),
+            tops: self.tops.copy(),
+        }
+    }
 }

@@ -123,6 +123,24 @@ impl Rights {
         replace(&mut self.top, self.reach, holder, None);
     }
 
+    /// Gives the rights over a handler to these, whoever held them: to one the right to post to it, to the other the right
+    /// to push on its waiting stack.
+    pub fn set_holders(
+        &mut self,
+        handler: HandlerNumber,
+        queue: Option<HandlerNumber>,
+        top: Option<HandlerNumber>,
+    )
+        requires { handler < 512 }
+        ensures rights { rights_of self.new ≡ maps.with_holders handler queue top (rights_of self.old) }
+        ensures version { self.new.version ≡ self.old.version }
+    {
+        let at = handler as usize;
+        self.queue[at] = queue;
+        self.top[at] = top;
+        self.reach = self.reach.max(at + 1);
+    }
+
     /// Passes every right that a client holds to its supplier, with the right to push on the client's own waiting
     /// stack, whoever held it. Returns what was passed, with the holders before.
     pub fn pass(&mut self, client: HandlerNumber, supplier: HandlerNumber) -> Passed

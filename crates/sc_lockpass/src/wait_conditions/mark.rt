@@ -70,6 +70,21 @@ impl Mark {
         Mark { counts }
     }
 
+    /// The mark of an entry that had newly reserved these handlers, 16 at most, before a session of any of them had ended.
+    pub fn uncounted(reserved: &[HandlerNumber]) -> Self
+        requires { length reserved.now ≤ 16 }
+        ensures { result ≡ mark_of (λ k. 0) reserved.now }
+    {
+        let mut counts = ArrayVec::new();
+        for handler in reserved {
+            counts.push(Marked {
+                handler: *handler,
+                sessions: 0,
+            });
+        }
+        Mark { counts }
+    }
+
     /// Whether the entry may be tried: it hasn't waited, or a session of one of the marked handlers has ended since.
     pub fn allows(&self, sessions: &[u64]) -> bool
         ensures { result ≡ mark_allows (slice_index sessions.now) self.now }
