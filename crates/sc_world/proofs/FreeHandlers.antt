@@ -17,7 +17,7 @@ use Rattle.sc_world.specs.Requests.Links.{AreLinked}
 use Rattle.sc_world.proofs.Links as linking
 use Rattle.sc_world.proofs.Links.{free_regions_rest, refused_turns_stay_linked, turns_stay_linked}
 use Rattle.sc_world.specs.Free.{FreeObjectsMeet, IsLinked, OpeningsAreLinked, RoundsStayLinked, RunsStayLinked, StoppedRoundsStayLinked, StoppedRunsStayLinked}
-use Rattle.sc_world.specs.Rounds.{IsRefusedNext, Played, Rounds, StopsNext, TurnsOfNext, more, none, turns_of_picked}
+use Rattle.sc_world.specs.Rounds.{IsRefusedNext, Played, Rounds, StopsNext, more, none, turns_of_picked}
 use Rattle.sc_world.specs.Turning.{HeldUpUnder, IsHeldUp, IsRefusedTurn, IsTurn, Makes, PutsBack, Settles, TurnsUnder}
 use Rattle.sc_world.specs.Worlds.{PlainWorld, max_handlers, new_regions, opened}
 
@@ -122,13 +122,6 @@ refused_next_linked left x y linked (inr stops) = stops_next_linked (next x.cent
 pub stopped_rounds_stay_linked : StoppedRoundsStayLinked
 stopped_rounds_stay_linked limit x y linked stops =
     refused_next_linked stops.left stops.before y (rounds_linked limit x stops.left stops.before linked stops.rounds) stops.refused
-
-of_next : (o : Option (ℕ × Job)) (left turns : ℕ) (x y : PlainWorld) → next x.center ≡ o → IsLinked x → TurnsOfNext o left turns x y → IsLinked y
-of_next None left turns x y is linked turned = same_linked x y turned.1 linked
-of_next (Some p) left turns x y is linked all = makes_linked (turns_of_picked left p.0 p.1 x) p.0 p.1 turns x y linked (next_picks p.0 p.1 x.center is) all.makes
-
-pub turns_of_next_linked : (left turns : ℕ) (x y : PlainWorld) → IsLinked x → TurnsOfNext (next x.center) left turns x y → IsLinked y
-turns_of_next_linked left turns x y linked turned = of_next (next x.center) left turns x y refl linked turned
 
 -- ---- handlers that are free
 

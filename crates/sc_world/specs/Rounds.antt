@@ -1,4 +1,4 @@
--- Turns of the handlers round and round.
+-- Turns that a handler makes under one job, and turns of the handlers round and round.
 use Rattle.std.specs.Prelude.{◌≡◌, ◌<◌, ◌⊎◌, ◌↔◌, ℕ, ◌-◌, Bool, IsTrue, Option, Some, None, if◌then◌else◌}
 use Rattle.sc_region.specs.declared.job.Job.{Job}
 use Rattle.sc_region.specs.declared.job.Want.{Want}
@@ -34,11 +34,6 @@ pub record Played (limit h : ℕ) (j : Job) (turns most : ℕ) (c d : Center) (x
 abbrev pub PlaysOut : ℕ → ℕ → ℕ → ℕ → Center → Center → PlainRegion → PlainRegion → Bool → Type 0
 PlaysOut limit h turns most c d x y told = (j : Job) → c.out h ≡ Some j → Played limit h j turns most c d x y told
 
--- as `PlaysOut`, with a limit of what it may make at once, of the turns that are left
-abbrev pub PlaysAtOnce : ℕ → ℕ → ℕ → ℕ → Center → Center → PlainRegion → PlainRegion → Bool → Type 0
-PlaysAtOnce left h turns most c d x y told =
-    (j : Job) → c.out h ≡ Some j → Played (turns_at_once left j c) h j turns most c d x y told
-
 -- The handler makes this number of turns under its job, and memory is refused to none of them: if the last wants
 -- nothing, they are all that it might make.
 pub record MakesAll (limit h : ℕ) (j : Job) (turns : ℕ) (x y : PlainWorld) : Type 0 where
@@ -49,11 +44,6 @@ pub record MakesAll (limit h : ℕ) (j : Job) (turns : ℕ) (x y : PlainWorld) :
 pub record MakesSome (limit h : ℕ) (j : Job) (turns : ℕ) (x y : PlainWorld) : Type 0 where
   pub makes : Makes limit h j turns x y
   pub cut_short : AreCutShort limit turns makes.settles.outcome.want
-
--- Of the turns that are left the handler makes this number under its job. If none has a job, none are made.
-abbrev pub TurnsOfNext : Option (ℕ × Job) → ℕ → ℕ → PlainWorld → PlainWorld → Type 0
-TurnsOfNext None left turns x y = (turns ≡ 0) × (y ≡ x)
-TurnsOfNext (Some p) left turns x y = MakesAll (turns_of_picked left p.0 p.1 x) p.0 p.1 turns x y
 
 -- Memory is refused to the first turn of the handler under its job, or after some of them.
 abbrev pub StopsNext : Option (ℕ × Job) → ℕ → PlainWorld → PlainWorld → Type 0

@@ -9,7 +9,7 @@ ghost use Rattle.sc_request.specs.Cores.{center_of, log_of};
 ghost use Rattle.sc_request.specs.Rooms.{HasRoomFor};
 ghost use Rattle.sc_request.specs.Logs as core;
 ghost use Rattle.sc_world.specs.Reports as told;
-ghost use Rattle.sc_world.specs.Rounds.{AreCutShort, EndsRounds, IsRefusedNext, PlaysAtOnce, PlaysOut, StopsRounds, TurnsOfNext, turns_at_once};
+ghost use Rattle.sc_world.specs.Rounds.{AreCutShort, PlaysOut};
 ghost use Rattle.sc_world.specs.Turning.{IsRefusedTurn, IsTried, IsTurn, PutsOutBack, Runs, StopsBehind, StopsShort, TurnsUnderJob, turned_by};
 ghost use Rattle.sc_world.specs.Worlds.{max_handlers, new_regions, opened, world_with};
 
@@ -19,7 +19,7 @@ use sc_handler::Log;
 use sc_lockpass::{HandlerNumber, Version};
 use sc_model::Status;
 use sc_play::Region;
-use sc_region::{Breakdown, Job, ObjectNumber, Want};
+use sc_region::{Breakdown, Want};
 use sc_request::Core;
 use std::alloc::{AllocError, Global};
 
@@ -56,7 +56,7 @@ pub struct World<'p> {
 }
 
 impl<'p> World<'p> {
-    ghost use Rattle.sc_request.specs.Logs.{next, pick_for};
+    ghost use Rattle.sc_request.specs.Logs.{pick_for};
     ghost use Rattle.sc_world.specs.Views.{world_of};
 
     /// The world of a program at its opening, with the version's limit on handlers. Further memory comes from this
@@ -174,52 +174,6 @@ impl<'p> World<'p> {
         }
     }
 
-    /// Makes a turn of each handler, in order of number and round and round, until none has a job or this number of
-    /// turns are made. It begins after the handler that made the last turn.
-    ///
-    /// # Errors
-    /// Memory ran out. The world is then the one after the turns before, also if several are made at once,
-    /// but that silent steps of the next may be made.
-    pub fn rounds(&mut self, limit: u32) -> Result<(), AllocError>
-        ensures ok { OnOk result (EndsRounds limit (world_of self.old) (world_of self.new)) }
-        ensures err { OnErr result (StopsRounds limit (world_of self.old) (world_of self.new)) }
-    {
-        let mut left = limit;
-        for _ in 0..limit {
-            if left == 0 {
-                break;
-            }
-            let turns = self.next_turns(left)?;
-            if turns == 0 {
-                break;
-            }
-            left = left.saturating_sub(turns);
-        }
-        Ok(())
-    }
-
-    /// Makes a turn of the next handler that has a job; or as many as are left, if it would be the next again after
-    /// each. Returns how many. Err if memory is refused to one of them, which may be after others.
-    fn next_turns(&mut self, left: u32) -> Result<u32, AllocError>
-        requires { 1 ≤ left }
-        ensures ok { IfOk result (λ turns.
-            TurnsOfNext (next (world_of self.old).center) left turns (world_of self.old) (world_of self.new)) }
-        ensures err { OnErr result (IsRefusedNext left (world_of self.old) (world_of self.new)) }
-    {
-        self.core.make_room()?;
-        match self.core.pick() {
-            Some(handler) => {
-                let region = &mut self.regions[handler as usize];
-                let (turns, cut_short) = play_on(&mut self.core, region, handler, left)?;
-                if cut_short {
-                    return Err(AllocError);
-                }
-                Ok(turns)
-            }
-            None => Ok(0),
-        }
-    }
-
     /// How many handlers there are.
     pub fn handler_count(&self) -> usize
         ensures { result ≡ (world_of self.now).center.state.count }
@@ -323,18 +277,6 @@ fn regions<'p>(alloc: Global, program: &'p Program) -> Result<Vec<Region<'p>>, A
     Ok(regions)
 }
 
-/// How many turns a handler that is out may make at once, if this number is left: all, if it is the next one again as
-/// long as they want nothing.
-fn turns_at_once(core: &mut Core, handler: HandlerNumber, left: u32) -> u32
-    ensures turns { (job : Job) → (center_of core.old).out handler ≡ Some job → result ≡ turns_at_once left job (center_of core.old) }
-    ensures center { center_of core.new ≡ center_of core.old }
-    ensures log { log_of core.new ≡ log_of core.old }
-    ensures room { (n : ℕ) → HasRoomFor n core.old → HasRoomFor n core.new }
-    ensures version { core.new.state.rights.version ≡ core.old.state.rights.version }
-{
-    if core.comes_again(handler) { left } else { 1 }
-}
-
 /// Whether the turns that a handler made under its job were cut short: the last asks nothing, and there might be more.
 fn are_cut_short(limit: u32, turns: u32, asked: &Want) -> bool
     ensures { IsTrue result ↔ AreCutShort limit turns asked.now }
@@ -371,23 +313,4 @@ fn play(
         unreachable!();
     }
     Ok((turns, cut_short))
-}
-
-/// Plays as many turns of a handler that is out under its job as it may make at once, if this number is left.
-fn play_on(
-    core: &mut Core,
-    region: &mut Region<'_>,
-    handler: HandlerNumber,
-    left: u32,
-) -> Result<(u32, bool), AllocError>
-    requires some { 1 ≤ left }
-    requires out { is_some ((center_of core.old).out handler) ≡ true }
-    requires room { HasRoomFor 0 core.old }
-    ensures ok { IfOk result (λ played. PlaysAtOnce left handler played.0 (most_handlers core.old.state.rights.version)
-        (center_of core.old) (center_of core.new) region.old region.new played.1) }
-    ensures err { OnErr result (PutsOutBack handler (center_of core.old) (center_of core.new) region.old region.new) }
-    ensures version { core.new.state.rights.version ≡ core.old.state.rights.version }
-{
-    let limit = turns_at_once(core, handler, left);
-    play(core, region, handler, limit)
 }
