@@ -1,5 +1,5 @@
 -- Turns keep that each handler serves in the core what its region serves, and what follows of handlers that are free.
-use Rattle.std.proofs.Common.{Bor, option_copied, ◌≡◌, inl, inr, ◌&&◌, not, ℕ, zero, suc, Bool, true, false, List, [], ◌∷◌, Option, Some, None, Result, Ok, Err, IfOk, OnErr, is_none, length, slice_get, slice_set, take, refl, sym, ap, subst, ◌∙◌}
+use Rattle.std.proofs.Common.{Bor, option_copied, ◌≡◌, inl, inr, ◌&&◌, not, ℕ, zero, suc, Bool, true, List, [], ◌∷◌, Option, Some, None, Result, Ok, Err, IfOk, OnErr, is_none, length, slice_get, slice_set, take, refl, sym, ap, subst, ◌∙◌}
 use Rattle.std.proofs.lemmas.Option.{slice_get_past, slice_get_read}
 use Rattle.std.specs.Slice.{IsGetResult}
 use Rattle.sc_lockpass.specs.declared.version.Version.{Version}

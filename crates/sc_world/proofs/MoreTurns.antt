@@ -1,9 +1,8 @@
 -- A handler that has more to do is picked again, and its turns follow one another.
-use Rattle.std.proofs.Common.{◌≡◌, ◌+◌, ◌==◌, ℕ, zero, suc, Bool, true, false, List, [], ◌∷◌, ◌++◌, Option, Some, None, is_some, slice_set, refl, sym, ap, subst, ◌∙◌, arith}
+use Rattle.std.proofs.Common.{◌≡◌, ◌+◌, ◌==◌, ℕ, zero, suc, Bool, true, false, List, [], ◌∷◌, Option, Some, None, is_some, slice_set, refl, sym, ap, subst, ◌∙◌, arith}
 use Rattle.std.proofs.lemmas.Bool.{eq-eqb}
 use Rattle.std.proofs.Math.Path.{fun_ext}
 use Rattle.std.specs.Prelude.{nat_lt, if◌then◌else◌}
-use Rattle.sc_lockpass.specs.Rights as rights
 use Rattle.sc_lockpass.specs.Rights.{Rights}
 use Rattle.sc_model.specs.declared.cause.Cause.{Cause}
 use Rattle.sc_model.specs.declared.cause.Cause.TheVariants as cause
@@ -21,7 +20,7 @@ use Rattle.sc_request.specs.Logs.{Center, granted, pick_for, picked, settles}
 use Rattle.sc_request.specs.Settling.{begun, made_at}
 use Rattle.sc_play.specs.Regions.{PlainRegion}
 use Rattle.sc_play.specs.Turns.{Becomes, FirstTurn, Turns, first, more}
-use Rattle.sc_world.specs.Turning.{IsTurn, Makes, Runs as RunsBy, TurnsUnder}
+use Rattle.sc_world.specs.Turning.{IsTurn, Makes, TurnsUnder}
 use Rattle.sc_world.specs.Worlds.{PlainWorld}
 use Rattle.sc_world.proofs.SettledPicks.{begun_count, job_here, settled_continue, settled_more}
 

@@ -1,12 +1,12 @@
 -- Who is out.
-use Rattle.std.proofs.Common.{Bor, ◌≡◌, ◌⊎◌, inl, inr, ℕ, List, Bool, true, false, Option, Some, None, Result, Ok, Err, IfOk, OnErr, slice_get, slice_set, refl, ap, sym, subst, ◌∙◌, arith}
-use Rattle.std.specs.Prelude.{◌==◌, if◌then◌else◌, is_some}
+use Rattle.std.proofs.Common.{Bor, ◌≡◌, inr, ℕ, List, true, false, Option, Some, None, Result, Ok, Err, IfOk, OnErr, slice_get, slice_set, refl, ap, sym, subst, ◌∙◌, arith}
+use Rattle.std.specs.Prelude.{is_some}
 use Rattle.std.specs.Option.{option_map}
 use Rattle.sc_region.specs.declared.job.Job.{Job}
 use Rattle.sc_request.specs.Logs.{Center, pick_for, picked, picked_if, settles}
 use Rattle.sc_world.specs.Turning.{IsTurn, TurnsUnder, IsRefusedTurn, HeldUpUnder, IsHeldUp, Makes, PutsBack, Settles, turned_by}
 use Rattle.sc_play.specs.Regions.{PlainRegion}
-use Rattle.sc_world.specs.declared.world.Turned.TheVariants.{Moved, Nothing}
+use Rattle.sc_world.specs.declared.configuration.Turned.TheVariants.{Moved, Nothing}
 use Rattle.sc_world.specs.Worlds.{PlainWorld}
 
 -- the handler that was picked is out with its job

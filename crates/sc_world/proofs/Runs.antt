@@ -4,7 +4,7 @@ use Rattle.std.proofs.lemmas.List.{take_all, take_more, drop-replicate, get_or-r
 use Rattle.std.proofs.lemmas.Option.{slice_get-get_or}
 use Rattle.sc_region.specs.declared.job.Job.{Job}
 use Rattle.sc_request.specs.Logs.{pick_for}
-use Rattle.sc_world.specs.declared.world.Turned.TheVariants.{Nothing}
+use Rattle.sc_world.specs.declared.configuration.Turned.TheVariants.{Nothing}
 use Rattle.sc_world.specs.Turning.{IsTurn, TurnsUnder, IsRefusedTurn, MakeTurns, Runs, StopsBehind, turned_by}
 use Rattle.sc_world.specs.Worlds.{PlainWorld}
 use Rattle.sc_world.proofs.Outs.{turn-none}

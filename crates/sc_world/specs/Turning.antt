@@ -6,8 +6,8 @@ use Rattle.sc_region.specs.declared.job.Job.{Job}
 use Rattle.sc_region.specs.declared.job.Outcome.{Outcome}
 use Rattle.sc_request.specs.Logs.{Center, pick_for, picked, put_back, settles}
 use Rattle.sc_play.specs.Regions.{PlainRegion, Plays, IsRefused}
-use Rattle.sc_world.specs.declared.world.Turned.{Turned}
-use Rattle.sc_world.specs.declared.world.Turned.TheVariants.{Moved, Nothing}
+use Rattle.sc_world.specs.declared.configuration.Turned.{Turned}
+use Rattle.sc_world.specs.declared.configuration.Turned.TheVariants.{Moved, Nothing}
 use Rattle.sc_world.specs.Worlds.{PlainWorld, opened}
 
 -- The handler, which is out with the job, plays so many turns under it, at most the limit, and what they come to is

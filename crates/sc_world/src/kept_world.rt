@@ -30,8 +30,9 @@ impl<'p> World<'p> {
     pub fn keep(self) -> Result<KeptWorld<'p>, AllocError>
         ensures { IfOk result (λ world. kept_of world ≡ kept (world_of self.entry)) }
     {
-        let core = self.core.keep(self.alloc)?;
-        let regions = without_new(self.regions);
+        let configuration = self.configuration;
+        let core = configuration.core.keep(configuration.alloc)?;
+        let regions = without_new(configuration.regions);
         Ok(KeptWorld { core, regions })
     }
 
@@ -39,9 +40,9 @@ impl<'p> World<'p> {
     /// it holds, and for each request in its queue.
     pub fn hash(&self) -> u64 {
         let mut hasher = FoldHasher::default();
-        hasher.write_u64(self.core.hash());
-        for handler in 0..self.core.handler_count() {
-            hasher.write_u64(self.regions[handler].hash());
+        hasher.write_u64(self.configuration.core.hash());
+        for handler in 0..self.configuration.core.handler_count() {
+            hasher.write_u64(self.configuration.regions[handler].hash());
         }
         hasher.finish()
     }
@@ -56,7 +57,9 @@ impl<'p> KeptWorld<'p> {
     pub fn is_same(&self, world: &World<'_>) -> bool
         ensures { IsTrue result ↔ kept_of self.now ≡ kept (world_of world.now) }
     {
-        self.core.is_same(&world.core) && same_regions(&self.regions, &world.regions)
+        let configuration = &world.configuration;
+        self.core.is_same(&configuration.core)
+            && same_regions(&self.regions, &configuration.regions)
     }
 }
 

@@ -41,7 +41,7 @@ pub fn stopped_rounds_stay_linked()
 pub fn free_objects_meet(world: &World<'_>, handler: HandlerNumber)
     ensures { FreeObjectsMeet handler (world_of world.now) }
 {
-    if let Some(region) = world.regions.get(handler as usize) {
+    if let Some(region) = world.configuration.regions.get(handler as usize) {
         region.settled_objects_meet();
     }
 }

@@ -1,4 +1,4 @@
-use Rattle.std.proofs.Common.{◌≡◌, ◌+◌, refl, sym, ◌∙◌, arith}
+use Rattle.std.proofs.Common.{◌+◌, refl, sym, arith}
 use Rattle.sc_world.specs.Views.{world_of}
 use Rattle.sc_world.proofs.AtOnce.{runs_on, runs_out, stops_on}
 use Rattle.sc_world.proofs.Outs.{on-err}

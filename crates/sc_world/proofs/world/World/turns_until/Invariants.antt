@@ -1,7 +1,6 @@
 use Rattle.std.proofs.Common.{take}
 use Rattle.sc_world.specs.Turning.{Runs}
 use Rattle.sc_world.specs.Views.{world_of}
-use Rattle.sc_world.proofs.Runs.{runs-next}
 use Rattle.sc_world.proofs.world.World.turns_until.Given as goal
 
 -- those before have had their turns

@@ -1,10 +1,10 @@
-use Rattle.std.proofs.Common.{Result, Err, Ok, OnErr, ◌≡◌, refl, sym, subst, ◌∙◌}
+use Rattle.std.proofs.Common.{refl, sym, subst, ◌∙◌}
 use Rattle.sc_region.specs.declared.job.Job.{Job}
-use Rattle.sc_play.specs.Regions.{IsRefused, Plays, outcome}
+use Rattle.sc_play.specs.Regions.{Plays, outcome}
 use Rattle.sc_request.specs.Cores.{center_of}
 use Rattle.sc_world.proofs.Outs.{job-is, one-job}
 use Rattle.sc_world.proofs.Runs.{ok-holds}
-use Rattle.sc_world.proofs.world.play.Goals as goal
+use Rattle.sc_world.proofs.configuration.play.Goals as goal
 
 pub returns-clause-ok : goal.returns-clause-ok
 returns-clause-ok c = λ j is.

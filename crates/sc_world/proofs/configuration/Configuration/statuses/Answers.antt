@@ -1,13 +1,13 @@
 use Rattle.std.proofs.Common.{◌<◌, ◌∙◌, sym, arith}
 use Rattle.sc_request.specs.Logs.{status_in}
-use Rattle.sc_world.specs.Views.{world_of}
+use Rattle.sc_world.specs.Views.{world_in}
 use Rattle.sc_world.proofs.ReportParts.{status-is, status-there, statuses-more}
-use Rattle.sc_world.proofs.world.World.statuses.Goals as goal
-use Rattle.sc_world.proofs.world.World.statuses.Goals.{in-Some+in_ok-push, in_default}
+use Rattle.sc_world.proofs.configuration.Configuration.statuses.Goals as goal
+use Rattle.sc_world.proofs.configuration.Configuration.statuses.Goals.{in-Some+in_ok-push, in_default}
 
 pub loop-handler-preserved : goal.loop-handler-preserved
 loop-handler-preserved c =
-    let w = world_of c.args.self.now in
+    let w = world_in c.args.self.now in
     let h = c.loop-handler.handler in
     let below : h < w.center.state.count = omega (arith, c.loop-handler-test.true, c.handler_count-handler-end.ensures.count) in
     elim c.match-status.branch [

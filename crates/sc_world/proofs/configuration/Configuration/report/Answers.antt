@@ -1,18 +1,18 @@
-use Rattle.std.proofs.Common.{◌≡◌, ◌<◌, ◌≤◌, ◌-◌, ◌∙◌, List, ℕ, ◌++◌, Some, length, slice_get, sym, ap, refl, arith}
+use Rattle.std.proofs.Common.{◌≡◌, ◌<◌, ◌≤◌, ◌-◌, ◌∙◌, List, ℕ, ◌++◌, length, sym, ap, refl, arith}
 use Rattle.std.proofs.lemmas.Option.{slice_get_read}
 use Rattle.sc_request.specs.Logs.{status_in}
 use Rattle.sc_world.specs.Reports.{is_busy, some_is_busy}
-use Rattle.sc_world.specs.Views.{world_of}
+use Rattle.sc_world.specs.Views.{world_in}
 use Rattle.sc_world.proofs.ReportParts.{busy-else, busy-then, refused-is, report-is, status-is, status-there, told-all, told-end, told-more, told-none}
-use Rattle.sc_world.proofs.world.World.report.Goals as goal
-use Rattle.sc_world.proofs.world.World.report.Goals.{then-is_busy, else-is_busy, else-loop-handler-test, then-loop-handler-test+in_default}
+use Rattle.sc_world.proofs.configuration.Configuration.report.Goals as goal
+use Rattle.sc_world.proofs.configuration.Configuration.report.Goals.{then-is_busy, else-is_busy, else-loop-handler-test, then-loop-handler-test+in_default}
 
 pub loop-handler-init : goal.loop-handler-init
-loop-handler-init c = record { told = told-none (world_of c.args.self.now) c.new-report.result.items c.new-report.ensures.items; busy = refl }
+loop-handler-init c = record { told = told-none (world_in c.args.self.now) c.new-report.result.items c.new-report.ensures.items; busy = refl }
 
 pub loop-handler-preserved : goal.loop-handler-preserved
 loop-handler-preserved c =
-    let w = world_of c.args.self.now in
+    let w = world_in c.args.self.now in
     let h = c.loop-handler.handler in
     let below : h < w.center.state.count = omega (arith, c.loop-handler-test.true, c.handler_count-handler-end.ensures.count) in
     let status = status-is h w.center c.in-Some.status below (sym c.in-Some.is ∙ c.status.ensures) in
@@ -33,7 +33,7 @@ loop-handler-preserved c =
 
 pub returns : goal.returns
 returns c =
-    let w = world_of c.args.self.now in
+    let w = world_in c.args.self.now in
     let h = c.loop-handler.handler in
     let end = c.handler_count-handler-end.ensures.count in
     let past : w.center.state.count ≤ h = elim c.loop-handler-test.branch [

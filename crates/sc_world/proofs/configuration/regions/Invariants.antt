@@ -1,7 +1,6 @@
 use Rattle.std.proofs.Common.{◌≡◌, ◌≤◌, length, vec_capacity}
 use Rattle.sc_world.specs.Worlds.{new_regions}
-use Rattle.sc_world.proofs.Opening.{regions-more}
-use Rattle.sc_world.proofs.world.regions.Given as goal
+use Rattle.sc_world.proofs.configuration.regions.Given as goal
 
 -- there is a region for each number before, and room for all
 abbrev pub invariant-loop-handler : goal.invariant-loop-handler

@@ -1,6 +1,6 @@
 use Rattle.std.proofs.Common.{sym, ◌∙◌, arith}
 use Rattle.sc_world.proofs.Opening.{regions-more, regions-none}
-use Rattle.sc_world.proofs.world.regions.Goals as goal
+use Rattle.sc_world.proofs.configuration.regions.Goals as goal
 
 pub loop-handler-init : goal.loop-handler-init
 loop-handler-init c = record {
