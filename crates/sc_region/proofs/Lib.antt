@@ -8,3 +8,4 @@ pub mod FilledSlots
 pub mod DeeperOperands
 pub mod OwnCalls
 pub mod Sameness
+pub mod Copies

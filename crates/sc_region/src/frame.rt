@@ -1,5 +1,5 @@
 //! The activation of a frame's routine.
-ghost use Rattle.std.specs.Prelude.{◌≡◌, ◌≤◌, ◌+◌, ◌++◌, ◌-◌, [], IsTrue, OnOk, length, replicate, vec_capacity, vec_len};
+ghost use Rattle.std.specs.Prelude.{◌≡◌, ◌≤◌, ◌+◌, ◌++◌, ◌-◌, [], IfOk, IsTrue, OnOk, length, replicate, vec_capacity, vec_len};
 ghost use Rattle.sc_region.specs.Calls.{BeginsPlainly, in_call};
 ghost use Rattle.sc_region.specs.Stores.{beginning};
 ghost use Rattle.sc_region.specs.declared.value.Value.TheVariants.{Void};
@@ -96,6 +96,24 @@ impl Activation {
             reserved: ArrayVec::new(),
             blocks: Vec::new(alloc),
         }
+    }
+
+    /// A copy. Its error says that memory ran out.
+    pub(crate) fn copy(&self, alloc: Global) -> Result<Activation, AllocError>
+        ensures { IfOk result (λ activation. activation_of activation ≡ activation_of self.now) }
+    {
+        Ok(Activation {
+            routine: self.routine,
+            origin: self.origin,
+            stage: self.stage,
+            place: self.place,
+            slots: Vec::from_slice(alloc, &self.slots)?,
+            result: self.result,
+            olds: self.olds.copy(alloc)?,
+            operands: self.operands.copy(alloc)?,
+            reserved: copy_handlers(&self.reserved),
+            blocks: copy_blocks(alloc, &self.blocks)?,
+        })
     }
 
     /// Begins a routine in the memory of an earlier one, with all the memory that its operands will need. Its error
@@ -279,4 +297,27 @@ fn grow_blocks(
     ensures { blocks.new.items ≡ blocks.old.items }
 {
     blocks.reserve(count)
+}
+
+/// A copy of what blocks newly reserved. Its error says that memory ran out.
+fn copy_blocks(
+    alloc: Global,
+    blocks: &[ArrayVec<HandlerNumber, 16>],
+) -> Result<Vec<ArrayVec<HandlerNumber, 16>>, AllocError>
+    ensures { IfOk result (λ copy. copy.items ≡ blocks.now) }
+{
+    let mut copy = Vec::with_capacity(alloc, blocks.len())?;
+    for block in blocks {
+        copy.push(copy_handlers(block))?;
+    }
+    Ok(copy)
+}
+
+/// A copy of the handlers.
+fn copy_handlers(handlers: &ArrayVec<HandlerNumber, 16>) -> ArrayVec<HandlerNumber, 16>
+    ensures { result ≡ handlers.now }
+{
+    let mut copy = ArrayVec::new();
+    let _ = copy.try_extend_from_slice(handlers.as_slice());
+    copy
 }

@@ -32,6 +32,16 @@ impl Object {
         Ok(Object { class, attributes })
     }
 
+    /// A copy. Its error says that memory ran out.
+    fn copy(&self, alloc: Global) -> Result<Object, AllocError>
+        ensures { IfOk result (λ object. object_of object ≡ object_of self.now) }
+    {
+        Ok(Object {
+            class: self.class,
+            attributes: Vec::from_slice(alloc, &self.attributes)?,
+        })
+    }
+
     /// Writes the value to the attribute at the number, if there is one.
     fn write(&mut self, slot: usize, value: Value)
         ensures { object_of self.new ≡ with_slot slot value (object_of self.old) }
@@ -59,7 +69,7 @@ impl Model for Objects {
 }
 
 impl Objects {
-    ghost use Rattle.std.specs.Prelude.{◌≡◌, ◌-◌, ◌++◌, ◌↔◌, [], ◌∷◌, IsTrue, OnOk, OnErr, length, take};
+    ghost use Rattle.std.specs.Prelude.{◌≡◌, ◌-◌, ◌++◌, ◌↔◌, [], ◌∷◌, IfOk, IsTrue, OnOk, OnErr, length, take};
     ghost use Rattle.std.specs.Option.{option_map};
     ghost use Rattle.std.specs.Borrow.{sem};
     ghost use Rattle.sc_region.specs.Lending.{LendsObject};
@@ -71,6 +81,17 @@ impl Objects {
         Objects {
             items: Vec::new(alloc),
         }
+    }
+
+    /// A copy. Its error says that memory ran out.
+    pub fn copy(&self, alloc: Global) -> Result<Objects, AllocError>
+        ensures { IfOk result (λ objects. objects ≡ self.now) }
+    {
+        let mut items = Vec::with_capacity(alloc, self.items.len())?;
+        for object in &self.items {
+            items.push(object.copy(alloc)?)?;
+        }
+        Ok(Objects { items })
     }
 
     pub fn len(&self) -> usize

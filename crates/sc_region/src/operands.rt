@@ -1,5 +1,5 @@
 //! The operands of a routine, and the values that its postcondition keeps from before the body.
-ghost use Rattle.std.specs.Prelude.{◌≡◌, ◌<◌, ◌≤◌, ◌+◌, [], ◌∷◌, ◌++◌, ◌↔◌, OnOk, IfSome, IfNone, IsTrue, length, replicate, slice_get, vec_capacity, vec_len};
+ghost use Rattle.std.specs.Prelude.{◌≡◌, ◌<◌, ◌≤◌, ◌+◌, [], ◌∷◌, ◌++◌, ◌↔◌, IfOk, OnOk, IfSome, IfNone, IsTrue, length, replicate, slice_get, vec_capacity, vec_len};
 ghost use Rattle.sc_region.specs.declared.value.Value.TheVariants.{Void};
 ghost use Rattle.sc_region.specs.OperandList.{last};
 
@@ -42,6 +42,17 @@ impl Operands {
             count: 0,
             items: Vec::new(alloc),
         }
+    }
+
+    /// A copy. Its error says that memory ran out.
+    pub(crate) fn copy(&self, alloc: Global) -> Result<Operands, AllocError>
+        ensures { IfOk result (λ operands. operands ≡ self.now) }
+    {
+        Ok(Operands {
+            depth: self.depth,
+            count: self.count,
+            items: Vec::from_slice(alloc, &self.items)?,
+        })
     }
 
     /// Removes all operands, and makes room for this number. Its error says that memory ran out.
@@ -169,6 +180,18 @@ impl Olds {
             room: 0,
             items: Vec::new(alloc),
         }
+    }
+
+    /// A copy. Its error says that memory ran out.
+    pub(crate) fn copy(&self, alloc: Global) -> Result<Olds, AllocError>
+        ensures { IfOk result (λ olds. olds ≡ self.now) }
+    {
+        let mut items = Vec::with_capacity(alloc, self.room)?;
+        items.extend_from_slice(&self.items)?;
+        Ok(Olds {
+            room: self.room,
+            items,
+        })
     }
 
     /// Removes all values, and makes room for this number. Its error says that memory ran out.

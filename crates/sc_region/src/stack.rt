@@ -1,7 +1,7 @@
 //! The stack of a handler.
 ghost use Rattle.std.specs.List.{list_any};
 ghost use Rattle.std.specs.Option.{option_map};
-ghost use Rattle.std.specs.Prelude.{◌≡◌, ◌<◌, ◌≤◌, ◌==◌, ◌↔◌, [], ◌∷◌, IfOk, IsTrue, OnOk, OnErr, drop, length, vec_capacity};
+ghost use Rattle.std.specs.Prelude.{◌≡◌, ◌<◌, ◌≤◌, ◌==◌, ◌↔◌, [], ◌∷◌, IfOk, IsTrue, OnOk, OnErr, drop, length, map, vec_capacity};
 ghost use Rattle.sc_region.specs.Calls.{called_on, top_operands};
 ghost use Rattle.sc_region.specs.Frames.{activation_of, frames_onto, is_current, top_activation, top_current};
 ghost use Rattle.sc_region.specs.Stores.{entry};
@@ -47,6 +47,17 @@ impl Stack {
             currents: Vec::new(alloc),
             activations: Vec::new(alloc),
         }
+    }
+
+    /// A copy, without memory of routines that have exited. Its error says that memory ran out.
+    pub fn copy(&self, alloc: Global) -> Result<Stack, AllocError>
+        ensures { IfOk result (λ stack. stack ≡ self.now) }
+    {
+        let height = self.currents.len();
+        Ok(Stack {
+            currents: Vec::from_slice(alloc, &self.currents)?,
+            activations: copy_activations(alloc, &self.activations[..height])?,
+        })
     }
 
     /// How many frames there are.
@@ -242,4 +253,18 @@ fn any_is(currents: &[Reference], number: usize) -> bool
     currents
         .iter()
         .any(|current| current.number as usize == number)
+}
+
+/// Copies of the activations. Its error says that memory ran out.
+fn copy_activations(
+    alloc: Global,
+    activations: &[Activation],
+) -> Result<Vec<Activation>, AllocError>
+    ensures { IfOk result (λ copy. map activation_of copy.items ≡ map activation_of activations.now) }
+{
+    let mut copy = Vec::with_capacity(alloc, activations.len())?;
+    for activation in activations {
+        copy.push(activation.copy(alloc)?)?;
+    }
+    Ok(copy)
 }

@@ -1,5 +1,5 @@
 //! What a store is made of, and what its calls do, whatever its objects meet.
-ghost use Rattle.std.specs.Prelude.{◌≡◌, ◌<◌, ◌≤◌, ◌+◌, ◌-◌, ◌^◌, ◌++◌, [], ◌∷◌, OnOk, OnErr, IsTrue, Some, false, drop, length, slice_get, take};
+ghost use Rattle.std.specs.Prelude.{◌≡◌, ◌<◌, ◌≤◌, ◌+◌, ◌-◌, ◌^◌, ◌++◌, [], ◌∷◌, IfOk, OnOk, OnErr, IsTrue, Some, false, drop, length, slice_get, take};
 ghost use Rattle.sc_code.specs.JoinedInvariants.{kept_from};
 ghost use Rattle.sc_region.specs.Objects.{object_of, object_numbered};
 ghost use Rattle.sc_region.specs.Classes.{all_hold, classes_of, joined_of, meets_invariant, object_meets, object_breaks, routine_at};
@@ -38,6 +38,21 @@ pub struct State<'p> {
     pub failure: Option<Cause>,
     /// Where it failed, to be shown to people. Nothing else depends on it.
     pub breakdown: Breakdown,
+}
+
+/// A copy, which takes its memory from this allocator. Its error says that memory ran out.
+pub fn copy<'p>(state: &State<'p>, alloc: Global) -> Result<State<'p>, AllocError>
+    ensures { IfOk result (λ copy. state_of copy ≡ state_of state.now) }
+{
+    Ok(State {
+        alloc,
+        program: state.program,
+        objects: state.objects.copy(alloc)?,
+        stack: state.stack.copy(alloc)?,
+        output: Vec::from_slice(alloc, &state.output)?,
+        failure: state.failure,
+        breakdown: state.breakdown,
+    })
 }
 
 // ---- failure, and settled objects

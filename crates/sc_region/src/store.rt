@@ -1,5 +1,5 @@
 //! The store of a handler.
-ghost use Rattle.std.specs.Prelude.{◌≡◌, ◌<◌, ◌≤◌, ◌↔◌, ◌&&◌, IfNone, IfSome, OnOk, OnErr, IsTrue, Some, is_some, length, nat_lt, not};
+ghost use Rattle.std.specs.Prelude.{◌≡◌, ◌<◌, ◌≤◌, ◌↔◌, ◌&&◌, IfNone, IfOk, IfSome, OnOk, OnErr, IsTrue, Some, is_some, length, nat_lt, not};
 ghost use Rattle.sc_region.specs.Calls.{calls, top_operands};
 ghost use Rattle.sc_region.specs.Objects.{PlainObject, object_numbered, attribute_of};
 ghost use Rattle.sc_region.specs.Classes.{MeetsAt, routine_at};
@@ -69,6 +69,17 @@ impl<'p> Store<'p> {
                 breakdown: Breakdown::none(),
             },
         }
+    }
+
+    /// A copy, which takes its memory from this allocator.
+    ///
+    /// # Errors
+    /// Memory ran out.
+    pub fn copy(&self, alloc: Global) -> Result<Store<'p>, AllocError>
+        ensures { IfOk result (λ store. store ≡ self.now) }
+    {
+        let state = state::copy(&self.state, alloc)?;
+        Ok(Store { state })
     }
 
     /// The program that the store is of.
