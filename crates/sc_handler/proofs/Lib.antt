@@ -4,4 +4,4 @@ mod Sames
 mod Packing
 mod Entries
 mod Places
-mod ReadAlike
+pub mod ReadAlike

@@ -6,9 +6,10 @@ use Rattle.sc_lockpass.specs.declared.wait_conditions.mark.Marked.{Marked}
 use Rattle.sc_handler.specs.declared.handler.HandlerStage as coded_stage
 use Rattle.sc_handler.specs.declared.handler.HandlerStage.TheVariants as stage
 use Rattle.sc_handler.specs.declared.handler.Posting.{Posting}
+use Rattle.sc_handler.specs.declared.handler.Handler as coded
 use Rattle.sc_handler.specs.Handlers.{Handler, Service}
 use Rattle.sc_handler.specs.Canonical.{canon_handler, canon_mark, canon_service, canon_stage, marked_in, uncounted}
-use Rattle.sc_handler.specs.InMemory.{service_of, stage_of}
+use Rattle.sc_handler.specs.InMemory.{answers_of, first_posted, handler_of, posting_of, service_of, stage_of}
 use Rattle.sc_handler.specs.Same.{AreAskedAlike, StandAlike}
 
 -- ---- marks
@@ -41,6 +42,10 @@ waits_alike S T m n b isnt its_not both =
       λ yes. one ∙ by_marked m ∙ ap (λ (ks : List ℕ). map none_counted ks) (both.0 yes) ∙ sym (by_marked n) ∙ sym other,
       λ same. both.1 (sym (still_marked m) ∙ ap marked_in (sym one ∙ same ∙ other) ∙ still_marked n),
     )
+
+-- a mark of handlers without counts is one that doesn't allow, as it is read
+pub unmarked : (S : ℕ → ℕ) (m : List Marked) (ks : List ℕ) → false ≡ mark_allows S m → ks ≡ marked_in m → mark_of (λ k. 0) ks ≡ canon_mark S m
+unmarked S m ks isnt e = ap (mark_of (λ k. 0)) e ∙ sym (by_marked m) ∙ sym (waits S m isnt)
 
 -- ---- handlers
 
@@ -83,3 +88,32 @@ asked_so S T x y own its e = record {
   queue = ap (λ (z : Handler). z.queue) e;
   callback = ap (λ (z : Handler). z.callback) e;
 }
+
+-- ---- copies
+
+stage_read : (S : ℕ → ℕ) (ks : List ℕ) (m : List Marked) (st : coded_stage.HandlerStage) → stage_of ks (canon_mark S m) st ≡ canon_stage S (stage_of ks m st)
+stage_read S ks m stage.Idle = refl
+stage_read S ks m stage.Runs = refl
+stage_read S ks m (stage.HasMade k) = refl
+stage_read S ks m stage.Reserves = refl
+stage_read S ks m (stage.Awaits k is_creation) = refl
+
+-- A handler that is copied with its mark as that is read is the other one as it is read.
+pub copied : (S : ℕ → ℕ) (x y : coded.Handler) → y.stage ≡ x.stage → y.entry ≡ x.entry → y.mark ≡ canon_mark S x.mark → y.services ≡ x.services →
+    y.queue ≡ x.queue → y.callback ≡ x.callback → y.answer ≡ x.answer → y.failure ≡ x.failure → y.refused ≡ x.refused → handler_of y ≡ canon_handler S (handler_of x)
+copied S x y stage entry mark services queue callback answer failure refused =
+    let standing : stage_of y.entry.items y.mark y.stage ≡ canon_stage S (stage_of x.entry.items x.mark x.stage) =
+    (λ i. stage_of (entry i).items (mark i) (stage i)) ∙ stage_read S x.entry.items x.mark x.stage in
+    let served : map service_of y.services ≡ map (canon_service S) (map service_of x.services) =
+    ap (λ (ps : List Posting). map service_of ps) services ∙ sym (services_read S x.services) in
+    λ i. record {
+      stage = standing i;
+      services = served i;
+      entry = (entry i).items;
+      queue = map posting_of (queue i);
+      callback = first_posted (callback i);
+      answer = answers_of (answer i);
+      failure = failure i;
+      sessions = 0;
+      refused = refused i;
+    }

@@ -21,6 +21,7 @@ mod packed;
 mod passing;
 mod posted_request;
 mod postings;
+mod reading;
 mod same;
 mod settlement;
 mod sharing;

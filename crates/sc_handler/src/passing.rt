@@ -1,8 +1,9 @@
 //! What was passed with a request, as it is kept with that.
-ghost use Rattle.std.specs.Prelude.{◌≡◌, ◌≤◌, ◌+◌, None, is_some, vec_len};
+ghost use Rattle.std.specs.Prelude.{◌≡◌, ◌≤◌, ◌+◌, IfOk, None, is_some, vec_len};
 ghost use Rattle.std.specs.Option.{option_map};
 
 use sc_lockpass::Passed;
+use std::alloc::{AllocError, Global};
 use std::marker::Model;
 
 /// A place for what is passed.
@@ -46,6 +47,18 @@ impl Passing {
         match &self.place {
             Some(place) => content(place),
             None => None,
+        }
+    }
+
+    /// A copy. Its error says that memory ran out.
+    pub(crate) fn copy(&self, alloc: Global) -> Result<Passing, AllocError>
+        ensures { IfOk result (λ passing. passing ≡ self.now) }
+    {
+        match self.get() {
+            Some(passed) => Ok(Passing {
+                place: Some(Box::new(alloc, Some(passed.copy()))?),
+            }),
+            None => Ok(Passing::none()),
         }
     }
 

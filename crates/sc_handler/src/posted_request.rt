@@ -123,6 +123,13 @@ impl PostedRequest {
         }
     }
 
+    /// A copy. Its error says that memory ran out.
+    pub(crate) fn copy(&self, alloc: Global) -> Result<PostedRequest, AllocError>
+        ensures { IfOk result (λ request. request ≡ self.now) }
+    {
+        PostedRequest::new(alloc, &self.to_request())
+    }
+
     /// A copy of the request.
     pub fn to_request(&self) -> Request
         ensures { result ≡ self.now }

@@ -50,6 +50,28 @@ impl WaitMark {
         }
     }
 
+    /// The mark as it is read by the counts of the sessions of all handlers: none if the entry may be tried, and else one
+    /// of the same handlers without counts.
+    pub(crate) fn read_by(&self, sessions: &[u64]) -> WaitMark
+        ensures { result ≡ canon_mark (slice_index sessions.now) self.now }
+    {
+        if self.allows(sessions) {
+            return WaitMark::new();
+        }
+        WaitMark::uncounted(self.handlers.as_slice())
+    }
+
+    /// The mark of an entry that had newly reserved these handlers, 16 at most, before a session of any had ended.
+    fn uncounted(reserved: &[HandlerNumber]) -> WaitMark
+        requires { length reserved.now ≤ 16 }
+        ensures { result ≡ mark_of (λ k. 0) reserved.now }
+    {
+        WaitMark {
+            mark: Mark::uncounted(reserved),
+            handlers: listed(reserved),
+        }
+    }
+
     /// Whether the entry may be tried: it hasn't waited, or a session of one of the marked handlers has ended since.
     pub fn allows(&self, sessions: &[u64]) -> bool
         ensures { result ≡ mark_allows (slice_index sessions.now) self.now }
