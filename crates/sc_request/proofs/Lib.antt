@@ -40,3 +40,5 @@ pub mod SettledCandidates
 mod Sames
 mod SameStates
 pub mod KeptCores
+mod ReadParts
+mod SoundParts

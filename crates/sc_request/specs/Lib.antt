@@ -16,3 +16,4 @@ pub mod Same
 pub mod Keeping
 pub mod Kept
 pub mod Waiting
+pub mod Parts

@@ -15,8 +15,8 @@ use std::alloc::{AllocError, Global};
 /// Who holds a handler: which handler may post to it, and which may push on its waiting stack.
 #[derive(Clone, Copy, PartialEq, Eq)]
 pub(crate) struct Holders {
-    queue: Option<HandlerNumber>,
-    top: Option<HandlerNumber>,
+    pub(crate) queue: Option<HandlerNumber>,
+    pub(crate) top: Option<HandlerNumber>,
 }
 
 /// The state of a core as it is read: its handlers, and who holds which. It takes memory for the handlers that there
@@ -216,7 +216,7 @@ fn all_holders(alloc: Global, rights: &Rights) -> Result<Vec<Holders>, AllocErro
 }
 
 /// Who holds a handler.
-fn holders_of(rights: &Rights, handler: HandlerNumber) -> Holders
+pub(crate) fn holders_of(rights: &Rights, handler: HandlerNumber) -> Holders
     ensures { result ≡ record { queue = (rights_of rights.now).queue handler; top = (rights_of rights.now).top handler } }
 {
     Holders {

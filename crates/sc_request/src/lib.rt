@@ -18,6 +18,7 @@ mod jobs;
 mod kept_core;
 pub mod laws;
 mod making;
+mod parts;
 mod picking;
 mod places;
 mod rooms;
@@ -33,4 +34,5 @@ mod waiting;
 
 pub use center::Core;
 pub use kept_core::KeptCore;
+pub use parts::Part;
 pub use settlement::SettleFault;
