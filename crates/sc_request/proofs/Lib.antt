@@ -42,3 +42,4 @@ mod SameStates
 pub mod KeptCores
 mod ReadParts
 mod SoundParts
+mod LoadedCores

@@ -16,4 +16,5 @@ pub mod Same
 pub mod Keeping
 pub mod Kept
 pub mod Waiting
+pub mod Loading
 pub mod Parts

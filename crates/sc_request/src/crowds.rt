@@ -155,7 +155,7 @@ fn leave_each(crowds: &mut Vec<HandlerSet>, reserved: &[HandlerNumber], handler:
 }
 
 /// Forgets who waits.
-fn clear(crowds: &mut Vec<HandlerSet>)
+pub(crate) fn clear(crowds: &mut Vec<HandlerSet>)
     ensures { (b k : ℕ) → is_member (crowd_at crowds.new.items b) k ≡ false }
 {
     for at in 0..crowds.len() {

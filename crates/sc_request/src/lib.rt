@@ -17,6 +17,7 @@ mod hashing;
 mod jobs;
 mod kept_core;
 pub mod laws;
+mod loading;
 mod making;
 mod parts;
 mod picking;
