@@ -10,17 +10,22 @@ use crate::reading::FileFault;
 use crate::source::{JoinFault, Source};
 use std::alloc::Global;
 use std::io::Read;
+use thiserror::Error;
 
 /// Why files have no source text. A file is named by its number, from 0.
-#[derive(Clone, Copy, Debug, PartialEq, Eq)]
+#[derive(Clone, Copy, Debug, PartialEq, Eq, Error)]
 pub enum SourceFault {
     /// The reader of this file failed.
+    #[error("cannot read file {file}, counted from 0")]
     Unreadable { file: usize },
     /// This file isn't UTF-8.
+    #[error("file {file}, counted from 0, is not UTF-8")]
     NotUtf8 { file: usize },
     /// The source text would have more than 1,048,576 bytes.
+    #[error("the source text has more than 1048576 bytes")]
     SourceTooLong,
     /// Memory ran out.
+    #[error("out of memory")]
     OutOfMemory,
 }
 

@@ -10,16 +10,21 @@ ghost use Rattle.sc_source.specs.Internal.Blocks.{TakesMore};
 use std::alloc::{AllocError, Global};
 use std::io::{self, ErrorKind, Read};
 use std::str::Utf8Error;
+use thiserror::Error;
 
 /// Why the text of a file isn't had.
-#[derive(Drop)]
+#[derive(Debug, Drop, Error)]
 pub enum FileFault {
     /// Its reader failed, with this error.
+    #[error("cannot read it: {0}")]
     Unreadable(io::Error),
     /// The text is longer than it may be.
+    #[error("it is too long")]
     TooLong,
     /// It isn't UTF-8: the characters end before the byte at this offset of the file.
+    #[error("it is not UTF-8 from the byte at {offset} on")]
     NotUtf8 { offset: usize },
+    #[error("out of memory")]
     OutOfMemory,
 }
 

@@ -15,6 +15,7 @@ use std::alloc::{AllocError, AllocFailed, Global};
 use std::io::Read;
 use std::marker::Model;
 use std::str;
+use thiserror::Error;
 
 /// The source text of a system: the text of each file in order, each with a line feed after it. A byte
 /// order mark at the start of a file is no part of its text.
@@ -25,7 +26,8 @@ pub struct Source {
 }
 
 /// Why files have no source text.
-#[derive(Drop)]
+#[derive(Debug, Drop, Error)]
+#[error("file {file}, counted from 0: {fault}")]
 pub struct JoinFault {
     /// The number of the file at fault, from 0.
     pub file: usize,
