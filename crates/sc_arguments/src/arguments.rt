@@ -35,6 +35,7 @@ use sc_class::Root;
 pub use searching::{SearchOptions, Sought};
 use std::alloc::{AllocError, Global};
 use std::convert::AsStr;
+use thiserror::Error;
 pub use tracing::Trace;
 
 /// What the arguments of a command line ask for.
@@ -102,18 +103,24 @@ pub struct ReplayOptions<'a> {
 }
 
 /// Why the arguments ask for nothing that can be done.
-#[derive(Drop)]
+#[derive(Debug, Drop, Error)]
 pub enum UsageFault {
     /// They don't fit a command, or ask for its help or version: the text for the user.
+    #[error("{0}")]
     Arguments(clap::Error),
     /// There is no command among them. `Arguments` comes before it.
+    #[error("no command is given")]
     NoCommand,
     /// What `--root` gives isn't two names with one dot between.
+    #[error("the root is not two names with a dot between")]
     BadRoot,
     /// A run by several workers is to be traced.
+    #[error("only a run by one worker can be traced")]
     TracedWorkers,
     /// What was read of the words differs from what they say, which never comes.
+    #[error("the words were read in two ways")]
     TwoReadings,
+    #[error("out of memory")]
     OutOfMemory,
 }
 
