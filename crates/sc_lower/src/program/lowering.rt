@@ -9,14 +9,25 @@ use crate::refusal::LoweringFault;
 use sc_check::Checked;
 use sc_code::Program;
 use std::alloc::Global;
+use std::fmt;
+use thiserror::Error;
 
 /// Why a checked system isn't lowered, with the system.
-#[derive(Drop)]
+#[derive(Drop, Error)]
 pub enum Lowering<'s> {
     /// No memory was left.
+    #[error("out of memory")]
     OutOfMemory(Checked<'s>),
     /// The code has more instructions than it may have.
+    #[error("the code has more instructions than it may have")]
     CodeTooLong(Checked<'s>),
+}
+
+impl fmt::Debug for Lowering<'_> {
+    /// The message alone: a checked system isn't shown.
+    fn fmt<W: fmt::Write>(&self, f: &mut fmt::Formatter<W>) -> fmt::Result {
+        fmt::Display::fmt(self, f)
+    }
 }
 
 /// How many instructions a program may have.
