@@ -6,13 +6,14 @@ ghost use Rattle.sc_rules.specs.entity_types.Combiners.{known_of, known_tag};
 use crate::entity_types::tag::{Reserved, Tag};
 
 /// What the caller knows of the handler of an actual.
-#[derive(Clone, Copy, PartialEq, Eq)]
+#[derive(Clone, Copy, Default, PartialEq, Eq)]
 pub enum Known {
     /// It is the current handler.
     Own,
     /// It is that of one of the caller's formals or names of blocks.
     With(Reserved),
     /// It is neither, as far as the caller knows.
+    #[default]
     Neither,
 }
 

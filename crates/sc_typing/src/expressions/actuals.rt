@@ -21,7 +21,11 @@ use sc_class::Tables;
 use sc_rules::entity_types::{EntityType, Known, Reserved, Tag, combine_argument, conforms};
 use sc_rules::{Context, Rule};
 use sc_tree::{Declaration, DeclaredType};
+use smallvec::SmallVec;
 use std::alloc::{AllocError, Global};
+
+/// How many formals a feature has at most.
+const MOST_FORMALS: usize = 16;
 
 /// What a formal takes.
 #[derive(Clone, Copy)]
@@ -116,11 +120,14 @@ fn known_handler(actual: Option<EntityType>) -> Known
     }
 }
 
-/// What is known of the handlers of the actuals.
-fn known_handlers(alloc: Global, found: &[JudgedActual]) -> Result<Vec<Known>, AllocError>
+/// What is known of the handlers of the actuals. Up to 16 take no memory, and no feature has more formals.
+fn known_handlers(
+    alloc: Global,
+    found: &[JudgedActual],
+) -> Result<SmallVec<Known, MOST_FORMALS>, AllocError>
     ensures { IfOk result (λ known. known.items ≡ spec.known_handlers (types_in found.now)) }
 {
-    let mut known = Vec::with_capacity(alloc, found.len())?;
+    let mut known = SmallVec::with_capacity(alloc, found.len())?;
     for actual in found {
         known.push(known_handler(judged_type(actual.judged)))?;
     }
@@ -204,7 +211,7 @@ impl<'t, 's> RoutineContext<'t, 's> {
         let passing = Passing {
             target,
             found,
-            known: &known,
+            known: known.as_slice(),
         };
         let mut is_separate = false;
         for number in 0..found.len() {
