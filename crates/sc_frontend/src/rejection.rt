@@ -10,20 +10,27 @@ use sc_parse::ParseFault;
 use sc_rules::Fault;
 use sc_text::LexFault;
 use std::alloc::AllocError;
+use thiserror::Error;
 
 /// Why nothing is made of a source text.
-#[derive(Drop)]
+#[derive(Debug, Drop, Error)]
 pub enum Rejection {
     /// It spells no tokens.
+    #[error("{0}")]
     Text(LexFault),
     /// Its tokens spell no system, or none that is nested at most 64 deep.
+    #[error("{0}")]
     Grammar(ParseFault),
     /// Something is at fault in the classes of its system.
+    #[error("{0}")]
     Classes(ClassFault),
     /// A rule fails in its system.
+    #[error("a rule fails at {}", .0.span.start)]
     Rules(Fault),
     /// Its system is sound, and its code has more instructions than a program may have.
+    #[error("the code has more instructions than a program may have")]
     CodeTooLong,
+    #[error("out of memory")]
     OutOfMemory,
 }
 
