@@ -11,6 +11,8 @@ use sc_request::Core;
 use sc_worklog::LoggedRegion;
 use sc_world::{is_busy, push_end};
 use std::alloc::{AllocError, Global};
+use std::fmt;
+use thiserror::Error;
 
 /// What a run leaves: the region of each handler by number, with regions for those that there may be, and the core.
 #[derive(Drop)]
@@ -32,16 +34,26 @@ pub struct LoggedLeft<'p> {
 }
 
 /// Why a run isn't done.
-#[derive(Drop)]
+#[derive(Drop, Error)]
 pub enum RunFault<'p> {
     /// U1: memory was refused. It has what the run left, after the refused turn was put back and all others were
     /// settled; or nothing, if it was refused before the first turn.
+    #[error("out of memory")]
     OutOfMemory(Option<Left<'p>>),
     /// U2: a thread was refused.
+    #[error("no thread can be started")]
     ThreadRefused,
     /// U3: the region of this handler played other jobs, or turns, than were settled of it. Workers settle what they play,
     /// so this isn't expected, but no proof excludes it.
+    #[error("the logs of handler {0} differ")]
     LogsDiffer(HandlerNumber, LoggedLeft<'p>),
+}
+
+impl fmt::Debug for RunFault<'_> {
+    /// The message alone: what is left isn't shown.
+    fn fmt<W: fmt::Write>(&self, f: &mut fmt::Formatter<W>) -> fmt::Result {
+        fmt::Display::fmt(self, f)
+    }
 }
 
 impl<'p> Left<'p> {
