@@ -13,16 +13,12 @@ use Rattle.sc_interp.specs.Hopping.{IsNext, NextIs}
 use Rattle.sc_interp.specs.Hopping as hopping
 use Rattle.sc_interp.specs.Playing.{Plays, Remains}
 use Rattle.sc_interp.specs.Standing.{Passes, stepped}
-use Rattle.sc_interp.specs.Told.{IsDone, IsTold}
+use Rattle.sc_interp.specs.Told.{IsDone}
 use Rattle.sc_interp.proofs.SilentMoves.{next_plays, passes_more, remains_after}
-use Rattle.sc_interp.proofs.Told.{told_done}
 
 pub done_stepped : (step : Result Unit Cause) (h : outcome.Hop) → h ≡ stepped step → IsDone h
 done_stepped (Ok done) h e = subst (λ (o : outcome.Hop). IsDone o) (sym e) tt
 done_stepped (Err why) h e = subst (λ (o : outcome.Hop). IsDone o) (sym e) tt
-
-pub told_stepped : (step : Result Unit Cause) (h : outcome.Hop) (x : PlainStore) → h ≡ stepped step → IsTold h x
-told_stepped step h x e = told_done h x (done_stepped step h e)
 
 pub passes_stepped : (count : ℕ) (does : Code → State → Hop) (step : Result Unit Cause) (h : outcome.Hop) (a b : PlainActivation) → h ≡ stepped step →
     Passes count does (stepped step) a b → Passes count does h a b

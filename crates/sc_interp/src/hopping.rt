@@ -1,9 +1,9 @@
-//! The operations of the topmost routine of a store, one by one.
+//! The silent operations of the topmost routine of a store, up to its next visible one.
 ghost use Rattle.std.specs.Prelude.{◌≡◌, ◌<◌, IfNone, IfOk, IfSome, OnErr, Some, false, true, length, slice_get};
 ghost use Rattle.std.specs.Option.{option_map, option_and_then};
 ghost use Rattle.sc_region.specs.Classes as at;
 ghost use Rattle.sc_region.specs.Frames.{PlainActivation, top_activation, top_current};
-ghost use Rattle.sc_interp.specs.Hopping.{ComesTo, HasCode, IsNext, LeadsTo, NextIs};
+ghost use Rattle.sc_interp.specs.Hopping.{ComesTo, HasCode, IsNext, LeadsTo};
 ghost use Rattle.sc_interp.specs.Playing.{Plays, Remains};
 ghost use Rattle.sc_interp.specs.Standing.{is_simple, is_step, is_step_in, stepped};
 ghost use Rattle.sc_interp.specs.Told.{IsTold, OnComes};
@@ -11,7 +11,7 @@ ghost use Rattle.sc_interp.specs.Told.{IsTold, OnComes};
 use crate::attributes::{push_attribute, store_attribute};
 use crate::dispatch::{hop_on, step_on};
 use crate::features::call_feature;
-use crate::hops::{Hop, stepped};
+use crate::hops::Hop;
 use sc_code::{Operation, RoutineCode};
 use sc_model::Cause;
 use sc_region::{Reference, Store};
@@ -144,43 +144,6 @@ fn next_in(store: &Store<'_>, code: &RoutineCode) -> Option<(usize, Operation)>
     }
 }
 
-// ---- one operation
-
-/// The next operation of the topmost routine, which runs on `me` and has this code.
-fn hop_in(store: &mut Store<'_>, me: Reference, code: &RoutineCode) -> Result<Hop, AllocError>
-    requires current { top_current store.old.frames ≡ Some me }
-    requires code { HasCode store.old code.now }
-    ensures next { IfOk result (λ hop. NextIs hop store.old store.new) }
-    ensures remains { Remains store.old store.new }
-    ensures err { OnErr result (store.new ≡ store.old) }
-    ensures told { IfOk result (λ hop. IsTold hop store.new) }
-{
-    match next_in(store, code) {
-        None => Ok(Hop::Failed(Cause::BadCode)),
-        Some((count, operation)) => match step_by(store, me, count, operation) {
-            Some(step) => Ok(stepped(step)),
-            None => hop_by(store, me, count, operation),
-        },
-    }
-}
-
-/// The next operation of the topmost routine: a silent one is executed, a visible one is returned and still to be
-/// executed. F16 if there is none. Its error says that memory ran out, and nothing has changed then.
-pub fn hop(store: &mut Store<'_>) -> Result<Hop, AllocError>
-    ensures next { IfOk result (λ hop. NextIs hop store.old store.new) }
-    ensures remains { Remains store.old store.new }
-    ensures err { OnErr result (store.new ≡ store.old) }
-    ensures told { IfOk result (λ hop. IsTold hop store.new) }
-{
-    match store.current() {
-        None => Ok(Hop::Failed(Cause::BadCode)),
-        Some(me) => match top_code(store) {
-            None => Ok(Hop::Failed(Cause::BadCode)),
-            Some(code) => hop_in(store, me, code),
-        },
-    }
-}
-
 // ---- silent operations
 
 /// The silent operations of the topmost routine, which runs on `me` and has this code, are done, up to one that isn't
@@ -212,9 +175,9 @@ fn moves_in(store: &mut Store<'_>, me: Reference, code: &RoutineCode) -> Result<
     Ok(Hop::Failed(Cause::BadCode))
 }
 
-/// Executes the silent operations of the topmost routine, up to one that isn't silent, which is returned as `hop`
-/// returns it: if that is still to be executed, only the silent ones have changed anything. Its error says that
-/// memory ran out; as many silent operations are executed then as there was memory for.
+/// Executes the silent operations of the topmost routine, up to one that isn't silent, which is returned: it is still
+/// to be executed, and only the silent ones have changed anything. F16 if there is none. Its error says that memory ran
+/// out; as many silent operations are executed then as there was memory for.
 pub fn moves(store: &mut Store<'_>) -> Result<Hop, AllocError>
     ensures comes { IfOk result (λ hop. ComesTo hop store.old store.new) }
     ensures remains { Remains store.old store.new }

@@ -22,6 +22,6 @@ mod testing;
 mod visible;
 
 pub use features::{FoundFeature, call_feature};
-pub use hopping::{hop, moves};
+pub use hopping::moves;
 pub use hops::Hop;
 pub use running::{Coming, next_coming, run_current};
