@@ -2,7 +2,7 @@
 //!
 //! Tables of rows, each a text or some steps and what comes of it: a formula of 3,000 levels ([`formulas`]), a handler's store
 //! ([`stores`]) and its log ([`worklogs`]). Runs by several workers ([`together`]), audits with records that aren't a run's own
-//! ([`audits`]), and worlds that one thread plays ([`worlds`]).
+//! ([`audits`]), and worlds that one thread plays ([`worlds`]). Calls that the program doesn't make ([`library`]).
 //!
 //! `proofs/` has rows of definitions: of rights, entries, passed locks, references, full stacks, conformance, of what is seen
 //! through a call, and of how long code is.
@@ -12,6 +12,8 @@
 mod audits;
 #[cfg(test)]
 mod formulas;
+#[cfg(test)]
+mod library;
 #[cfg(test)]
 mod programs;
 #[cfg(test)]

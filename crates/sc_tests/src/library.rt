@@ -1,0 +1,181 @@
+//! The calls of the library that the program itself doesn't make: whoever builds on a crate may.
+
+use crate::programs::{program_of, root_of};
+use sc_check::check;
+use sc_class::{ClassId, tables};
+use sc_lockpass::Version;
+use sc_lockpass::wait_conditions::{ClauseKind, ClauseResult, Entry, EntryVerdict, Release};
+use sc_lower::{Lowering, lower_within};
+use sc_parse::{let_go, parse};
+use sc_request::Core;
+use sc_source::{SourceFault, join_sources};
+use sc_text::lex;
+use sc_tree::System;
+use std::alloc::{AllocError, Global};
+use std::process::Abort;
+use std::test::Fail;
+
+/// A class whose root counts to 1 by a routine of its own: nine instructions.
+const SMALL: &str = "class APPLICATION create make
+feature
+    n: INTEGER
+    make do raise print (n) end
+    raise do n := n + 1 end
+invariant n >= 0
+end
+";
+
+/// A class and its heir, each with an invariant.
+const HEIR: &str = "class APPLICATION create make
+feature n: INTEGER make do n := 1 end
+invariant n >= 0
+end
+class HEIR inherit APPLICATION create make
+invariant n < 4
+end
+";
+
+// ---- entries
+
+/// An entry of handler 0 that has newly reserved handler 1.
+fn entry() -> Entry {
+    let mut entry = Entry::new(0);
+    entry.reserved.push(1);
+    entry
+}
+
+/// A clause that was evaluated, of this kind.
+fn clause(kind: ClauseKind, holds: bool) -> ClauseResult {
+    ClauseResult { kind, holds }
+}
+
+/// A clause is waited for if it names a handler that was newly reserved; the first false one decides.
+#[test]
+fn clauses_decide(rt: HostRuntime) {
+    let entry = entry();
+    let waits = ClauseKind::WaitCondition;
+    let refuses = ClauseKind::CorrectnessCondition;
+    assert!(&rt;
+        matches!(
+            entry.clause_kind(&[None, Some(1)]),
+            ClauseKind::WaitCondition
+        )
+    );
+    assert!(&rt;
+        matches!(
+            entry.clause_kind(&[Some(0), None, Some(2)]),
+            ClauseKind::CorrectnessCondition
+        )
+    );
+    let all_hold = [clause(waits, true), clause(refuses, true)];
+    assert!(&rt; matches!(Entry::verdict(&all_hold), EntryVerdict::Start));
+    let one_waits = [
+        clause(refuses, true),
+        clause(waits, false),
+        clause(refuses, false),
+    ];
+    assert!(&rt; matches!(Entry::verdict(&one_waits), EntryVerdict::Wait));
+    let one_refuses = [clause(refuses, false), clause(waits, false)];
+    assert!(&rt; matches!(Entry::verdict(&one_refuses), EntryVerdict::Refuse));
+}
+
+/// A session ends with each release but that of an entry that waits.
+#[test]
+fn sessions_end(rt: HostRuntime) {
+    assert!(&rt; Release::Exit.ends_session());
+    assert!(&rt; !Release::FalseWaitCondition.ends_session());
+}
+
+/// At the opening the first handler holds itself alone.
+#[test]
+fn handlers_hold_themselves(rt: HostRuntime) -> Result<(), Fail> {
+    let core = Core::opening(rt.alloc(), 0, 0, Version::Two)?;
+    assert!(&rt; core.held(0, 0));
+    assert!(&rt; !core.held(0, 1));
+    assert!(&rt; !core.held(1, 0));
+    Ok(())
+}
+
+// ---- programs
+
+/// How long the code is, and how many operands each routine has at most. An attribute is no routine.
+#[test]
+fn code_is_counted(rt: HostRuntime) -> Result<(), Fail> {
+    let program = program_of(rt.alloc(), SMALL, "application", "make")?;
+    assert_eq!(&rt; program.instructions(), 9);
+    let depths = [
+        program.depth(0),
+        program.depth(1),
+        program.depth(2),
+        program.depth(3),
+    ];
+    assert_eq!(&rt; depths, [0, 1, 2, 0]);
+    Ok(())
+}
+
+/// Code that is too long hands the system back, which can then be lowered within more.
+fn expect_too_long<R: Abort + AllocGlobal>(rt: &R, system: &System) -> Result<(), Fail> {
+    let alloc = rt.alloc();
+    let root = root_of(alloc, "application", "make")?;
+    let checked = check(alloc, tables(alloc, system, &root)?)?;
+    match lower_within(alloc, checked, 8) {
+        Err(Lowering::CodeTooLong(checked)) => {
+            let Ok(program) = lower_within(alloc, checked, 9) else {
+                return Err(Fail::from(AllocError));
+            };
+            assert_eq!(rt; program.instructions(), 9);
+            Ok(())
+        }
+        Err(Lowering::OutOfMemory(_)) => Err(Fail::from(AllocError)),
+        Ok(_) => Err(Fail::new("nine instructions within eight")),
+    }
+}
+
+#[test]
+fn long_code_is_refused(rt: HostRuntime) -> Result<(), Fail> {
+    let system = system_of(rt.alloc(), SMALL)?;
+    let answer = expect_too_long(&rt, &system);
+    let_go(system);
+    answer
+}
+
+/// An heir's invariant has the clauses of its parent, too.
+fn expect_joined<R: Abort + AllocGlobal>(rt: &R, system: &System) -> Result<(), Fail> {
+    let alloc = rt.alloc();
+    let root = root_of(alloc, "application", "make")?;
+    let tables = tables(alloc, system, &root)?;
+    assert_eq!(rt; tables.invariant_of(alloc, ClassId::Declared(0))?.len(), 1);
+    assert_eq!(rt; tables.invariant_of(alloc, ClassId::Declared(1))?.len(), 2);
+    assert_eq!(rt; tables.invariant_of(alloc, ClassId::Any)?.len(), 0);
+    Ok(())
+}
+
+#[test]
+fn invariants_are_joined(rt: HostRuntime) -> Result<(), Fail> {
+    let system = system_of(rt.alloc(), HEIR)?;
+    let answer = expect_joined(&rt, &system);
+    let_go(system);
+    answer
+}
+
+/// The system of a source text.
+fn system_of(alloc: Global, text: &str) -> Result<System, Fail> {
+    let tokens = lex(alloc, text)?;
+    Ok(parse(alloc, tokens.as_slice())?)
+}
+
+// ---- sources
+
+/// Each text is without its byte order mark and ends with a line feed. The first file at fault is named.
+#[test]
+fn sources_are_joined(rt: HostRuntime) -> Result<(), Fail> {
+    let mut marked: [&[u8]; 2] = [b"\xef\xbb\xbfa", b"b"];
+    let text = join_sources(rt.alloc(), &mut marked)?;
+    assert_eq!(&rt; text.as_str(), "a\nb\n");
+    let mut broken: [&[u8]; 2] = [b"a", b"\xff"];
+    match join_sources(rt.alloc(), &mut broken) {
+        Err(SourceFault::NotUtf8 { file: 1 }) => Ok(()),
+        Err(fault) => Err(Fail::from(fault)),
+        Ok(_) => Err(Fail::new("a byte that is no UTF-8")),
+    }
+}
