@@ -54,7 +54,9 @@ impl<'p> World<'p> {
         })
     }
 
-    /// Makes the turn of one handler: its silent steps, up to and with the next visible one.
+    /// Makes the turn of one handler: its silent steps, up to and with the next visible one. The machine makes the
+    /// same turn (`world_runs_as_machine` of `sc_refines_world`); after an error it has made none
+    /// (`refused_turn_stays_near`).
     ///
     /// # Errors
     /// Memory ran out. Then nothing has changed, but that silent steps of the turn may be made: the turn is
@@ -67,7 +69,9 @@ impl<'p> World<'p> {
         self.configuration.turn(handler)
     }
 
-    /// Makes the turns of the handlers, one after the other.
+    /// Makes the turns of the handlers, one after the other. From the opening on they lead the machine to the state
+    /// that the world represents, and the headline holds of that state (`headline` of `sc_headline`); after an error
+    /// the turns before do (`stopped_world_stays_near` of `sc_refines_world`).
     ///
     /// # Errors
     /// Memory ran out. The world is then the one after the turns before, but that silent steps of the next
@@ -81,7 +85,8 @@ impl<'p> World<'p> {
     }
 
     /// The turns of the handlers, one after the other, as far as there is memory: how many of the handlers had theirs,
-    /// all of them where that is Ok.
+    /// all of them where that is Ok. If the rest follows later, the machine has made the turns of all
+    /// (`rest_runs_as_machine` of `sc_refines_world`).
     pub fn turns_until(&mut self, handlers: &[HandlerNumber]) -> (usize, Result<(), AllocError>)
         ensures count { OnOk result.1 (result.0 ≡ length handlers.now) }
         ensures ok { OnOk result.1 (Runs handlers.now (world_of self.old) (world_of self.new)) }
