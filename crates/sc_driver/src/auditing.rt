@@ -9,15 +9,19 @@ use sc_lockpass::HandlerNumber;
 use sc_plant::Left;
 use sc_recording::first_that_differs;
 use std::alloc::Global;
+use thiserror::Error;
 
 /// Why an audit doesn't say yes.
-#[derive(Clone, Copy)]
+#[derive(Clone, Copy, Debug, Error)]
 pub enum AuditFault {
     /// A1: the lines are no record's. In its text this line, from 1, is the first that doesn't fit.
+    #[error("line {line} is no line of a record")]
     BadRecord { line: u32 },
     /// A2: one thread that plays the record ends in something else. This handler is the least that differs.
+    #[error("one thread that plays the record ends otherwise at handler {handler}")]
     Differs { handler: HandlerNumber },
     /// A9: there is no memory to play the record.
+    #[error("out of memory")]
     OutOfMemory,
 }
 
