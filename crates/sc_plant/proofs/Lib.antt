@@ -10,3 +10,5 @@ mod Locks
 mod Slots
 pub mod EndedRuns
 mod Threaded
+mod Ordered
+mod Unbegun

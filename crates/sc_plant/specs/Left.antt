@@ -93,6 +93,13 @@ TellsLeft (OutOfMemory (Some left)) = Unit {0}
 TellsLeft ThreadRefused = Unit {0}
 TellsLeft (LogsDiffer h left) = Unit {0}
 
+-- Memory was refused, and nothing is left.
+abbrev pub LeavesNothing : RunFault → Type 0
+LeavesNothing (OutOfMemory None) = Unit {0}
+LeavesNothing (OutOfMemory (Some left)) = ⊥
+LeavesNothing ThreadRefused = ⊥
+LeavesNothing (LogsDiffer h left) = ⊥
+
 -- ---- the laws
 
 -- One thread that makes the turns of the record's lines, each of a handler that has something to do, ends in just what

@@ -15,7 +15,8 @@ ghost use Rattle.sc_plant.specs.declared.alone.Stretch.TheVariants.{Over};
 ghost use Rattle.sc_plant.specs.Alone.{AreNew, IsBack, IsCutOff, IsOnWay, IsPlayed, IsRecorded};
 ghost use Rattle.sc_plant.specs.Bounded.{EndsBehind, IsBoundedRun};
 ghost use Rattle.sc_recording.specs.Ending.{IsOver};
-ghost use Rattle.sc_plant.specs.Left.{IsOutOfMemory, IsStopped, SaysWhy, TellsLeft};
+ghost use Rattle.sc_plant.specs.Left.{IsOutOfMemory, IsStopped, LeavesNothing, SaysWhy, TellsLeft};
+ghost use Rattle.sc_plant.specs.Order.{GoesInOrder, round_robin};
 
 use crate::bounds::Bounds;
 use crate::gate::Gate;
@@ -51,7 +52,9 @@ pub fn run_alone<'p, R: Wait, G: Gate, W: Watch>(
     watch: &mut W,
 ) -> Result<(Left<'p>, u32), RunFault<'p>>
     ensures ok { IfOk result (λ ended. IsBoundedRun program.now.image bounds ended.1 ended.0) }
+    ensures order { IfOk result (λ ended. GoesInOrder round_robin program.now.image ended.0) }
     ensures err { IfErr result (SaysWhy program.now.image) }
+    ensures unbegun { IfErr result (λ fault. LeavesNothing fault → watch.new ≡ watch.old) }
     ensures memory { IfErr result IsOutOfMemory }
 {
     let Ok(left) = open_left(alloc, program) else {
@@ -71,6 +74,7 @@ fn play_opened<'p, R: Wait, G: Gate, W: Watch>(
     requires count { length left.regions.items ≡ 512 }
     requires version { left.core.state.rights.version ≡ Two }
     ensures ok { (p : Image) → IsOnWay p left.entry → IfOk result (λ ended. IsBoundedRun p bounds ended.1 ended.0) }
+    ensures order { (p : Image) → GoesInOrder round_robin p left.entry → IfOk result (λ ended. GoesInOrder round_robin p ended.0) }
     ensures err { (p : Image) → IsOnWay p left.entry → IfErr result (SaysWhy p) }
     ensures left { IfErr result TellsLeft }
     ensures memory { IfErr result IsOutOfMemory }
@@ -83,7 +87,8 @@ fn play_opened<'p, R: Wait, G: Gate, W: Watch>(
 
 /// What is there before the first turn.
 pub fn open_left<'p>(alloc: Global, program: &'p Program) -> Result<Left<'p>, AllocError>
-    ensures { IfOk result (IsOnWay program.now.image) }
+    ensures on { IfOk result (IsOnWay program.now.image) }
+    ensures order { IfOk result (GoesInOrder round_robin program.now.image) }
 {
     let regions = open_regions(alloc, program)?;
     let core = open_core(alloc, program, Version::Two)?;
@@ -129,6 +134,7 @@ pub fn play_all<R: Wait, G: Gate, W: Watch>(
     requires count { length left.old.regions.items ≡ 512 }
     requires version { left.old.core.state.rights.version ≡ Two }
     ensures on { OnOk result ((p : Image) → IsOnWay p left.old → IsOnWay p left.new) }
+    ensures order { OnOk result ((p : Image) → GoesInOrder round_robin p left.old → GoesInOrder round_robin p left.new) }
     ensures over { IfOk result (λ over. over.1 ≡ true → IsOver over.0 (center_of left.new.core) left.new.lines.items) }
     ensures ends { IfOk result (λ over. over.1 ≡ true → EndsBehind bounds over.0 left.new.regions.items) }
     ensures whole { stretch ≡ Over → IfOk result (λ over. over.1 ≡ true) }
@@ -173,6 +179,7 @@ fn is_over(left: &mut Left<'_>, limit: u32) -> bool
     ensures version { left.new.core.state.rights.version ≡ left.old.core.state.rights.version }
     ensures regions { left.new.regions ≡ left.old.regions }
     ensures on { (p : Image) → IsOnWay p left.old → IsOnWay p left.new }
+    ensures order { (p : Image) → GoesInOrder round_robin p left.old → GoesInOrder round_robin p left.new }
 {
     let Left { core, lines, .. } = left;
     is_idle_or_full(core, lines.as_slice(), limit)
@@ -186,6 +193,7 @@ pub fn ended(left: &mut Left<'_>, bounds: Bounds) -> Option<u32>
     ensures count { length left.new.regions.items ≡ length left.old.regions.items }
     ensures version { left.new.core.state.rights.version ≡ left.old.core.state.rights.version }
     ensures on { (p : Image) → IsOnWay p left.old → IsOnWay p left.new }
+    ensures order { (p : Image) → GoesInOrder round_robin p left.old → GoesInOrder round_robin p left.new }
 {
     if is_over(left, bounds.turns) {
         return Some(bounds.turns);
@@ -201,6 +209,7 @@ fn over_at(left: &mut Left<'_>, turns: u32) -> Option<u32>
     ensures version { left.new.core.state.rights.version ≡ left.old.core.state.rights.version }
     ensures regions { left.new.regions ≡ left.old.regions }
     ensures on { (p : Image) → IsOnWay p left.old → IsOnWay p left.new }
+    ensures order { (p : Image) → GoesInOrder round_robin p left.old → GoesInOrder round_robin p left.new }
 {
     if is_over(left, turns) {
         return Some(turns);
@@ -222,6 +231,7 @@ fn end_behind<W: Watch>(
     ensures count { length left.new.regions.items ≡ length left.old.regions.items }
     ensures version { left.new.core.state.rights.version ≡ left.old.core.state.rights.version }
     ensures on { (p : Image) → IsOnWay p left.old → IsOnWay p left.new }
+    ensures order { (p : Image) → GoesInOrder round_robin p left.old → GoesInOrder round_robin p left.new }
 {
     if made == 0 {
         return over_at(left, bounds.turns);
@@ -237,6 +247,7 @@ fn cut_behind(left: &mut Left<'_>, bounds: Bounds, tally: &mut Tally) -> Option<
     ensures count { length left.new.regions.items ≡ length left.old.regions.items }
     ensures version { left.new.core.state.rights.version ≡ left.old.core.state.rights.version }
     ensures on { (p : Image) → IsOnWay p left.old → IsOnWay p left.new }
+    ensures order { (p : Image) → GoesInOrder round_robin p left.old → GoesInOrder round_robin p left.new }
 {
     if !tally.is_past(left, bounds.output) {
         return None;
@@ -251,6 +262,7 @@ fn cut_short(left: &mut Left<'_>, bounds: Bounds) -> Option<u32>
     ensures count { length left.new.regions.items ≡ length left.old.regions.items }
     ensures version { left.new.core.state.rights.version ≡ left.old.core.state.rights.version }
     ensures on { (p : Image) → IsOnWay p left.old → IsOnWay p left.new }
+    ensures order { (p : Image) → GoesInOrder round_robin p left.old → GoesInOrder round_robin p left.new }
 {
     let Some(made) = turns_in(left.lines.as_slice()) else {
         return None;
@@ -276,9 +288,11 @@ fn play_next<G: Gate>(
     asked: &mut Want,
     gate: &G,
 ) -> Result<u32, AllocError>
+    requires few { limit ≤ 256 }
     requires count { length left.old.regions.items ≡ 512 }
     requires version { left.old.core.state.rights.version ≡ Two }
     ensures on { OnOk result ((p : Image) → IsOnWay p left.old → IsOnWay p left.new) }
+    ensures order { OnOk result ((p : Image) → GoesInOrder round_robin p left.old → GoesInOrder round_robin p left.new) }
     ensures err { OnErr result ((p : Image) → IsOnWay p left.old → IsStopped p left.new) }
     ensures count { length left.new.regions.items ≡ 512 }
     ensures version { left.new.core.state.rights.version ≡ Two }

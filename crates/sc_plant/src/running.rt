@@ -4,7 +4,8 @@ ghost use Rattle.sc_plant.specs.Bounded.{IsBoundedRun};
 ghost use Rattle.sc_code.specs.declared.program.Image.{Image};
 ghost use Rattle.sc_request.specs.Cores.{center_of};
 ghost use Rattle.sc_recording.specs.Ending.{IsOver};
-ghost use Rattle.sc_plant.specs.Left.{IsOutOfMemory, IsRun, SaysWhy, TellsLeft};
+ghost use Rattle.sc_plant.specs.Left.{IsOutOfMemory, IsRun, LeavesNothing, SaysWhy, TellsLeft};
+ghost use Rattle.sc_plant.specs.Order.{GoesInOrder, round_robin};
 ghost use Rattle.sc_plant.specs.Sharing.{IsOnWayIn};
 
 use crate::alone::{Stretch, ended, open_left, play_all, run_alone};
@@ -53,6 +54,7 @@ pub fn run<'p, R: Threads + Wait + Sync, G: Gate>(
     ensures ok { IfOk result (IsRun program.now.image limit) }
     ensures err { IfErr result (SaysWhy program.now.image) }
     ensures alone { workers ≤ 1 → IfErr result IsOutOfMemory }
+    ensures order { workers ≤ 1 → IfOk result (GoesInOrder round_robin program.now.image) }
 {
     let bounds = Bounds {
         turns: limit,
@@ -70,7 +72,8 @@ pub fn run<'p, R: Threads + Wait + Sync, G: Gate>(
 /// they may.
 ///
 /// # Errors
-/// Those of a run without a watch.
+/// Those of a run without a watch. U1 without anything left comes only if the run hadn't begun, so the watch has seen
+/// nothing.
 pub fn run_watched<'p, R: Threads + Wait + Sync, G: Gate, W: Watch>(
     rt: &R,
     alloc: Global,
@@ -82,7 +85,9 @@ pub fn run_watched<'p, R: Threads + Wait + Sync, G: Gate, W: Watch>(
 ) -> Result<(Left<'p>, u32), RunFault<'p>>
     ensures ok { IfOk result (λ ended. IsBoundedRun program.now.image bounds ended.1 ended.0) }
     ensures err { IfErr result (SaysWhy program.now.image) }
+    ensures unbegun { IfErr result (λ fault. LeavesNothing fault → watch.new ≡ watch.old) }
     ensures alone { workers ≤ 1 → IfErr result IsOutOfMemory }
+    ensures order { workers ≤ 1 → IfOk result (λ ended. GoesInOrder round_robin program.now.image ended.0) }
 {
     if workers <= 1 {
         return run_alone(rt, alloc, program, bounds, gate, watch);
@@ -104,6 +109,7 @@ fn run_open<'p, P: OfProgram + Send + Sync, R: Threads + Wait + Sync, G: Gate, W
     requires { P.image ≡ Some program.now.image }
     ensures ok { IfOk result (λ ended. IsBoundedRun program.now.image bounds ended.1 ended.0) }
     ensures err { IfErr result (SaysWhy program.now.image) }
+    ensures unbegun { IfErr result (λ fault. LeavesNothing fault → watch.new ≡ watch.old) }
 {
     let Ok(left) = open_left(alloc, program) else {
         return Err(RunFault::OutOfMemory(None));

@@ -5,6 +5,7 @@ use Rattle.sc_world.proofs.Outs.{on-err}
 use Rattle.sc_plant.proofs.OnWay.{advances, err_goes, goes_on, goes_stopped, ok_goes, put_back_stopped, stays_on, way_stopped}
 use Rattle.sc_recording.proofs.Dues.{is_out, none_next, picked_next}
 use Rattle.sc_recording.proofs.PuttingBack.{put_back_out, put_back_state}
+use Rattle.sc_plant.proofs.Ordered.{goes_in_order, stays_in_order}
 use Rattle.sc_plant.proofs.alone.play_next.Goals as goal
 
 pub play_picked-requires-clause-out : goal.play_picked-requires-clause-out
@@ -68,3 +69,17 @@ returns-clause-err g c =
           goes_stopped p c.args.left.now _ h made.0 c.args.limit c.play_picked.new.asked c.index_mut-region.result.now c.play_picked.new.region go at refl
           (made.1.line ∙ ap (λ (ls : List RecordLine). ls ++ line ∷ []) c.pick_with_room.ensures.lines) refl way
     ])
+
+pub returns-in_default-clause-order : goal.returns-in_default-clause-order
+returns-in_default-clause-order g c = λ p.
+    stays_in_order p c.args.left.now.core c.pick_with_room.new.core
+    (none_next c.args.left.now.core c.pick_with_room.new.core (sym c.in_default.is ∙ c.in_ok-handler.ensures.handler)
+    c.in_ok-handler.ensures.center) c.pick_with_room.ensures.log
+
+pub returns-clause-order : goal.returns-clause-order
+returns-clause-order g c =
+    ok_goes c.play_picked.result _ _ _ c.play_picked.ensures.ok c.play_picked.ensures.whole
+    (λ turns made whole p.
+    goes_in_order p c.args.left.now.core c.pick_with_room.new.core c.play_picked.new.core c.in-Some.handler turns c.args.limit
+    c.play_picked.new.asked c.index_mut-region.result.now c.play_picked.new.region c.requires.few (sym c.in-Some.is ∙ c.in_ok-handler.ensures.handler)
+    c.in_ok-handler.ensures.center c.pick_with_room.ensures.log made.played)

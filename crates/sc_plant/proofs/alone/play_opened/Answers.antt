@@ -9,3 +9,6 @@ returns-clause-ok g c = λ p way.
       run = way_run p _ c.play_all.new.left (c.in-Ok.ensures.on p way) (c.in-Ok.ensures.over is);
       ends = c.in-Ok.ensures.ends is;
     }
+
+pub returns-clause-order : goal.returns-clause-order
+returns-clause-order g c = λ p goes. c.in-Ok.ensures.order p goes
