@@ -1,7 +1,7 @@
 -- Turns of which the headline doesn't hold, each for one of its parts: whatever the system is, that part refuses the second state
 -- behind the first one.
 use Rattle.std.proofs.Common.{ℕ, ◌≡◌, ◌⊎◌, inl, inr, true, false, List, [], ◌∷◌, Option, Some, None, length, ap, sym, ◌∙◌, arith}
-use Rattle.std.specs.Prelude.{Contains}
+use Rattle.std.specs.Prelude.{◌++◌, Contains}
 use Rattle.sc_text.specs.declared.token.Span.{Span}
 use Rattle.sc_tree.specs.Plain.{System}
 use Rattle.sc_lockpass.specs.Rights.{Rights, held, unreserved}
@@ -20,6 +20,7 @@ use Rattle.sc_machine_laws.specs.settlements.Entries.{HasStarted}
 use Rattle.sc_machine_laws.specs.Starting.{IsVerdict}
 use Rattle.sc_refines_world.specs.Moving as moving
 use Rattle.sc_refines_world.specs.Moving.{AsksForNone, Begins, BeginsWithOne, ComesTo, FramesMove, IsEntered, IsTaken, call, end, fall, go_on, refuse, return, stay, take_callback, take_next}
+use Rattle.sc_refines_world.specs.Posting.{WasPosted}
 use Rattle.sc_refines_world.specs.Refining.{ComeUnderRight}
 use Rattle.sc_refines_world.proofs.BadStates.{falsity}
 use Rattle.sc_refines_world.proofs.SmallStates.{alone, apart, first, first_of, frame, none-is-some, none-of-none, request, routine, two}
@@ -51,6 +52,18 @@ posted_for_another comes = by (comes 1 (request 1 1 false) (first (request 1 1 f
     by : Contains (requests_at new_handler) (request 1 1 false) ⊎ ((◌≡◌ {A = Option ℕ} (Some 1) (Some 0)) × ((held holds_all 0 1 ≡ true) ⊎ (◌≡◌ {A = ℕ} 1 2))) → ⊥
     by (inl there) = none-of-none (request 1 1 false) there
     by (inr posted) = let e : 1 ≡ 0 = same posted.0 in omega (arith, e)
+
+-- A request is there after no turn at all; or it has no poster.
+pub posted_in_no_turn : (most : ℕ) (s : System) (v : World) (k : ℕ) (r : Request) → WasPosted most s [] v k r → ⊥
+posted_in_no_turn most s v k r was = none was.before was.turns_are
+  where
+    none : (before : List ℕ) → [] ≡ before ++ was.poster ∷ was.after → ⊥
+    none [] e = cc
+    none (h ∷ hs) e = cc
+
+pub posted_by_nobody : (most : ℕ) (s : System) (hs : List ℕ) (v : World) (k : ℕ) (r : Request) → r.poster ≡ None →
+    WasPosted most s hs v k r → ⊥
+posted_by_nobody most s hs v k r nobody was = none-is-some (sym nobody ∙ was.poster_is)
 
 -- ---- what is taken
 

@@ -10,6 +10,7 @@ use Rattle.sc_machine_laws.proofs.Turned.{answers_come}
 use Rattle.sc_machine_laws.proofs.Starts.{bodies_start_where_they_hold}
 use Rattle.sc_machine_laws.specs.SettledObjects.{SettledMeetWhereReached}
 use Rattle.sc_refines_world.specs.Refining.{MachineHasHeadline}
+use Rattle.sc_refines_world.proofs.Posted.{were_posted}
 use Rattle.sc_refines_world.proofs.ReachedMoves.{reached_turns_move}
 use Rattle.sc_refines_world.proofs.Ownership.{reached_frames_run_on_own, reached_no_turn_is_excluded, reached_objects_are_of_classes, reached_references_lead, reached_requests_stand_at_targets}
 use Rattle.sc_refines_world.proofs.Creations.{created_begin}
@@ -21,6 +22,7 @@ machine_has_headline settled s root faultless well most w is =
     let t = reached_stands most s root w is in
     record {
       posts_under_right = λ h k r. posted_under_right most s h w k r;
+      were_posted = were_posted most s w;
       turns_move_requests = reached_turns_move s root faultless well most w is;
       turns_answer = λ g k there other. answers_come most s w g k there other;
       created_begin_with_one = created_begin most s w;

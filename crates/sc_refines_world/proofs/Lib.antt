@@ -5,6 +5,7 @@ pub mod Rounds
 mod ComingAgain
 mod Contracts
 pub mod RoundTurns
+mod Posted
 mod Headlined
 mod IdleWorlds
 mod TurnHalves

@@ -3,6 +3,7 @@ pub mod Standing
 pub mod Belonging
 pub mod Texts
 pub mod Moving
+pub mod Posting
 pub mod Refining
 pub mod Functional
 pub mod Anew

@@ -38,6 +38,7 @@ use Rattle.sc_play.specs.Regions.{PlainRegion}
 use Rattle.sc_world.specs.Turning.{Attempt, Attempts, IsRefusedTurn, IsTurn, Runs, StopsBehind, made_by}
 use Rattle.sc_world.specs.Worlds.{PlainWorld, opened}
 use Rattle.sc_refines_world.specs.Belonging.{FramesRunOnOwn, NoTurnIsExcluded, ObjectsAreOfClasses, ReferencesLead, RequestsStandAtTargets}
+use Rattle.sc_refines_world.specs.Posting.{WerePosted}
 use Rattle.sc_refines_world.specs.Moving.{CreatedBeginWithOne, TurnsMoveRequests, WaitersHaveRequests}
 use Rattle.sc_refines_world.specs.Standing.{IsRegionFor, StandsFor, StandsNear}
 use Rattle.sc_refines_world.specs.Texts.{FramesAreTyped, FramesKnowTheirTexts}
@@ -58,13 +59,14 @@ PostsUnderRight most s w = (h : ℕ) → ComeUnderRight h w (turn most s h w)
 abbrev pub TurnsAnswer : ℕ → System → World → Type 0
 TurnsAnswer most s w = (g k : ℕ) → k < w.count → k ≢ g → AnswerComes s w g k (turn most s g w)
 
--- The headline's claims about a state, if there may be `most` handlers: under which right a handler posts; how
--- frames, requests and answers come and go; how handlers begin; which handlers hold and wait for which; what belongs
+-- The headline's claims about a state, if there may be `most` handlers: under which right a handler posts, and posted
+-- each request that is there; how frames, requests and answers come and go; how handlers begin; which handlers hold and wait for which; what belongs
 -- to which handler; that names and operands have the types of the text; that values fit; that settled objects meet
 -- their class invariants; that in the next turn a body starts only if the clauses of its precondition hold; and that
 -- no excluded failure occurs in it.
 pub record HasHeadline (most : ℕ) (s : System) (w : World) : Type 0 where
   pub posts_under_right : PostsUnderRight most s w
+  pub were_posted : WerePosted most s w
   pub turns_move_requests : TurnsMoveRequests most s w
   pub turns_answer : TurnsAnswer most s w
   pub created_begin_with_one : CreatedBeginWithOne most s w
