@@ -3,9 +3,9 @@ use Rattle.std.proofs.Common.{◌≡◌, ℕ, ◌+◌, ◌<◌, List, [], ◌∷
 use Rattle.std.proofs.lemmas.List.{map-append, take_more}
 use Rattle.std.proofs.lemmas.List.Elements.{filter_map-append}
 use Rattle.sc_tree.specs.Plain.{System}
-use Rattle.sc_class.specs.declared.class_tables.feature_entry.FeatureEntry.{FeatureEntry}
-use Rattle.sc_class.specs.View.{entry_of}
-use Rattle.sc_class.specs.Tables.Features.{DeclaredFeature}
+use Rattle.sc_tree.specs.declared.system.Feature.{Feature}
+use Rattle.sc_tree.specs.View.{feature_of}
+use Rattle.sc_class.specs.Tables.Features.{DeclaredFeature, declared_in}
 use Rattle.sc_model.specs.Environments.{Binding}
 use Rattle.sc_model.specs.Objects.{fresh_attribute, fresh_attributes}
 
@@ -18,11 +18,14 @@ fresh_one : (s : System) (f : DeclaredFeature) (o : Option Binding) → fresh_at
 fresh_one s f None e = rw e refl
 fresh_one s f (Some a) e = rw e refl
 
--- one feature more, which is e
-pub fresh_more : (s : System) (es : List FeatureEntry) (i : ℕ) (e : FeatureEntry) → i < length es → e ≡ get_or es i e →
-    fresh_attributes s (map entry_of (take (i + 1) es)) ≡ fresh_attributes s (map entry_of (take i es)) ++ listed (fresh_attribute s (entry_of e).feature.name.text (entry_of e).feature.kind)
-fresh_more s es i e l at =
-    ap (λ t. fresh_attributes s (map entry_of t)) (take_more es i e l ∙ ap (λ g. take i es ++ g ∷ []) (sym at))
-    ∙ ap (fresh_attributes s) (map-append entry_of (take i es) (e ∷ []))
-    ∙ filter_map-append (λ (g : DeclaredFeature). fresh_attribute s g.feature.name.text g.feature.kind) (map entry_of (take i es)) (entry_of e ∷ [])
-    ∙ ap (λ t. fresh_attributes s (map entry_of (take i es)) ++ t) (fresh_one s (entry_of e) (fresh_attribute s (entry_of e).feature.name.text (entry_of e).feature.kind) refl)
+-- one feature more, which is f
+pub fresh_more : (s : System) (k : ℕ) (fs : List Feature) (i : ℕ) (f : Feature) → i < length fs → f ≡ get_or fs i f →
+    fresh_attributes s (map (declared_in k) (map feature_of (take (i + 1) fs)))
+    ≡ fresh_attributes s (map (declared_in k) (map feature_of (take i fs))) ++ listed (fresh_attribute s (feature_of f).name.text (feature_of f).kind)
+fresh_more s k fs i f l at =
+    ap (λ t. fresh_attributes s (map (declared_in k) (map feature_of t))) (take_more fs i f l ∙ ap (λ g. take i fs ++ g ∷ []) (sym at))
+    ∙ ap (λ t. fresh_attributes s (map (declared_in k) t)) (map-append feature_of (take i fs) (f ∷ []))
+    ∙ ap (fresh_attributes s) (map-append (declared_in k) (map feature_of (take i fs)) (feature_of f ∷ []))
+    ∙ filter_map-append (λ (g : DeclaredFeature). fresh_attribute s g.feature.name.text g.feature.kind) (map (declared_in k) (map feature_of (take i fs))) (declared_in k (feature_of f) ∷ [])
+    ∙ ap (λ t. fresh_attributes s (map (declared_in k) (map feature_of (take i fs))) ++ t)
+      (fresh_one s (declared_in k (feature_of f)) (fresh_attribute s (feature_of f).name.text (feature_of f).kind) refl)

@@ -9,6 +9,7 @@ pub mod Views
 pub mod Origins
 pub mod Codes
 pub mod InOrder
+pub mod InheritedAttributes
 pub mod Rooted
 pub mod SeparateSlots
 pub mod FittingExpressions

@@ -4,13 +4,13 @@ ghost use Rattle.std.specs.Prelude.{◌≡◌, ◌<◌, IfOk, IfSome, length, ma
 ghost use Rattle.std.specs.Option.{option_map};
 ghost use Rattle.sc_tree.specs.View.{feature_of};
 ghost use Rattle.sc_class.specs.SystemIn.{system_in};
-ghost use Rattle.sc_class.specs.View.{entry_of};
+ghost use Rattle.sc_class.specs.Tables.Features.{declared_features, declared_in, features};
 ghost use Rattle.sc_model.specs.Objects.{fresh_attribute, fresh_attributes};
 ghost use Rattle.sc_model.specs.Values.{default_of};
 ghost use Rattle.sc_model.specs.Invariants.{attribute_named};
-ghost use Rattle.sc_lower.specs.AttributeBindings.{binding_of, is_named};
+ghost use Rattle.sc_lower.specs.AttributeBindings.{AreOwnAttributes, binding_of, is_named, own_attributes};
 
-use sc_class::{ClassId, FeatureEntry, Tables};
+use sc_class::{ClassId, Tables};
 use sc_rules::entity_types::EntityType;
 use sc_text::Span;
 use sc_tree::{Feature, FeatureKind};
@@ -65,19 +65,81 @@ fn declared_attribute<'s>(tables: &Tables<'s>, feature: &'s Feature) -> Option<A
     }
 }
 
-/// The attributes of a class with these features, in their order.
-pub fn attributes_of<'s>(
+/// The features that the class at the number declares itself.
+#[tactic(auto, unfolding(sc_tree::specs::View::class_of))]
+fn own_features<'s>(tables: &Tables<'s>, class: usize) -> &'s [Feature]
+    ensures { map (declared_in class) (map feature_of result.now) ≡ declared_features (system_in tables.now) class }
+{
+    match tables.class(class) {
+        Some(text) => &text.features,
+        None => &[],
+    }
+}
+
+/// The attributes that the class at the number declares itself, in the order of its text.
+fn attributes_declared<'s>(
     alloc: Global,
     tables: &Tables<'s>,
-    features: &[FeatureEntry<'s>],
+    class: usize,
 ) -> Result<Vec<Attribute<'s>>, AllocError>
-    ensures { IfOk result (λ attributes. map binding_of attributes.items ≡ fresh_attributes (system_in tables.now) (map entry_of features.now)) }
+    ensures { IfOk result (λ attributes. map binding_of attributes.items ≡ own_attributes (system_in tables.now) class) }
 {
     let mut attributes = Vec::new(alloc);
-    for entry in features {
-        if let Some(attribute) = declared_attribute(tables, entry.feature) {
+    for feature in own_features(tables, class) {
+        if let Some(attribute) = declared_attribute(tables, feature) {
             attributes.push(attribute)?;
         }
+    }
+    Ok(attributes)
+}
+
+/// The attributes that each class declares itself, by the number of the class.
+#[tactic(auto, using(crate::proofs::Ranges::ranges))]
+pub fn own_attributes<'s>(
+    alloc: Global,
+    tables: &Tables<'s>,
+) -> Result<Vec<Vec<Attribute<'s>>>, AllocError>
+    ensures { IfOk result (λ own. AreOwnAttributes (system_in tables.now) own.items) }
+{
+    let mut own = Vec::new(alloc);
+    for class in 0..tables.classes().len() {
+        own.push(attributes_declared(alloc, tables, class)?)?;
+    }
+    Ok(own)
+}
+
+/// The list of the class at the number; none if there is no such class. The classes declare these attributes themselves.
+#[tactic(auto, using(crate::proofs::InheritedAttributes::own_lists))]
+fn list_at<'a, 's>(
+    tables: &Tables<'s>,
+    own: &'a [Vec<Attribute<'s>>],
+    class: usize,
+) -> &'a [Attribute<'s>]
+    requires { AreOwnAttributes (system_in tables.now) own.now }
+    ensures { map binding_of result.now ≡ own_attributes (system_in tables.now) class }
+{
+    match own.get(class) {
+        Some(declared) => declared,
+        None => &[],
+    }
+}
+
+/// The attributes of the class at the number: its own, then its parent's, and so on. The classes declare these
+/// themselves.
+pub fn class_attributes<'s>(
+    alloc: Global,
+    tables: &Tables<'s>,
+    own: &[Vec<Attribute<'s>>],
+    class: usize,
+) -> Result<Vec<Attribute<'s>>, AllocError>
+    requires own { AreOwnAttributes (system_in tables.now) own.now }
+    requires there { class < length (system_in tables.now).classes }
+    ensures { IfOk result (λ attributes. map binding_of attributes.items
+        ≡ fresh_attributes (system_in tables.now) (features (system_in tables.now) class)) }
+{
+    let mut attributes = Vec::new(alloc);
+    for ancestor in tables.ancestors(ClassId::Declared(class)) {
+        attributes.extend_from_slice(list_at(tables, own, *ancestor))?;
     }
     Ok(attributes)
 }

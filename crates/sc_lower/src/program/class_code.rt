@@ -7,13 +7,13 @@ ghost use Rattle.sc_tree.specs.View.{clause_of};
 ghost use Rattle.sc_class.specs.SystemIn.{system_in};
 ghost use Rattle.sc_class.specs.Tables.Features.{declared_invariant};
 ghost use Rattle.sc_model.specs.Environments.{Binding};
-ghost use Rattle.sc_lower.specs.AttributeBindings.{binding_of};
+ghost use Rattle.sc_lower.specs.AttributeBindings.{AreOwnAttributes, binding_of};
 ghost use Rattle.sc_lower.specs.ClassCodes.{conforming};
 ghost use Rattle.sc_lower.specs.Formulas.{clauses_over};
 ghost use Rattle.sc_code.specs.Attributes.{has_clauses, known_formulas, with_clauses};
 ghost use Rattle.sc_code.specs.Programs.{attribute_in, class_in, class_code_of, class_codes_of};
 
-use crate::program::attributes::{Attribute, attributes_of};
+use crate::program::attributes::{Attribute, class_attributes, own_attributes};
 use crate::program::class_text::class_text;
 use crate::program::invariant;
 use crate::program::versions::versions;
@@ -109,19 +109,21 @@ fn with_clauses(alloc: Global, tables: &Tables, classes: &[usize]) -> Result<Vec
         .collect(alloc)
 }
 
-/// The tables of the class at the number, where names have these numbers.
+/// The tables of the class at the number. Names have these numbers, and the classes declare these attributes
+/// themselves.
 fn class_code(
     alloc: Global,
     numbering: &Numbering,
+    own: &[Vec<Attribute<'_>>],
     names: &[String],
     class: usize,
 ) -> Result<ClassCode, AllocError>
-    requires { class < length (system_in numbering.now.tables.now).classes }
+    requires own { AreOwnAttributes (system_in numbering.now.tables.now) own.now }
+    requires there { class < length (system_in numbering.now.tables.now).classes }
     ensures { IfOk result (λ code. class_in code ≡ class_code_of (system_in numbering.now.tables.now) (map string_bytes names.now) class) }
 {
     let tables = numbering.tables;
-    let features = tables.features(alloc, ClassId::Declared(class))?;
-    let attributes = attributes_of(alloc, tables, &features)?;
+    let attributes = class_attributes(alloc, tables, own, class)?;
     let ancestors = tables.ancestors(ClassId::Declared(class));
     Ok(ClassCode {
         attributes: attribute_codes(alloc, &attributes)?,
@@ -133,7 +135,7 @@ fn class_code(
     })
 }
 
-/// The tables of each class, where names have these numbers.
+/// The tables of each class. Names have these numbers.
 #[tactic(auto, using(crate::proofs::Ranges::ranges))]
 pub fn class_codes(
     alloc: Global,
@@ -143,9 +145,10 @@ pub fn class_codes(
     ensures { IfOk result (λ codes. map class_in codes.items
         ≡ class_codes_of (system_in numbering.now.tables.now) (map string_bytes names.now)) }
 {
+    let own = own_attributes(alloc, numbering.tables)?;
     let mut codes = Vec::new(alloc);
     for class in 0..numbering.tables.classes().len() {
-        codes.push(class_code(alloc, numbering, names, class)?)?;
+        codes.push(class_code(alloc, numbering, &own, names, class)?)?;
     }
     Ok(codes)
 }
