@@ -2,7 +2,8 @@
 //!
 //! Tables of rows, each a text or some steps and what comes of it: a formula of 3,000 levels ([`formulas`]), a handler's store
 //! ([`stores`]) and its log ([`worklogs`]). Runs by several workers ([`together`]), audits with records that aren't a run's own
-//! ([`audits`]), and worlds that one thread plays ([`worlds`]). Calls that the program doesn't make ([`library`]).
+//! ([`audits`]), settlements beside what regions played ([`settling`]), and worlds that one thread plays ([`worlds`]). Calls that
+//! the program doesn't make ([`library`]).
 //!
 //! `proofs/` has rows of definitions: of rights, entries, passed locks, references, full stacks, conformance, of what is seen
 //! through a call, and of how long code is.
@@ -20,6 +21,8 @@ mod programs;
 mod rows;
 #[cfg(test)]
 mod runs;
+#[cfg(test)]
+mod settling;
 #[cfg(test)]
 mod stores;
 #[cfg(test)]
