@@ -1,0 +1,7 @@
+pub mod Laying
+pub mod Lines
+pub mod Reading
+pub mod Settled
+pub mod Splits
+pub mod Touching
+pub mod Written

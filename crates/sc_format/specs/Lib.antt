@@ -1,0 +1,5 @@
+pub mod Elements
+pub mod Formatted
+pub mod Gaps
+pub mod Internal
+pub mod Layout
