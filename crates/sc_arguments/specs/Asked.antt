@@ -86,6 +86,11 @@ abbrev pub IsAskedOf : List ℕ → List (List ℕ) → Invocation → Type 0
 IsAskedOf name words (invocation.OnFiles (command.Check options) names) =
     (name ≡ codes "check") × AreGivenIn words names.items × AreCheckOptions words options
 IsAskedOf name words (invocation.OnFiles command.Print names) = (name ≡ codes "print") × AreGivenIn words names.items
+IsAskedOf name words (invocation.OnFiles command.Format names) =
+    (name ≡ codes "format") × AreGivenIn words names.items × (has_option (codes "--write") words ≡ false)
+    × (has_option (codes "--check") words ≡ false)
+IsAskedOf name words (invocation.Layout is_written names) =
+    (name ≡ codes "format") × AreGivenIn words names.items × (is_written ≡ has_option (codes "--write") words)
 IsAskedOf name words (invocation.Run options names) =
     (name ≡ codes "run") × AreGivenIn words names.items × AreRunOptions words options
 IsAskedOf name words (invocation.Replay options names) =

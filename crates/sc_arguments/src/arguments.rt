@@ -1,6 +1,7 @@
 //! The arguments of a command line: what is asked for, and of which files.
 
 mod format;
+mod formatting;
 mod given;
 mod help;
 mod numbers;
@@ -16,6 +17,7 @@ ghost use Rattle.sc_arguments.specs.Usage as spec;
 ghost use Rattle.sc_arguments.specs.Words.{given_in};
 
 use crate::arguments::format::read_format;
+use crate::arguments::formatting::{FORMATTING, read_formatting};
 use crate::arguments::given::given_in;
 use crate::arguments::numbers::{limit_by, number_in, small_number_in};
 use crate::arguments::options::{
@@ -49,6 +51,8 @@ pub enum Invocation<'a> {
     Replay(ReplayOptions<'a>, Vec<&'a str>),
     /// To play the system of these files in every order of turns.
     Search(SearchOptions<'a>, Vec<&'a str>),
+    /// To put each of these files in its layout, or if that isn't said, to name those that aren't.
+    Layout(bool, Vec<&'a str>),
     /// To explain this code or name, or to list all codes.
     Explain(Option<&'a str>),
 }
@@ -60,6 +64,8 @@ pub enum Command {
     Check(CheckOptions),
     /// Prints its canonical text.
     Print,
+    /// Prints its text in the layout of canonical text, with its comments.
+    Format,
 }
 
 #[derive(Drop)]
@@ -159,7 +165,7 @@ alone runs the object's features. A system is the classes of all its files.";
 const STATUS_HELP: &str = "\
 Exit status:
   0  done, and every handler is free
-  1  the system is refused, or the record
+  1  the system is refused, or the record; or `format --check` names a file
   2  an argument, a file or the output is at fault
   3  a handler has failed, or does in an order that was found
   4  a handler is waiting or busy, or waits for good in an order that was found
@@ -302,7 +308,7 @@ struct Described {
 }
 
 /// The commands of the program.
-const COMMANDS: [Described; 6] = [
+const COMMANDS: [Described; 7] = [
     Described {
         name: "check",
         about: CHECK_ABOUT,
@@ -352,6 +358,7 @@ const COMMANDS: [Described; 6] = [
         after_help: PRINT_AFTER_HELP,
         takes: &[FILES],
     },
+    FORMATTING,
     Described {
         name: "explain",
         about: EXPLAIN_ABOUT,
@@ -468,6 +475,7 @@ fn read_command<'a, S: AsStr>(
             Ok(Invocation::OnFiles(Command::Check(check), given))
         }
         "print" => Ok(Invocation::OnFiles(Command::Print, given)),
+        "format" => Ok(read_formatting(words, given)),
         "run" => {
             let run = read_run(alloc, words, options, is_explained)?;
             Ok(Invocation::Run(run, given))

@@ -81,6 +81,8 @@ formatted bytes_of (invocation.Search options names) format answer (Ok told) e i
       answer.exit told.exit answer.record told.record same.text same.exit same.kept is.0,
   λ text. same.object (e ∙ text) ∙ is.1 text,
 )
+formatted bytes_of (invocation.Layout is_written names) format answer (Ok told) e is same =
+    (same.kept ∙ is.0, same.object e ∙ is.1)
 formatted bytes_of (invocation.Explain word) format answer (Ok told) e is same =
     explained (option_map (λ w. w.now) word) answer told is (subst (λ f. IsFormatted f answer told) e same)
 

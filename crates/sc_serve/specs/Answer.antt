@@ -21,7 +21,10 @@ use Rattle.sc_serve.specs.declared.serve.Fault.TheVariants as fault
 use Rattle.sc_arguments.specs.declared.arguments.Command.{Command}
 use Rattle.sc_arguments.specs.declared.arguments.Command.TheVariants as command
 use Rattle.sc_arguments.specs.declared.arguments.RunOptions.{RunOptions}
-use Rattle.sc_frontend.specs.Texts.{IsAccepted, IsLoaded, IsNotRunFor, IsPrinted, IsRefusedFor, IsUnreadable}
+use Rattle.sc_frontend.specs.Texts.{IsAccepted, IsLoaded, IsNotRunFor, IsPrinted, IsRefusedFor, IsSpelled, IsUnreadable}
+use Rattle.sc_format.specs.Elements.{HaveSame}
+use Rattle.sc_format.specs.Formatted.{IsLaidOut}
+use Rattle.sc_tree.specs.Plain.{System}
 use Rattle.sc_driver.specs.Execution.{IsReplay, IsRunOf, IsThreadRun}
 use Rattle.sc_plant.specs.declared.left.Left.{Left}
 use Rattle.sc_plant.specs.declared.bounds.Bounds.{Bounds}
@@ -57,16 +60,28 @@ is_unfinished status.Free = false
 abbrev pub exit_of : List Status → Exit
 exit_of hows = if list_any has_failed hows then Failed else if list_any is_unfinished hows then Unfinished else Done
 
--- The text isn't refused, and the output is `ok`, or for `print` the canonical text.
+-- The text spells a system, and the output is the text in its layout: it has the same tokens and comments, and its
+-- layout is itself.
+pub record IsInLayout (text output : List ℕ) : Type 0 where
+  pub tree : System
+  pub spelled : IsSpelled text tree
+  pub laid : IsLaidOut text output
+  pub same : HaveSame text output
+  pub settled : IsLaidOut output output
+
+-- The text isn't refused, and the output is `ok`, for `print` the canonical text, or for `format` the text in its
+-- layout.
 abbrev pub IsAnswerTo : Command → List ℕ → List ℕ → Exit → Type 0
 IsAnswerTo (command.Check options) text output exit =
     IsAccepted text (root_of options.root) × (output ≡ codes "ok\n") × (exit ≡ Done)
 IsAnswerTo command.Print text output exit = IsPrinted text output × (exit ≡ Done)
+IsAnswerTo command.Format text output exit = IsInLayout text output × (exit ≡ Done)
 
 -- The rejection `why`, for which the command is refused on this text, is true of the text.
 abbrev pub IsRejectedFor : Command → List ℕ → Rejection → Type 0
 IsRejectedFor (command.Check options) text why = IsRefusedFor text (root_of options.root) why
 IsRejectedFor command.Print text why = IsUnreadable text why
+IsRejectedFor command.Format text why = IsUnreadable text why
 
 -- the line that reports the rejection, with its place in the files, if it is a refusal
 abbrev pub line_of : List File → Rejection → Option (List ℕ)

@@ -1,4 +1,5 @@
 pub mod Answer
+pub mod Layouts
 pub mod Refusal
 pub mod Replaced
 pub mod Search

@@ -26,6 +26,7 @@ use Rattle.sc_serve.specs.declared.serve.Exit.TheVariants.{Broken, Done, Failed,
 abbrev pub format_of : Command → Format
 format_of (command.Check options) = options.format
 format_of command.Print = Text
+format_of command.Format = Text
 
 -- the format that is asked for
 abbrev pub format_asked : Invocation → Format
@@ -33,6 +34,7 @@ format_asked (invocation.OnFiles what names) = format_of what
 format_asked (invocation.Run options names) = options.format
 format_asked (invocation.Replay options names) = options.format
 format_asked (invocation.Search options names) = options.format
+format_asked (invocation.Layout is_written names) = Text
 format_asked (invocation.Explain word) = Text
 
 -- what each of the files of these names holds, if it is known
@@ -68,6 +70,7 @@ Answers bytes_of (invocation.Replay options names) answer =
 Answers bytes_of (invocation.Search options names) answer =
     IsSearchOn options (named names.items) (held_by bytes_of names.items) answer.text.items answer.exit answer.record
     × IsAs options.format answer
+Answers bytes_of (invocation.Layout is_written names) answer = (answer.record ≡ None) × (answer.object ≡ None)
 Answers bytes_of (invocation.Explain word) answer = IsExplained (option_map (λ w. w.now) word) answer
 
 -- `formatted` has the text, the exit and the record of `answer`, and if the format is text its object too.

@@ -8,6 +8,7 @@
 
 mod delivery;
 mod json;
+mod layouts;
 mod progress;
 mod refusal;
 mod replaying;

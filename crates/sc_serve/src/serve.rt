@@ -4,11 +4,13 @@ ghost use Rattle.std.specs.Prelude.{◌≡◌, ◌⊎◌, [], IfErr, IfOk, None,
 ghost use Rattle.sc_serve.specs.Answer as spec;
 ghost use Rattle.std.specs.List.{list_any};
 ghost use Rattle.std.specs.Option.{option_map};
-ghost use Rattle.sc_serve.specs.Answer.{IsAnswerOn, IsAnswerTo, IsRefusalOf, IsRejectedFor, IsUnansweredOn, IsUnread, too_long};
+ghost use Rattle.sc_frontend.specs.Texts.{IsUnreadable};
+ghost use Rattle.sc_serve.specs.Answer.{IsAnswerOn, IsAnswerTo, IsInLayout, IsRefusalOf, IsRejectedFor, IsUnansweredOn, IsUnread, too_long};
 ghost use Rattle.sc_serve.specs.Served.{Answers, IsExplained, IsFormatted, IsGivenUp, IsHelp, IsResponse, IsServed, format_asked, format_of};
 
 use crate::delivery::deliver;
 use crate::json::answer_object;
+use crate::layouts::answer_layout;
 use crate::progress::{Progress, Tell};
 use crate::refusal::Refusal;
 use crate::replaying::answer_replay;
@@ -20,6 +22,7 @@ use sc_audit::RecordLine;
 use sc_class::Root;
 use sc_explain_refusal::{Related, diagnose};
 use sc_explain_text::{Lines, find, left_out, list};
+use sc_format::format_text;
 use sc_frontend::{Rejection, check_text, print_text};
 use sc_model::Status;
 use sc_search::Watch;
@@ -255,6 +258,7 @@ fn why_unwritten(kind: ErrorKind) -> &'static str {
         ErrorKind::PermissionDenied => "there is no right to write it",
         ErrorKind::StorageFull => "there is no room for it",
         ErrorKind::FileTooLarge => "it would be larger than a file may be",
+        ErrorKind::Unsupported => "it is standard input",
         _ => "",
     }
 }
@@ -333,6 +337,9 @@ fn answer_unformatted<'a, R: Threads + Wait + Clock + Sync, F: Files, W: Watch +
         Invocation::Search(options, names) => {
             answer_search(alloc, options, files, names.as_slice(), watch)
         }
+        Invocation::Layout(is_written, names) => {
+            answer_layout(alloc, *is_written, files, names.as_slice())
+        }
         Invocation::Explain(word) => explain(alloc, *word),
     }
 }
@@ -346,7 +353,7 @@ fn format_asked(invocation: &Invocation<'_>) -> Format
         Invocation::Run(options, _) => options.format,
         Invocation::Replay(options, _) => options.format,
         Invocation::Search(options, _) => options.format,
-        Invocation::Explain(_) => Format::Text,
+        Invocation::Layout(..) | Invocation::Explain(_) => Format::Text,
     }
 }
 
@@ -371,7 +378,7 @@ fn format_of(command: &Command) -> Format
 {
     match command {
         Command::Check(options) => options.format,
-        Command::Print => Format::Text,
+        Command::Print | Command::Format => Format::Text,
     }
 }
 
@@ -418,7 +425,7 @@ fn answer_on_files<'a, F: Files>(
 fn explained_root(command: &Command) -> Option<&Root> {
     match command {
         Command::Check(options) => root_if(options.is_explained, &options.root),
-        Command::Print => None,
+        Command::Print | Command::Format => None,
     }
 }
 
@@ -577,7 +584,7 @@ fn answer_rejected<'a>(
 }
 
 /// Does with the system of a source text what is asked for.
-fn examine<'a>(alloc: Global, command: &Command, text: &str) -> Result<Answer<'a>, Rejection>
+pub fn examine<'a>(alloc: Global, command: &Command, text: &str) -> Result<Answer<'a>, Rejection>
     ensures answer { IfOk result (λ answer. IsAnswerTo command.now text.now answer.text.items answer.exit) }
     ensures plain { IfOk result (λ answer. (answer.record ≡ None) × (answer.object ≡ None)) }
     ensures rejected { IfErr result (IsRejectedFor command.now text.now) }
@@ -586,6 +593,10 @@ fn examine<'a>(alloc: Global, command: &Command, text: &str) -> Result<Answer<'a
         Command::Check(options) => {
             check_text(alloc, text, &options.root)?;
             let text = Vec::from_slice(alloc, b"ok\n")?;
+            Ok(Answer::new(alloc, text, Exit::Done))
+        }
+        Command::Format => {
+            let text = formatted_text(alloc, text)?;
             Ok(Answer::new(alloc, text, Exit::Done))
         }
         Command::Print => {
@@ -600,6 +611,15 @@ fn examine<'a>(alloc: Global, command: &Command, text: &str) -> Result<Answer<'a
             })
         }
     }
+}
+
+/// The source text in its layout, if it spells a system.
+fn formatted_text(alloc: Global, text: &str) -> Result<Vec<u8>, Rejection>
+    ensures laid { IfOk result (λ output. IsInLayout text.now output.items) }
+    ensures refused { IfErr result (IsUnreadable text.now) }
+{
+    print_text(alloc, text)?;
+    Ok(format_text(alloc, text)?)
 }
 
 /// The answer of a line that reports a refusal, with what is added on standard error.

@@ -34,7 +34,8 @@ pub fn check_target<'a, F: Files>(
         Invocation::Search(options, names) => {
             check_record(alloc, files, options.record, names.as_slice())
         }
-        Invocation::OnFiles(..) | Invocation::Replay(..) | Invocation::Explain(_) => Ok(()),
+        Invocation::OnFiles(..) | Invocation::Layout(..) => Ok(()),
+        Invocation::Replay(..) | Invocation::Explain(_) => Ok(()),
     }
 }
 

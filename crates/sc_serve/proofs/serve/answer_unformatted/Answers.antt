@@ -35,3 +35,9 @@ returns-in-Search g c =
     subst P (sym c.in-Search.is)
     (search_answered (g.F.Files.bytes_of c.args.files.now) c.in-Search.options c.in-Search.names c.answer_search.result
     (rw c.as_slice-in-Search.ensures.value at c.answer_search.ensures.answer) c.answer_search.ensures.object)
+
+-- what is answered where files are laid out
+pub returns-in-Layout : goal.returns-in-Layout
+returns-in-Layout g c =
+    let P : Invocation → Type 0 = λ what. IfOk c.answer_layout.result (Answers (g.F.Files.bytes_of c.args.files.now) what) in
+    subst P (sym c.in-Layout.is) c.answer_layout.ensures

@@ -1,0 +1,158 @@
+//! What `format` does with files one by one: it writes them in place, or names those that would change.
+
+ghost use Rattle.std.specs.Prelude.{◌≡◌, IfOk, None};
+ghost use Rattle.sc_serve.specs.Layouts.{IsPlain};
+
+use crate::serve::{Answer, Exit, Fault, answer_explained, answer_unread, examine};
+use sc_arguments::Command;
+use sc_audit::{Unwritable, write_whole};
+use sc_source::files::{Files, read_source};
+use sc_source::writing::Remains;
+use std::alloc::{AllocError, Global};
+use std::io::{self, ErrorKind, Write};
+
+/// A file that would change, and its text in its layout.
+#[derive(Drop)]
+struct Changed<'a> {
+    name: &'a str,
+    text: Vec<u8>,
+}
+
+/// What is made of a file.
+#[derive(Drop)]
+enum Read<'a> {
+    /// It is in its layout.
+    Same,
+    /// It would change to this text.
+    Changed(Vec<u8>),
+    /// It is refused.
+    Refused(Answer<'a>),
+}
+
+/// Writes each file in its layout in place, or names those that would change. No file is written if one of them is refused.
+#[inline(never)]
+pub fn answer_layout<'a, F: Files>(
+    alloc: Global,
+    is_written: bool,
+    files: &F,
+    names: &[&'a str],
+) -> Result<Answer<'a>, Fault<'a>>
+    ensures { IfOk result (λ answer. (answer.record ≡ None) × (answer.object ≡ None)) }
+{
+    let mut changed = Vec::new(alloc);
+    for name in names {
+        match read_file(alloc, files, name)? {
+            Read::Same => {}
+            Read::Changed(text) => push_changed(&mut changed, name, text)?,
+            Read::Refused(answer) => return Ok(answer),
+        }
+    }
+    answer_changed(alloc, is_written, files, changed.as_slice())
+}
+
+/// What is made of the file of this name.
+fn read_file<'a, F: Files>(alloc: Global, files: &F, name: &'a str) -> Result<Read<'a>, Fault<'a>>
+    ensures { IfOk result IsPlain }
+{
+    let names = [name];
+    let source = match read_source(alloc, files, &names) {
+        Ok(source) => source,
+        Err(fault) => return Ok(Read::Refused(answer_unread(alloc, &names, fault, false)?)),
+    };
+    match examine(alloc, &Command::Format, source.text()) {
+        Ok(answer) if is_same(source.text().as_bytes(), answer.text.as_slice()) => Ok(Read::Same),
+        Ok(answer) => Ok(Read::Changed(answer.text)),
+        Err(rejection) => {
+            let answer = answer_explained(alloc, &source, &rejection, None)?;
+            Ok(Read::Refused(answer))
+        }
+    }
+}
+
+/// Writes the files that would change, or answers their names.
+fn answer_changed<'a, F: Files>(
+    alloc: Global,
+    is_written: bool,
+    files: &F,
+    changed: &[Changed<'a>],
+) -> Result<Answer<'a>, Fault<'a>>
+    ensures { IfOk result (λ answer. (answer.record ≡ None) × (answer.object ≡ None)) }
+{
+    if is_written {
+        write_all(files, changed)?;
+        return Ok(Answer::new(alloc, Vec::new(alloc), Exit::Done));
+    }
+    let exit = if changed.is_empty() {
+        Exit::Done
+    } else {
+        Exit::Refused
+    };
+    Ok(Answer::new(alloc, names_of(alloc, changed)?, exit))
+}
+
+/// Adds a file that would change.
+fn push_changed<'a>(
+    changed: &mut Vec<Changed<'a>>,
+    name: &'a str,
+    text: Vec<u8>,
+) -> Result<(), AllocError> {
+    changed.push(Changed { name, text })?;
+    Ok(())
+}
+
+/// Whether a source text is this one and a line feed.
+fn is_same(source: &[u8], text: &[u8]) -> bool {
+    match source {
+        [file @ .., _] => file == text,
+        [] => false,
+    }
+}
+
+/// The names of the files that would change, a line each.
+fn names_of(alloc: Global, changed: &[Changed<'_>]) -> Result<Vec<u8>, AllocError> {
+    let mut text = Vec::new(alloc);
+    for file in changed {
+        text.extend_from_slice(file.name.as_bytes())?;
+        text.push(b'\n')?;
+    }
+    Ok(text)
+}
+
+/// Writes each file in place.
+fn write_all<'a, F: Files>(files: &F, changed: &[Changed<'a>]) -> Result<(), Fault<'a>> {
+    for file in changed {
+        if file.name == "-" {
+            let error = io::Error::from(ErrorKind::Unsupported);
+            return Err(Fault::CannotRecord(file.name, error, None));
+        }
+        match write_file(files, file) {
+            Ok(()) => {}
+            Err((error, _)) if error.kind() == ErrorKind::OutOfMemory => {
+                return Err(Fault::OutOfMemory);
+            }
+            Err((error, remains)) => {
+                return Err(Fault::CannotRecord(file.name, error, remains));
+            }
+        }
+    }
+    Ok(())
+}
+
+/// Writes a file in place, whole or not at all.
+fn write_file<F: Files>(files: &F, file: &Changed<'_>) -> Result<(), (io::Error, Option<Remains>)> {
+    let mut writer = match files.writer(file.name) {
+        Ok(writer) => writer,
+        Err(error) => return Err((error, None)),
+    };
+    let written = match write_whole(&mut writer, file.text.as_slice()) {
+        Ok(()) => writer.flush(),
+        Err(Unwritable(error)) => Err(error),
+    };
+    match written {
+        Ok(()) => match files.commit(writer) {
+            Ok(()) => Ok(()),
+            Err((error, remains)) => Err((error, Some(remains))),
+        },
+        Err(error) => Err((error, Some(files.discard(writer)))),
+    }
+}
