@@ -1,5 +1,6 @@
 pub mod Laying
 pub mod Lines
+pub mod OneList
 pub mod Reading
 pub mod Settled
 pub mod Splits

@@ -1,6 +1,6 @@
 -- What a source text has besides white space: tokens, each as the text spells it, and comments, each without the white
 -- space at its end.
-use Rattle.std.specs.Prelude.{ℕ, List, [], ◌∷◌, ◌++◌, IsFalse, IsTrue}
+use Rattle.std.specs.Prelude.{ℕ, ◌≡◌, List, [], ◌∷◌, ◌++◌, IsFalse, IsTrue}
 use Rattle.std.specs.List.{list_all}
 use Rattle.sc_text.specs.Characters.{begins_with, hyphen, is_comment_part, is_white_space}
 use Rattle.sc_text.specs.Kind.{Kind}
@@ -26,3 +26,7 @@ pub record HaveSame (text output : List ℕ) : Type 0 where
   pub elements : List Element
   pub before : Has text elements
   pub after : Has output elements
+
+-- No text has two lists of elements.
+abbrev pub OneListOfElements : Type 0
+OneListOfElements = (text : List ℕ) (es fs : List Element) → Has text es → Has text fs → es ≡ fs

@@ -6,7 +6,9 @@
 
 mod format;
 mod gap;
+mod laws;
 mod layout;
 mod role;
 
 pub use format::format_text;
+pub use laws::one_list_of_elements;
