@@ -28,4 +28,4 @@ fresh_more s k fs i f l at =
     ∙ ap (fresh_attributes s) (map-append (declared_in k) (map feature_of (take i fs)) (feature_of f ∷ []))
     ∙ filter_map-append (λ (g : DeclaredFeature). fresh_attribute s g.feature.name.text g.feature.kind) (map (declared_in k) (map feature_of (take i fs))) (declared_in k (feature_of f) ∷ [])
     ∙ ap (λ t. fresh_attributes s (map (declared_in k) (map feature_of (take i fs))) ++ t)
-      (fresh_one s (declared_in k (feature_of f)) (fresh_attribute s (feature_of f).name.text (feature_of f).kind) refl)
+    (fresh_one s (declared_in k (feature_of f)) (fresh_attribute s (feature_of f).name.text (feature_of f).kind) refl)

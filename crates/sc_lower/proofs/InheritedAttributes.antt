@@ -54,6 +54,7 @@ module _ (s : System) (root : Root) (w : IsFaultless s root) where
   -- the attributes of a class are those that its ancestors declare, one after another, its own first
   pub collects : (k : ℕ) → k < length s.classes → Collects k
   collects k within = collects_within (length (ancestors s k)) k (omega arith) within
+
   -- if these are its ancestors
   pub collected : (k : ℕ) → k < length s.classes → (ks : List ℕ) → ks ≡ (if nat_lt k (length s.classes) then ancestors s k else []) →
       flat_map (own_attributes s) ks ≡ fresh_attributes s (features s k)
