@@ -5,8 +5,8 @@ use Rattle.sc_model.specs.declared.status.Status.{Status}
 use Rattle.sc_code.specs.declared.program.Image.{Image}
 use Rattle.sc_region.specs.declared.job.Job.{Job}
 use Rattle.sc_request.specs.Logs.{pick_for}
-use Rattle.sc_world.specs.declared.world.Turned.{Turned}
-use Rattle.sc_world.specs.declared.world.Turned.TheVariants.{Moved, Nothing}
+use Rattle.sc_world.specs.declared.configuration.Turned.{Turned}
+use Rattle.sc_world.specs.declared.configuration.Turned.TheVariants.{Moved, Nothing}
 use Rattle.sc_world.specs.Reports.{statuses}
 use Rattle.sc_world.specs.Reports as told
 use Rattle.sc_world.specs.Turning.{IsTurn, Runs, TurnsUnder, turned_by}
