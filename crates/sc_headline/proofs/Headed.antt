@@ -12,7 +12,7 @@ use Rattle.sc_world.specs.Worlds.{PlainWorld, opened}
 use Rattle.sc_world.proofs.Runs.{made-run}
 use Rattle.sc_refines_world.specs.Refining.{IdleWorldIsIdle, MachineHasHeadline, StandingWorldIsNear, WorldHasHeadline, WorldReportsAsMachine, WorldRunsAsMachine}
 use Rattle.sc_refines_world.specs.Standing.{StandsFor}
-use Rattle.sc_refines_world.proofs.RoundTurns.{WorldsStand}
+use Rattle.sc_refines_world.proofs.HadTurns.{WorldsStand}
 use Rattle.sc_driver.specs.Execution.{IsThreadRun, Leaves, line_turns}
 use Rattle.sc_headline.specs.Headline.{Headline, IsReportOf, MachineHeadline, ReplaysAreTheMachines, RunsAreTheMachines, machine_after}
 use Rattle.sc_headline.proofs.TurnsMade.{made_are_had}

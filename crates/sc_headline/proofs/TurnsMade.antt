@@ -19,7 +19,7 @@ use Rattle.sc_plant.specs.Left.{RunsAreOneThreads}
 use Rattle.sc_plant.specs.OneThread.{EndsIn}
 use Rattle.sc_recording.specs.Recorded.{turns_of}
 use Rattle.sc_refines_world.specs.Refining.{WorldRunsAsMachine}
-use Rattle.sc_refines_world.proofs.RoundTurns.{WorldsStand, turns_where}
+use Rattle.sc_refines_world.proofs.HadTurns.{WorldsStand, turns_where}
 use Rattle.sc_headline.specs.Headline.{HaveTurns}
 use Rattle.sc_headline.specs.ThreadsHeadline.{ThreadsMakeTurns}
 

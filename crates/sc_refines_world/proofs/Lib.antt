@@ -1,10 +1,9 @@
 mod Asked
 mod RefinedRuns
 mod Attempts
-pub mod Rounds
 mod ComingAgain
 mod Contracts
-pub mod RoundTurns
+pub mod HadTurns
 mod Posted
 mod Headlined
 mod IdleWorlds

@@ -7,7 +7,6 @@ use Rattle.sc_rules.specs.SystemRules.{WellFormed}
 use Rattle.sc_rules.proofs.PurityStands.{purity_stands}
 use Rattle.sc_lockpass.specs.Versions.{most_handlers}
 use Rattle.sc_model.specs.Handlers as machine
-use Rattle.sc_model.specs.Reports.{some_has_turn}
 use Rattle.sc_model.specs.Runs.{IsReached, opening, run}
 use Rattle.sc_code.specs.declared.program.Image.{Image}
 use Rattle.sc_code.specs.Programs.{IsProgramOf}
@@ -17,7 +16,6 @@ use Rattle.sc_region.specs.declared.job.Job.TheVariants as job
 use Rattle.sc_region.specs.declared.job.Want.{Want}
 use Rattle.sc_region.specs.Stores.{PlainStore}
 use Rattle.sc_request.specs.Laws.{PicksWhereTurns}
-use Rattle.sc_request.specs.Logs.{next}
 use Rattle.sc_refines_world.specs.regions.RegionHalves.{IsRegionOf}
 use Rattle.sc_refines_world.specs.regions.RegionSteps.{IsProgramFor, RegionsAsk, first_want, numbering_by, task_of}
 use Rattle.sc_refines_world.specs.regions.RegionTurns.{Half, taken_turn}
@@ -30,14 +28,11 @@ use Rattle.sc_machine_laws.specs.SettledObjects.{SettledMeetWhereReached}
 use Rattle.sc_machine_laws.specs.settlements.Reached.{EntriesAreRemembered, HalvesWhereReached}
 use Rattle.sc_refines_world.specs.regions.Joined as joined
 use Rattle.sc_world.specs.Worlds.{opened}
-use Rattle.sc_refines_world.specs.Refining.{IsRunWithin, MachineHasHeadline, RoundsRunAsMachine, StoppedRoundsStayNear, StoppedWorldStaysNear, WorldHasHeadline, WorldRunsAsMachine}
+use Rattle.sc_refines_world.specs.Refining.{MachineHasHeadline, StoppedWorldStaysNear, WorldHasHeadline, WorldRunsAsMachine}
 use Rattle.sc_refines_world.specs.Standing.{names_in}
 use Rattle.sc_refines_world.proofs.RefinedRuns.{stands_along}
-use Rattle.sc_refines_world.proofs.Rounds.{refused_next_stops, rounds_are_turns, stops_join}
-use Rattle.sc_refines_world.proofs.RoundTurns.{WorldsStand, rounds_go}
-use Rattle.sc_refines_world.proofs.IdleWorlds.{idle_world_is_idle}
 use Rattle.sc_refines_world.proofs.TurnNeeds.{job_fits}
-use Rattle.sc_refines_world.proofs.PuttingBack.{refused_turn_stays_near, same_or_further_near}
+use Rattle.sc_refines_world.proofs.PuttingBack.{refused_turn_stays_near}
 use Rattle.sc_refines_world.proofs.ReachedStates.{in_each, reached_fits}
 use Rattle.sc_refines_world.proofs.WorldTurns.{HalvesMeet, OthersKeep, RegionsAskSo, RegionsFollow, SettledMeet, StoresTurn, TurnsEndThere}
 
@@ -54,12 +49,6 @@ untold job.Failed x = refl
 untold job.Refused x = refl
 untold (job.Granted ks) x = refl
 untold job.Go x = refl
-
--- rounds that ended have made all turns, or no handler has one
-ended : (n left limit : ℕ) (o : Option (ℕ × Job)) (w : machine.World) → n + left ≡ limit → (left ≡ 0) ⊎ (o ≡ None) → (o ≡ None → some_has_turn w.count w ≡ false) →
-    (n ≡ limit) ⊎ (some_has_turn w.count w ≡ false)
-ended n left limit o w all (inl none_left) idle = inl (omega (arith, all, none_left))
-ended n left limit o w all (inr none) idle = inr (idle none)
 
 module _ (picks : PicksWhereTurns) (halves : HalvesWhereReached) (remembered : EntriesAreRemembered) (settled : SettledMeetWhereReached) (follow : joined.RegionsFollow) (ask : RegionsAsk) (others : joined.OthersKeepHalves) (created : joined.CreatedAreNew) (ordered : OpensInOrder)
     (keep_order : TurnsKeepOrder) (new_sound : NewStoresAreSound) (taken : SoundJobsAreTaken) where
@@ -128,24 +117,3 @@ world_has_headline runs_as holds s root faultless well p v hs y program fits run
       runs_as s root faultless well p v hs y program fits runs,
       holds s root faultless well (most_handlers v) w reached,
     )
-
-pub rounds_run_as_machine : WorldRunsAsMachine → PicksWhereTurns → RoundsRunAsMachine
-rounds_run_as_machine runs_as picks s root faultless well p v limit y program fits ends =
-    let stand : WorldsStand s root p v = λ hs x runs. runs_as s root faultless well p v hs x program fits runs in
-    let turns = rounds_go picks s root p v stand limit ends.left y ends.rounds in
-    let w : machine.World = run (most_handlers v) s turns.0 (opening s root) in
-    let stands = stand turns.0 y turns.1.1 in
-    let within : IsRunWithin (most_handlers v) s root limit turns.0 = record {
-      few = omega (arith, turns.1.0);
-      go_round = turns.1.2;
-      ends = ended (length turns.0) ends.left limit (next y.center) w turns.1.0 ends.ends (λ none. idle_world_is_idle picks s p w y stands none);
-    } in
-    (turns.0, stands, within)
-
-pub stopped_rounds_stay_near : WorldRunsAsMachine → StoppedRoundsStayNear
-stopped_rounds_stay_near runs_as s root faultless well p v limit y program fits stops =
-    let before = rounds_are_turns limit (opened p v) stops.left stops.before stops.rounds in
-    let none_out = (runs_as s root faultless well p v before.0 stops.before program fits before.2).none_out in
-    let behind = stops_join before.0 (opened p v) stops.before y before.2 (refused_next_stops stops.left stops.before y none_out stops.refused) in
-    let stands = runs_as s root faultless well p v behind.0 behind.1 program fits behind.2 in
-    (behind.0, same_or_further_near s p (run (most_handlers v) s behind.0 (opening s root)) behind.1 y stands behind.3)

@@ -25,7 +25,7 @@ use Rattle.sc_region.specs.declared.job.Job.TheVariants as job
 use Rattle.sc_region.specs.declared.job.Want.TheVariants as want
 use Rattle.sc_handler.specs.Fits.{goes_on}
 use Rattle.sc_request.specs.Candidates.{comes_again}
-use Rattle.sc_request.specs.Logs.{Center, next, pick_for, picked, round, settles}
+use Rattle.sc_request.specs.Logs.{Center, next, pick_for, picked, settles}
 use Rattle.sc_machine_laws.specs.states.Formals.{FormalsAreHeld, NamesAreHeld}
 use Rattle.sc_machine_laws.specs.states.Headline.{CallbacksComeFirst, ChainsHold, OnlyWaitersAreTold, RepliesMeetNone, ReservedAreHeld, TargetsAreKept, WaitersAreTold}
 use Rattle.sc_machine_laws.specs.RequestLaws.{AnswerComes, IsUnused}
@@ -33,7 +33,6 @@ use Rattle.sc_machine_laws.specs.states.Places.{StandsAs}
 use Rattle.sc_machine_laws.specs.states.Values.{WhereAccepted}
 use Rattle.sc_machine_laws.specs.Starting.{StartsWhereTheyHold}
 use Rattle.sc_world.specs.Reports.{report, statuses}
-use Rattle.sc_world.specs.Rounds.{EndsRounds, Rounds, StopsRounds}
 use Rattle.sc_play.specs.Regions.{PlainRegion}
 use Rattle.sc_world.specs.Turning.{Attempt, Attempts, IsRefusedTurn, IsTurn, Runs, StopsBehind, made_by}
 use Rattle.sc_world.specs.Worlds.{PlainWorld, opened}
@@ -174,13 +173,7 @@ RestRunsAsMachine = WhereAccepted λ s root.
     FitsRequests p → Attempts ts (opened p v) x → StopsBehind n hs x y → Runs (drop n hs) y z →
     StandsNear s p (run (most_handlers v) s (made_by ts ++ hs) (opening s root)) z
 
--- ---- turns in rounds
-
--- Rounds are turns of handlers, one after the other, even if a handler makes several turns at once.
-abbrev pub RoundsAreTurns : Type 0
-RoundsAreTurns =
-    (limit : ℕ) (x : PlainWorld) (left : ℕ) (y : PlainWorld) → Rounds limit x left y →
-    (hs : List ℕ) × (length hs + left ≡ limit) × Runs hs x y
+-- ---- who is next
 
 -- A handler that may make several turns at once is the next one again after any number of turns that ask nothing, as
 -- it would be if each turn were settled on its own.
@@ -195,39 +188,3 @@ abbrev pub IdleWorldIsIdle : Type 0
 IdleWorldIsIdle =
     (s : System) (p : Image) (w : World) (x : PlainWorld) → StandsFor s p w x → next x.center ≡ None →
     machine.some_has_turn w.count w ≡ false
-
--- the first of these handlers that has a turn in the state
-abbrev pub first_with_turn : List ℕ → World → Option ℕ
-first_with_turn [] w = None
-first_with_turn (h ∷ hs) w = if has_turn h w then Some h else first_with_turn hs w
-
--- Each of these handlers makes its turn in order, from `w` on. It is the first handler that has a turn then, counted
--- round the numbers from the handler of the turn before.
-abbrev pub GoRound : ℕ → System → ℕ → List ℕ → World → Type 0
-GoRound most s before [] w = Unit {0}
-GoRound most s before (h ∷ hs) w =
-    (first_with_turn (round w.count before) w ≡ Some h) × GoRound most s h hs (turn most s h w)
-
--- From the opening on each of these handlers has a turn in the machine, in the order of rounds. There are at most
--- `limit` turns, and fewer only if no handler has a turn any more.
-pub record IsRunWithin (most : ℕ) (s : System) (root : Root) (limit : ℕ) (hs : List ℕ) : Type 0 where
-  pub few : length hs ≤ limit
-  pub go_round : GoRound most s (most - 1) hs (opening s root)
-  pub ends : let w : World = run most s hs (opening s root) in
-      (length hs ≡ limit) ⊎ (machine.some_has_turn w.count w ≡ false)
-
--- When rounds end, a program's world represents a state to which the machine's rounds within the limit lead.
-abbrev pub RoundsRunAsMachine : Type 0
-RoundsRunAsMachine = WhereAccepted λ s root.
-    (p : Image) (v : Version) (limit : ℕ) (y : PlainWorld) → IsProgramOf s root p → FitsRequests p →
-    EndsRounds limit (opened p v) y →
-    (hs : List ℕ) × StandsFor s p (run (most_handlers v) s hs (opening s root)) y
-    × IsRunWithin (most_handlers v) s root limit hs
-
--- If memory is refused to a turn of the rounds, the world is near the state to which the turns before
--- it lead the machine.
-abbrev pub StoppedRoundsStayNear : Type 0
-StoppedRoundsStayNear = WhereAccepted λ s root.
-    (p : Image) (v : Version) (limit : ℕ) (y : PlainWorld) → IsProgramOf s root p → FitsRequests p →
-    StopsRounds limit (opened p v) y →
-    (hs : List ℕ) × StandsNear s p (run (most_handlers v) s hs (opening s root)) y

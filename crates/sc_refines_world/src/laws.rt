@@ -1,8 +1,8 @@
 //! Laws of the world that runs beside the machine, each the contract of a function that does nothing.
 ghost use Rattle.sc_refines_world.specs.Anew.{AnewRunsAsMachine};
-ghost use Rattle.sc_refines_world.specs.Refining.{HandlersComeAgain, IdleWorldIsIdle, MachineHasHeadline, RefusedTurnStaysNear, RoundsAreTurns, RoundsRunAsMachine, StandingWorldIsNear};
+ghost use Rattle.sc_refines_world.specs.Refining.{HandlersComeAgain, IdleWorldIsIdle, MachineHasHeadline, RefusedTurnStaysNear, StandingWorldIsNear};
 ghost use Rattle.sc_refines_world.specs.Refining.{AttemptsHaveHeadline, AttemptsRunAsMachine, RestRunsAsMachine, TurnsStandExactly};
-ghost use Rattle.sc_refines_world.specs.Refining.{StoppedRoundsStayNear, StoppedWorldStaysNear, WorldHasHeadline, WorldReportsAsMachine, WorldRunsAsMachine};
+ghost use Rattle.sc_refines_world.specs.Refining.{StoppedWorldStaysNear, WorldHasHeadline, WorldReportsAsMachine, WorldRunsAsMachine};
 
 use crate::regions::laws::{
     created_are_new, openings_are_in_order, others_keep_halves, regions_ask, regions_follow,
@@ -127,30 +127,8 @@ pub fn rest_runs_as_machine()
     world_runs_as_machine();
 }
 
-/// Turns round and round, several of which may be made at once, are turns of handlers, one after the other.
-pub fn rounds_are_turns()
-    ensures { RoundsAreTurns }
-{}
-
-/// And the turns that are made at once are those that would be made round and round: after each the handler is the next one
-/// again.
+/// The turns that a handler may make at once are those that it would make one by one, round the numbers: after each it
+/// is the next one again.
 pub fn handlers_come_again()
     ensures { HandlersComeAgain }
 {}
-
-/// So rounds that end lead a program's world to one that represents a state to which as many turns lead the machine,
-/// or fewer if no handler has a turn any more. Each of them is that of the next handler that has one, round the
-/// numbers.
-pub fn rounds_run_as_machine()
-    ensures { RoundsRunAsMachine }
-{
-    world_runs_as_machine();
-    core_picks_where_the_machine_turns();
-}
-
-/// Where memory was refused to one of their turns, the world is near the state to which those before it lead the machine.
-pub fn stopped_rounds_stay_near()
-    ensures { StoppedRoundsStayNear }
-{
-    world_runs_as_machine();
-}

@@ -15,7 +15,7 @@ use Rattle.sc_request.specs.Logs.{pick_for, picked, put_back, put_back_with, set
 use Rattle.sc_play.specs.Regions.{EndsIn, PlainRegion}
 use Rattle.sc_play.specs.Turns.{FirstTurn, IsAhead, TurnOf, Turns, first, more}
 use Rattle.sc_play.proofs.Programs.{turns_keep}
-use Rattle.sc_world.specs.Rounds.{AreCutShort, MakesAll, MakesSome}
+use Rattle.sc_world.specs.UnderJob.{AreCutShort, MakesAll, MakesSome}
 use Rattle.sc_world.specs.Turning.{HeldUpUnder, IsHeldUp, IsRefusedTurn, IsTurn, MakeTurns, Makes, Runs as RunsBy, StopsBehind, StopsShort, TurnsUnderJob}
 use Rattle.sc_world.specs.Worlds.{PlainWorld}
 use Rattle.sc_world.proofs.Runs.{made-more, made-run, runs-idle, runs-join, stops-again}

@@ -16,8 +16,8 @@ use Rattle.sc_play.specs.Regions.{PlainRegion, new_region}
 use Rattle.sc_world.specs.Requests.Links.{AreLinked}
 use Rattle.sc_world.proofs.Links as linking
 use Rattle.sc_world.proofs.Links.{free_regions_rest, refused_turns_stay_linked, turns_stay_linked}
-use Rattle.sc_world.specs.Free.{FreeObjectsMeet, IsLinked, OpeningsAreLinked, RoundsStayLinked, RunsStayLinked, StoppedRoundsStayLinked, StoppedRunsStayLinked}
-use Rattle.sc_world.specs.Rounds.{IsRefusedNext, Played, Rounds, StopsNext, more, none, turns_of_picked}
+use Rattle.sc_world.specs.Free.{FreeObjectsMeet, IsLinked, OpeningsAreLinked, RunsStayLinked, StoppedRunsStayLinked}
+use Rattle.sc_world.specs.UnderJob.{Played}
 use Rattle.sc_world.specs.Turning.{HeldUpUnder, IsHeldUp, IsRefusedTurn, IsTurn, Makes, PutsBack, Settles, TurnsUnder}
 use Rattle.sc_world.specs.Worlds.{PlainWorld, max_handlers, new_regions, opened}
 
@@ -84,7 +84,7 @@ pub stopped_runs_stay_linked : StoppedRunsStayLinked
 stopped_runs_stay_linked n hs x y linked stops =
     refused_turn_linked stops.next stops.before y (runs_stay_linked (take n hs) x stops.before linked stops.runs) stops.refused
 
--- ---- turns round and round
+-- ---- who is next
 
 same_pair : (p q : ℕ × Job) → Some p ≡ Some q → p ≡ q
 same_pair p q e = cc
@@ -100,28 +100,6 @@ found_picks (h ∷ hs) c p e = first_picks h (pick_for h c) c (first_with_job hs
 
 pub next_picks : (h : ℕ) (j : Job) (c : Center) → next c ≡ Some (h, j) → pick_for h c ≡ Some j
 next_picks h j c e = found_picks (round c.state.count c.last) c (h, j) e
-
-rounds_linked : (limit : ℕ) (x : PlainWorld) (left : ℕ) (y : PlainWorld) → IsLinked x → Rounds limit x left y → IsLinked y
-rounds_linked limit x left y linked none = linked
-rounds_linked limit x left z linked (more {left = l} {turns = n} {y = y} h j rounds some is all) =
-    makes_linked (turns_of_picked l h j y) h j n y z (rounds_linked limit x l y linked rounds) (next_picks h j y.center is) all.makes
-
-pub rounds_stay_linked : RoundsStayLinked
-rounds_stay_linked limit x y linked ends = rounds_linked limit x ends.left y linked ends.rounds
-
-stops_next_linked : (o : Option (ℕ × Job)) (left : ℕ) (x y : PlainWorld) → next x.center ≡ o → IsLinked x → StopsNext o left x y → IsLinked y
-stops_next_linked None left x y is linked same = same_linked x y same linked
-stops_next_linked (Some p) left x y is linked (inl held) = held_up_linked p.0 p.1 x y linked held
-stops_next_linked (Some p) left x y is linked (inr (turns, some)) =
-    makes_linked (turns_of_picked left p.0 p.1 x) p.0 p.1 turns x y linked (next_picks p.0 p.1 x.center is) some.makes
-
-pub refused_next_linked : (left : ℕ) (x y : PlainWorld) → IsLinked x → IsRefusedNext left x y → IsLinked y
-refused_next_linked left x y linked (inl same) = same_linked x y same linked
-refused_next_linked left x y linked (inr stops) = stops_next_linked (next x.center) left x y refl linked stops
-
-pub stopped_rounds_stay_linked : StoppedRoundsStayLinked
-stopped_rounds_stay_linked limit x y linked stops =
-    refused_next_linked stops.left stops.before y (rounds_linked limit x stops.left stops.before linked stops.rounds) stops.refused
 
 -- ---- handlers that are free
 

@@ -4,7 +4,7 @@ pub mod AtOnce
 pub mod FreeHandlers
 pub mod Opening
 pub mod Outs
-pub mod RoundTurns
+pub mod UnderJob
 pub mod Runs
 pub mod ReportParts
 pub mod KeptWorlds

@@ -8,7 +8,6 @@ use Rattle.sc_region.specs.Objects.{PlainObject, object_numbered}
 use Rattle.sc_request.specs.Logs.{status_for}
 use Rattle.sc_play.specs.Regions.{PlainRegion}
 use Rattle.sc_world.specs.Requests.Links.{AreLinked}
-use Rattle.sc_world.specs.Rounds.{EndsRounds, StopsRounds}
 use Rattle.sc_world.specs.Turning.{Runs, StopsBehind}
 use Rattle.sc_world.specs.Worlds.{PlainWorld, opened}
 
@@ -32,14 +31,6 @@ OpeningsAreLinked = (p : Image) (v : Version) → IsLinked (opened p v)
 abbrev pub RunsStayLinked : Type 0
 RunsStayLinked = (hs : List ℕ) (x y : PlainWorld) → IsLinked x → Runs hs x y → IsLinked y
 
--- and where memory was refused to one of them;
+-- and where memory was refused to one of them.
 abbrev pub StoppedRunsStayLinked : Type 0
 StoppedRunsStayLinked = (n : ℕ) (hs : List ℕ) (x y : PlainWorld) → IsLinked x → StopsBehind n hs x y → IsLinked y
-
--- after turns round and round,
-abbrev pub RoundsStayLinked : Type 0
-RoundsStayLinked = (limit : ℕ) (x y : PlainWorld) → IsLinked x → EndsRounds limit x y → IsLinked y
-
--- and where memory was refused to one of those.
-abbrev pub StoppedRoundsStayLinked : Type 0
-StoppedRoundsStayLinked = (limit : ℕ) (x y : PlainWorld) → IsLinked x → StopsRounds limit x y → IsLinked y

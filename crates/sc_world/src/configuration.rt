@@ -9,7 +9,7 @@ ghost use Rattle.sc_request.specs.Cores.{center_of, log_of};
 ghost use Rattle.sc_request.specs.Rooms.{HasRoomFor};
 ghost use Rattle.sc_request.specs.Logs as core;
 ghost use Rattle.sc_world.specs.Reports as told;
-ghost use Rattle.sc_world.specs.Rounds.{AreCutShort, PlaysOut};
+ghost use Rattle.sc_world.specs.UnderJob.{AreCutShort, PlaysOut};
 ghost use Rattle.sc_world.specs.Turning.{IsRefusedTurn, IsTurn, PutsOutBack, StopsShort, TurnsUnderJob, turned_by};
 ghost use Rattle.sc_world.specs.Worlds.{max_handlers, new_regions, opened};
 

@@ -1,5 +1,5 @@
 //! What holds in each world that turns lead to, each the contract of a function that does nothing.
-ghost use Rattle.sc_world.specs.Free.{FreeObjectsMeet, OpeningsAreLinked, RoundsStayLinked, RunsStayLinked, StoppedRoundsStayLinked, StoppedRunsStayLinked};
+ghost use Rattle.sc_world.specs.Free.{FreeObjectsMeet, OpeningsAreLinked, RunsStayLinked, StoppedRunsStayLinked};
 ghost use Rattle.sc_world.specs.Kept.{AttemptsStayOf, KeptAlikeReadAlike, KeptAlikeTurnAlike, OpeningsAreOf, RunsStayOf};
 ghost use Rattle.sc_world.specs.Views.{world_of};
 
@@ -23,16 +23,6 @@ pub fn runs_stay_linked()
 /// So it is where memory was refused to one of them.
 pub fn stopped_runs_stay_linked()
     ensures { StoppedRunsStayLinked }
-{}
-
-/// So it is after turns round and round.
-pub fn rounds_stay_linked()
-    ensures { RoundsStayLinked }
-{}
-
-/// So it is where memory was refused to one of those.
-pub fn stopped_rounds_stay_linked()
-    ensures { StoppedRoundsStayLinked }
 {}
 
 /// In every world, each object of a handler that is free, and so hasn't failed, meets its class invariant.

@@ -8,7 +8,7 @@ use Rattle.sc_request.specs.Logs.{pick_for, picked}
 use Rattle.sc_world.proofs.AtOnce.{all_told, none_told, refused_told, some_told}
 use Rattle.sc_world.proofs.FreeHandlers.{linked_still, played_linked}
 use Rattle.sc_world.proofs.Outs.{err-at, held-up, none-job, none-picked, ok-at, on-err, picked-out, refused-some, some-of, some-picked, world-is}
-use Rattle.sc_world.proofs.RoundTurns.{makes-all, makes-some}
+use Rattle.sc_world.proofs.UnderJob.{makes-all, makes-some}
 use Rattle.sc_world.proofs.configuration.Configuration.turns_under_job.Goals as goal
 
 pub play-requires-clause-out : goal.play-requires-clause-out

@@ -7,7 +7,7 @@ use Rattle.sc_region.specs.declared.job.Want.{Want}
 use Rattle.sc_region.specs.declared.job.Want.TheVariants as want
 use Rattle.sc_request.specs.Logs.{Center, picked}
 use Rattle.sc_play.specs.Regions.{PlainRegion}
-use Rattle.sc_world.specs.Rounds.{AreCutShort, MakesAll, MakesSome, Played}
+use Rattle.sc_world.specs.UnderJob.{AreCutShort, MakesAll, MakesSome, Played}
 
 not-told : {A : Type 0} (told : Bool) → told ≡ false → IsTrue told → A
 not-told true e is = cc
