@@ -2,7 +2,7 @@
 
 use crate::programs::program_of;
 use crate::rows::{expect_text, text_of};
-use sc_audit::Record;
+use sc_audit::{Record, RecordLine};
 use sc_code::Program;
 use sc_driver::{AuditFault, RunReport, audit, replay};
 use sc_lockpass::HandlerNumber;
@@ -195,8 +195,8 @@ pub fn expect_report<R: Abort + AllocGlobal + Threads + Wait + Clock + Sync>(
     Ok(())
 }
 
-/// The report of what a run leaves, whose audit says yes. A replay of its record reports the same, also if memory was
-/// refused on the way, which leaves a turn's beginning undone.
+/// The report of what a run leaves, whose audit says yes. If memory was refused on the way, the audit says so too once the
+/// refused turn is made, and then there is no report.
 fn reported<R: Abort + Threads + Wait + Clock + Sync>(
     rt: &R,
     alloc: Global,
@@ -206,10 +206,11 @@ fn reported<R: Abort + Threads + Wait + Clock + Sync>(
 ) -> Result<String, Fail> {
     match run(rt, alloc, program, workers, LIMIT, gate) {
         Ok(left) => audited(rt, alloc, program, left),
-        Err(RunFault::OutOfMemory(Some(left))) => match replayed(rt, alloc, program, left) {
-            Ok(_) => Err(Fail::from(AllocError)),
-            told => told,
-        },
+        Err(RunFault::OutOfMemory(Some(mut left))) => {
+            finish_refused_turn(rt, alloc, program, &mut left)?;
+            audited(rt, alloc, program, left)?;
+            Err(Fail::from(AllocError))
+        }
         Err(RunFault::OutOfMemory(None)) => {
             assert_eq!(rt; gate.seen.begun.load(Ordering::SeqCst), 0);
             Err(Fail::from(AllocError))
@@ -217,6 +218,39 @@ fn reported<R: Abort + Threads + Wait + Clock + Sync>(
         Err(RunFault::LogsDiffer(handler, _)) => panic!(rt; "the logs of handler {handler} differ"),
         Err(_) => Err(Fail::from(AllocError)),
     }
+}
+
+/// Makes the turn that was refused memory, if its beginning is all that tells what is left from where its record leads: an
+/// audit reports its handler.
+fn finish_refused_turn<R: Abort>(
+    rt: &R,
+    alloc: Global,
+    program: &Program,
+    left: &mut Left<'_>,
+) -> Result<(), Fail> {
+    match audit(alloc, program, left) {
+        Err(AuditFault::Differs { handler }) => play_turn(rt, left, handler),
+        _ => Ok(()),
+    }
+}
+
+/// Plays one more turn of a handler, and writes it into the record.
+fn play_turn<R: Abort>(rt: &R, left: &mut Left<'_>, handler: HandlerNumber) -> Result<(), Fail> {
+    let Some(job) = left.core.pick_for(handler) else {
+        panic!(rt; "handler {handler} was refused no turn: it has none");
+    };
+    let Some(region) = left.regions.get_mut(handler as usize) else {
+        panic!(rt; "there is no handler {handler}");
+    };
+    left.core.make_room()?;
+    left.core.pick_at(handler);
+    let outcome = region.play(&job, 1)?;
+    left.core.settle(handler, outcome.turns, &outcome.want)?;
+    left.lines.push(RecordLine {
+        handler,
+        turns: outcome.turns,
+    })?;
+    Ok(())
 }
 
 /// The report of what is left, whose audit says yes.
