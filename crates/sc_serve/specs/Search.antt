@@ -17,7 +17,9 @@ use Rattle.sc_search.specs.declared.verdict.Length.{Length}
 use Rattle.sc_search.specs.declared.verdict.Length.TheVariants as span
 use Rattle.sc_search.specs.declared.verdict.Order.{Order}
 use Rattle.sc_search.specs.declared.verdict.Verdict.{Verdict}
-use Rattle.sc_search.specs.Found.{IsFound}
+use Rattle.sc_search.specs.Ends.{AreEnds}
+use Rattle.sc_search.specs.Found.{IsFirst, IsFound}
+use Rattle.sc_search.specs.Limits.{SaysWhy}
 use Rattle.sc_search.specs.Verdicts.{IsShown}
 use Rattle.sc_arguments.specs.declared.arguments.searching.SearchOptions.{SearchOptions}
 use Rattle.sc_arguments.specs.declared.arguments.searching.Sought.{Sought}
@@ -33,12 +35,17 @@ aim_of sought.Stuck = aim.Stuck
 aim_of sought.Fails = aim.Fails
 aim_of sought.Any = aim.Any
 
+-- the program's exit if nothing was found: only if every order was played there is nothing
+abbrev pub exit_for_nothing : Bool → Exit
+exit_for_nothing true = Done
+exit_for_nothing false = Undecided
+
 -- the program's exit for this finding
-abbrev pub exit_for : Finding → Exit
-exit_for finding.Nothing = Done
-exit_for (finding.Stuck order) = Unfinished
-exit_for (finding.Fails order) = Failed
-exit_for finding.Undecided = Undecided
+abbrev pub exit_for : Bool → Finding → Exit
+exit_for is_whole finding.Nothing = exit_for_nothing is_whole
+exit_for is_whole (finding.Stuck order) = Unfinished
+exit_for is_whole (finding.Fails order) = Failed
+exit_for is_whole finding.Undecided = Undecided
 
 -- ---- the lines of a verdict
 
@@ -104,16 +111,21 @@ found_for name (finding.Fails order) = asked_of name order.lines.items
 found_for name finding.Nothing = None
 found_for name finding.Undecided = None
 
--- The answer to a search of the program: a verdict on its orders of turns, and the exit for its finding. An order
--- that was found leads to what the verdict says. If every order was played, nothing was found and there is nothing
--- to find. The order that was found is to be written as a record if a file is named for it.
+-- The answer to a search of the program: a verdict on its orders of turns, and the exit for it. An order that was
+-- found leads to what the verdict says, and no beginning of it does. If every order was played, nothing was found and
+-- there is nothing to find. If nothing was found and some orders weren't played, the search has used up its states or
+-- turns. Each outcome is that of an order that ends. The order that was found is to be written as a record if a file
+-- is named for it.
 pub record IsSearchOf (program : Image) (options : SearchOptions) (output : List ℕ) (exit : Exit)
     (recording : Option Recording) : Type 0 where
   pub verdict : Verdict
   pub found : IsFound program Two verdict.finding
+  pub first : IsFirst program Two (aim_of options.sought) verdict.finding
+  pub ends : AreEnds program Two verdict.ends.items
   pub whole : IsShown program Two (aim_of options.sought) verdict
+  pub why : SaysWhy program Two (aim_of options.sought) options.states verdict.is_whole verdict.finding
   pub told : IsTold options.sought options.lists_outcomes verdict output
-  pub status : exit ≡ exit_for verdict.finding
+  pub status : exit ≡ exit_for verdict.is_whole verdict.finding
   pub kept : kept_of recording ≡ found_for (option_map (λ n. n.now) options.record) verdict.finding
 
 -- The answer to a search of the program of this text.

@@ -81,7 +81,7 @@ fn search_loaded<'a, W: Watch>(
     let verdict = search(alloc, program, Version::Two, aim, options.states, watch)?;
     let text = verdict_text(alloc, options, &verdict)?;
     let object = object_of(alloc, options, &verdict)?;
-    let exit = exit_of_finding(&verdict.finding);
+    let exit = exit_of(&verdict);
     let note = note_of(alloc, program, options, source, &verdict.finding)?;
     Ok(Answer {
         text,
@@ -102,15 +102,26 @@ fn aim_of(sought: Sought) -> Aim
     }
 }
 
-/// What the program ends with where this was found.
-fn exit_of_finding(finding: &Finding) -> Exit
-    ensures { result ≡ spec.exit_for finding.now }
+/// What the program ends with for this verdict. That nothing was found decides only if every order was played.
+fn exit_of(verdict: &Verdict) -> Exit
+    ensures { result ≡ spec.exit_for verdict.now.is_whole verdict.now.finding }
 {
-    match finding {
-        Finding::Nothing => Exit::Done,
+    match verdict.finding {
+        Finding::Nothing => exit_of_nothing(verdict.is_whole),
         Finding::Fails(_) => Exit::Failed,
         Finding::Stuck(_) => Exit::Unfinished,
         Finding::Undecided => Exit::Undecided,
+    }
+}
+
+/// What the program ends with if nothing was found.
+fn exit_of_nothing(is_whole: bool) -> Exit
+    ensures { result ≡ spec.exit_for_nothing is_whole }
+{
+    if is_whole {
+        Exit::Done
+    } else {
+        Exit::Undecided
     }
 }
 

@@ -80,13 +80,13 @@ Limits:
   those of `scoop run`
 
 Exit status:
-  0  no handler is stuck or fails, in any order that was played
+  0  it is proved that no handler is stuck or fails in any order
   1  the system is refused
   2  an argument, a file or the output is at fault
   3  an order makes a handler fail
   4  an order leaves a handler waiting for good
   5  memory ran out
-  6  undecided: the states were used up";
+  6  none found, or undecided: the states were used up";
 
 const STATES_HELP: &str = "The most states that are kept, 1 to 10000000";
 

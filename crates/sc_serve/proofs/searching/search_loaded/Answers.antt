@@ -6,8 +6,11 @@ returns-clause-answer g c =
     record {
       verdict = c.in_ok-verdict.verdict;
       found = c.in_ok-verdict.ensures.found;
+      first = rw c.aim_of-aim.ensures at c.in_ok-verdict.ensures.first;
+      ends = c.in_ok-verdict.ensures.ends;
       whole = rw c.aim_of-aim.ensures at c.in_ok-verdict.ensures.whole;
+      why = rw c.aim_of-aim.ensures at c.in_ok-verdict.ensures.why;
       told = c.in_ok-text.ensures;
-      status = c.exit_of_finding-exit.ensures;
+      status = c.exit_of-exit.ensures;
       kept = c.recording_of.ensures;
     }
