@@ -118,13 +118,21 @@ fn names_of(alloc: Global, changed: &[Changed<'_>]) -> Result<Vec<u8>, AllocErro
     Ok(text)
 }
 
-/// Writes each file in place.
-fn write_all<'a, F: Files>(files: &F, changed: &[Changed<'a>]) -> Result<(), Fault<'a>> {
+/// Ok if none of them is standard input, which can't be written.
+fn expect_files<'a>(changed: &[Changed<'a>]) -> Result<(), Fault<'a>> {
     for file in changed {
         if file.name == "-" {
             let error = io::Error::from(ErrorKind::Unsupported);
             return Err(Fault::CannotRecord(file.name, error, None));
         }
+    }
+    Ok(())
+}
+
+/// Writes each file in place. None is written if one of them is standard input.
+fn write_all<'a, F: Files>(files: &F, changed: &[Changed<'a>]) -> Result<(), Fault<'a>> {
+    expect_files(changed)?;
+    for file in changed {
         match write_file(files, file) {
             Ok(()) => {}
             Err((error, _)) if error.kind() == ErrorKind::OutOfMemory => {
