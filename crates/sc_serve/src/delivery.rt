@@ -44,7 +44,8 @@ pub fn status_of(exit: Exit) -> u8
     exit as u8
 }
 
-/// Prints an answer, and writes its record to the file. Memory is taken first, and the file is opened last.
+/// Prints an answer, and writes its record to the file, also if no one reads what is printed. Memory is taken first, and
+/// the file is opened last.
 #[tactic(auto, using(crate::proofs::ServedLemmas::all_begins, crate::proofs::ServedLemmas::none_begins))]
 #[inline(never)]
 fn print_and_record<'a, F: Files, O: Write, E: Write>(
@@ -66,6 +67,10 @@ fn print_and_record<'a, F: Files, O: Write, E: Write>(
         }
         Ok(writer) => match print(answer, out, err) {
             Ok(()) => write_recording(files, writer, recording),
+            Err(Fault::CannotWrite) => {
+                write_recording(files, writer, recording)?;
+                Err(Fault::CannotWrite)
+            }
             Err(fault) => {
                 files.discard(writer);
                 Err(fault)
