@@ -29,7 +29,7 @@ same-turns p v xs ys text statuses same is =
 pub empty-leaves : EmptyReplayLeavesOpening
 empty-leaves p v text statuses is = subst (λ (w : PlainWorld). Leaves w text statuses) is.runs is.leaves
 
--- the turns of a line that is split, behind and before others
+-- the turns of a line that is split, after and before others
 split-turns : (before after : List RecordLine) (h m n : ℕ) →
     flat_map line_turns (before ++ record { handler = h; turns = m + n } ∷ after)
     ≡ flat_map line_turns (before ++ record { handler = h; turns = m } ∷ record { handler = h; turns = n } ∷ after)

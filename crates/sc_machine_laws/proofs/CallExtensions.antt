@@ -1,4 +1,4 @@
--- Values, object tests, calls and creations are the same whatever stands behind them.
+-- Values, object tests, calls and creations are the same whatever stands after them.
 use Rattle.std.proofs.Common.{◌≡◌, ◌+◌, ℕ, ℤ, List, [], ◌∷◌, ◌++◌, Option, Some, None, Ok, Err, Bool, true, false, refl, sym, ap, append_assoc}
 use Rattle.std.specs.Prelude.{if◌then◌else◌, length, nat_lt, ◌==◌}
 use Rattle.sc_formula.specs.declared.arithmetic.ArithmeticFault.TheVariants as fault
@@ -35,7 +35,7 @@ use Rattle.sc_model.specs.Expressions.{gives_outcome, gives_truth, apply_unary, 
 use Rattle.sc_machine_laws.specs.Evaluating.{extended, extended_step}
 
 module _ (s : System) (me : Reference) (os : List Operand) (ts : List Task) where
-  -- the point, and the step, with more behind it
+  -- the point, and the step, with more after it
   abbrev X : Point → Point
   X p = extended os ts p
 

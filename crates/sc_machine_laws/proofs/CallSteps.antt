@@ -36,7 +36,7 @@ use Rattle.sc_model.specs.Expressions.{gives_outcome, gives_truth, apply_unary, 
 use Rattle.sc_machine_laws.proofs.Tasks.{OfTasks}
 use Rattle.sc_machine_laws.proofs.Texts.{OfExpr, OfExprs, OfClauses, OfHeads, OfVariable}
 
--- the objects are such and, behind them, a new one of the class, which has this number
+-- the objects are such and, after them, a new one of the class, which has this number
 pub record HasMade (O : List Object → Type 0) (s : System) (class number : ℕ) (objects : List Object) : Type 0 where
   pub before : List Object
   pub such : O before

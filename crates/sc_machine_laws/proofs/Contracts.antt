@@ -41,7 +41,7 @@ evals_of_contract : (i : ℕ) (es : Exprs) → HaveNoTest es → Each IsOfContra
 evals_of_contract i no_exprs o = tt
 evals_of_contract i (expr_then e es) o = (o.0, evals_of_contract (i + olds_in e) es o.1)
 
--- tasks of contracts, and these behind them
+-- tasks of contracts, and these after them
 abbrev Before : List Task → List Task → Type 0
 Before rest l = (ts : List Task) × (l ≡ ts ++ rest) × Each IsOfContract ts
 
@@ -283,7 +283,7 @@ module _ (s : System) (me : Reference) (rest : List Task) (bs : List Binding) (r
 
   -- ---- tasks
 
-  -- one task, where p.tasks is what is left behind it
+  -- one task, where p.tasks is what is left after it
   performs_c : (t : Task) (vs : List Operand) (p : Point) → IsOfContract t → Left p → Steps (performs s me t vs p)
   performs_c (In text) vs p o l = l
   performs_c (Eval i a) vs p o l = evaluate_c i a p o l

@@ -1,4 +1,4 @@
--- A step of a task without `old` is the same whatever stands behind it, and whatever the `old`s are.
+-- A step of a task without `old` is the same whatever stands after it, and whatever the `old`s are.
 use Rattle.std.proofs.Common.{◌≡◌, ◌+◌, ℕ, List, [], ◌∷◌, ◌++◌, Option, Some, None, Bool, true, false, refl, subst, sym}
 use Rattle.std.specs.Prelude.{map, length}
 use Rattle.sc_tree.specs.declared.expression.UnaryOperator.TheVariants as unary
@@ -30,7 +30,7 @@ use Rattle.sc_machine_laws.specs.Texts.{HasNoOld, TaskHasNoOld}
 use Rattle.sc_machine_laws.proofs.CallExtensions.{applies_x, attribute_x, binds_x, comes_x, concludes_x, creates_x, qualified_x, reads_as_x, right_x, unary_x, unqualified_x}
 
 module _ (s : System) (me : Reference) (os : List Operand) (ts : List Task) where
-  -- the point, and the step, with more behind it
+  -- the point, and the step, with more after it
   abbrev X : Point → Point
   X p = extended os ts p
 
@@ -144,7 +144,7 @@ module _ (s : System) (me : Reference) (os : List Operand) (ts : List Task) wher
 
   -- ---- tasks
 
-  -- one task, where p.tasks is what is left behind it
+  -- one task, where p.tasks is what is left after it
   performs_x : (t : Task) (vs : List Operand) (p : Point) → TaskHasNoOld t → performs s me t vs (X p) ≡ XS
       (performs s me t vs p)
   performs_x (Do no_instrs) vs p o = refl

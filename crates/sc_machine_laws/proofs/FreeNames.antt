@@ -62,7 +62,7 @@ module _ (s : System) (k : ℕ) where
   pub covers_more : (known others : List Name) → Covers s k known → Covers s k (known ++ others)
   covers_more known others c x f e = let z = c x f e in (z.0, Contains-append_left known others z.0 z.1, z.2)
 
-  -- a name that may stand behind these is that of no feature
+  -- a name that may stand after these is that of no feature
   pub unlike_free : (known : List Name) (n : Name) → Covers s k known → ((p : Span) → Clashes known n p → ⊥) → IsFree s k n.text
   unlike_free known n c f g e = let z = c n.text g e in f (last_place z.0.span n.span) (is_like (z.1.0, z.0, z.1.1, z.1.2, (z.2, refl)))
 

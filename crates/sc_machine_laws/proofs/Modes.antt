@@ -156,7 +156,7 @@ module _ (C : List ℕ → Type 0) where
 
 -- ---- all of a routine
 
--- what is left behind the precondition and the `old`s
+-- what is left after the precondition and the `old`s
 abbrev rest_of : Routine → List Task
 rest_of r = In r.text ∷ Declare r.locals ∷ Do r.body ∷ Forget (length r.text.formals) ∷ In r.contract ∷ ensures 0 r.ensure
 
@@ -169,7 +169,7 @@ module _ (C A : ℕ → List ℕ → Type 0) (E K End : Type 0) (F : List Task �
   ensures_left k i [] o = ends
   ensures_left k i (q ∷ ks) o = (o.0, (tt, ensures_left k (i + olds_in q.condition) ks o.1))
 
-  -- behind the precondition
+  -- after the precondition
   behind_left : (k : ℕ) (r : Routine) → OfClauses (C k) r.ensure → OfClauses (C r.contract.class) r.ensure → OfInstrs (C r.text.class) (A r.text.class) E r.body →
       OfTasks C A E K End F k (keeps_olds (olds_of_clauses r.ensure) ++ rest_of r)
   behind_left k r o e b = olds_left k (olds_of_clauses r.ensure) (rest_of r) (clauses_such (C k) r.ensure o)

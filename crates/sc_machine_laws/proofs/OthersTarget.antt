@@ -215,7 +215,7 @@ module _ (known : Known) (s : System) (root : Root) (pure : RoutineName → Bool
           by [] i = absurd (not_empty s pure asks o x us below (subst (OnStack s pure asks o x us below) i standing))
           by (t ∷ rest) i = on_top t rest i
 
-    -- ---- it stands behind others
+    -- ---- it stands after others
 
     module _ (none : (w.handlers h).answer ≡ None) (stands : RequestStands s pure w h asked o x us) (qs : List Request)
         (queue_is : (w.handlers o.handler).queue ≡ qs ++ asks ∷ []) (right : w.rights.queue o.handler ≡ Some h)

@@ -262,7 +262,7 @@ module _ (contract : StepOfContract) (s : System) (me : Reference) (bs : List Bi
   routine_firm true x (expr_then a (expr_then f es)) p h l = tt
   routine_firm false x es p h l = (h, actuals_left 0 es (CallUnqualified x (count es)) p.tasks (tt, l))
 
-  -- all names are known behind the actuals
+  -- all names are known after the actuals
   depth : (cs : List Binding) → Has cs → (m : ℕ) × (length cs ≡ length bs + m)
   depth cs (more, e) = (length more, ap length e ∙ length_past bs more)
 
@@ -323,7 +323,7 @@ module _ (contract : StepOfContract) (s : System) (me : Reference) (bs : List Bi
 
   -- ---- tasks
 
-  -- a contract's task, where p.tasks is what is left behind it
+  -- a contract's task, where p.tasks is what is left after it
   of_contract : (t : Task) (p : Point) → IsOfContract t → Has p.environment → Left p.tasks →
       Firm (performs s me t p.values p)
   of_contract t p o h l = by (performs s me t p.values p)

@@ -57,7 +57,7 @@ module _ (extends : StepExtends) (leaves : StepKeepsNoOld) (contract : StepOfCon
   abbrev So : Step → Type 0
   So st = ClauseSteps s pure M O me r bs st
 
-  -- inside the clause, behind which others are left
+  -- inside the clause, after which others are left
   abbrev At : Clause → List Clause → Point → Type 0
   At k ks q = IsAt s M O me (clause_of O me r bs k) (Required k ∷ behind_clause r ks) q
 
@@ -135,7 +135,7 @@ module _ (extends : StepExtends) (leaves : StepKeepsNoOld) (contract : StepOfCon
     here : InContract O me r bs p
     here = in_clause k (Required k ∷ behind_clause r ks) p (clause_without_test done ks k e) a z.text_is none
 
-    -- behind the clause, whatever is left
+    -- after the clause, whatever is left
     left : {ts : List Task} {vs : List Operand} → InContract O me r bs (record p { tasks = ts; values = vs })
     left = record {
       objects_are = here.objects_are;

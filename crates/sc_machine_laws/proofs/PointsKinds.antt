@@ -95,7 +95,7 @@ module _ (extends : StepExtends) (s : System) (me : Reference) (p : Point) (t : 
       (append-nil p.tasks)
       (any_tasks ⊥ (Unit {0}) (λ ts. ⊥) p.tasks [] o (λ k. tt) p.text.class))
 
-  -- a clause stands behind it
+  -- a clause stands after it
   abbrev Longer : Point
   Longer = extended p.olds (Require [] ∷ []) p
 

@@ -249,7 +249,7 @@ module _ (extends : StepExtends) (leaves : StepKeepsNoOld) (contract : StepOfCon
       (tt, (no_tests s root faultless well me.class r.name r named).behind)
       (ap (take (length r.text.formals)) (bound_during p a) ∙ takes_bound s r bs bound))
 
-  -- ---- behind it
+  -- ---- after it
 
   behind_so : (e : Point) → Runs e → e.tasks ≡ [] → (t : Task) (ts : List Task) (p : Point) → p.tasks ≡ t ∷ ts →
       p.result ≡ e.result → Each IsOfContract (t ∷ ts) → IsBound p →

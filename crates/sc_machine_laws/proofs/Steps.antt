@@ -208,7 +208,7 @@ module _ (s : System) (me : Reference) (C A : ℕ → List ℕ → Type 0) (E K 
   require_so [] p h o c l = (o, (h, l))
   require_so (k ∷ ks) p h o c l = (h, (c.0, (o, ((o, c.1), l))))
 
-  -- one task, where p.tasks is what is left behind it
+  -- one task, where p.tasks is what is left after it
   performs_so : (t : Task) (vs : List Operand) (p : Point) → p.values ≡ vs → O p.objects → OfTask (C p.text.class) (A p.text.class) E K t →
       Behind F t p.tasks (Such (class_behind p.text.class t) p.tasks) → SteppedSo s me C A E K End F O may_assign (performs s me t vs p)
   performs_so (Do no_instrs) vs p e h o l = (h, l)

@@ -31,12 +31,12 @@ OfTask C A E K Checked = Unit {0}
 OfTask C A E K KeepOld = Unit {0}
 OfTask C A E K Ensured = Unit {0}
 
--- the class whose text stands behind the task
+-- the class of whose text the task is
 abbrev pub class_behind : ℕ → Task → ℕ
 class_behind k (In text) = text.class
 class_behind k task = k
 
--- behind the clauses of a precondition tasks may be of another kind
+-- after the clauses of a precondition tasks may be of another kind
 abbrev pub Behind : (List Task → Type 0) → Task → List Task → Type 0 → Type 0
 Behind F (Require ks) ts X = X ⊎ F ts
 Behind F task ts X = X

@@ -157,7 +157,7 @@ module _ (s : System) (me : Reference) where
 
   -- ---- tasks
 
-  -- one task, where p.tasks is what is left behind it
+  -- one task, where p.tasks is what is left after it
   performs_l : (t : Task) (vs : List Operand) (p : Point) → TaskHasNoOld t → Left p → Leaves (performs s me t vs p)
   performs_l (Do no_instrs) vs p o l = l
   performs_l (Do (instr_then i is)) vs p o l = begins_l i (record p { tasks = Do is ∷ p.tasks }) o.0 (o.1, l)

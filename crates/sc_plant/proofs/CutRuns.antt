@@ -10,7 +10,7 @@ use Rattle.sc_plant.specs.Bounded.{ArePast, EndsBehind, IsBoundedRun}
 use Rattle.sc_plant.specs.Left.{IsRun}
 use Rattle.sc_recording.proofs.Endings.{on_true}
 
--- without a bound on what is printed a run ends behind all turns that it may make
+-- without a bound on what is printed a run ends after all turns that it may make
 pub whole_run : (p : Image) (bounds : Bounds) (turns : ℕ) (left : Left) → bounds.output ≡ None → IsBoundedRun p bounds turns left →
     IsRun p bounds.turns left
 whole_run p bounds turns left none run = elim run.ends [
@@ -18,14 +18,14 @@ whole_run p bounds turns left none run = elim run.ends [
   | inr cut ↦ absurd (subst (λ (most : Option ℕ). ArePast most left.regions.items) none cut.1)
 ]
 
--- the turns that were made are those behind which it ends, where the handlers are past the bound
+-- the turns that were made are those after which it ends, where the handlers are past the bound
 pub cut_ends : (bounds : Bounds) (made : ℕ) (rs ss : List PlainRegion) (b : Bool) (r : Option ℕ) → made ≤ bounds.turns → b ≡ true →
     OnTrue b (ArePast bounds.output rs) → ss ≡ rs → IfSome r (λ n. n ≡ made) → IfSome r (λ n. EndsBehind bounds n ss)
 cut_ends bounds made rs ss b None few is past same this = tt
 cut_ends bounds made rs ss b (Some n) few is past same this =
     inr (subst (λ (k : ℕ). k ≤ bounds.turns) (sym this) few, subst (ArePast bounds.output) (sym same) (on_true b _ is past))
 
--- all that it may make are those behind which it ends
+-- all that it may make are those after which it ends
 pub whole_ends : (bounds : Bounds) (rs : List PlainRegion) (r : Option ℕ) → IfSome r (λ n. n ≡ bounds.turns) → IfSome r (λ n. EndsBehind bounds n rs)
 whole_ends bounds rs None this = tt
 whole_ends bounds rs (Some n) this = inl this

@@ -90,7 +90,7 @@ module _ (p : Image) (es : List Settlement) (h turns limit : ℕ) (w : Want) (j 
         own_settlement one.made;
   }
 
-  -- also where memory was refused behind it
+  -- also where memory was refused after it
   own_replayed : ∥ Replays p h (settlements_for h (es ++ settlement h j turns w ∷ [])) y ∥₁
   own_replayed =
       subst (λ (fs : List Settlement). ∥ Replays p h fs y ∥₁) (sym own_settlement)

@@ -88,7 +88,7 @@ take_few [] (suc n) = omega arith
 take_few (x ∷ es) zero = omega arith
 take_few (x ∷ es) (suc n) = omega (arith, take_few es n)
 
--- the entry behind a beginning
+-- the entry after a beginning
 next_is : (es fs : List Settlement) (e : Settlement) → slice_get (es ++ fs) (length es) ≡ Some e → (gs : List Settlement) × ((es ++ e ∷ []) ++ gs ≡ es ++ fs)
 next_is [] [] e h = none_some e h
 next_is [] (f ∷ fs) e h = (fs, ap (λ (x : Settlement). x ∷ fs) (sym (some_is f e h)))
@@ -210,7 +210,7 @@ module _ (rs : List LoggedRegion) (es : List Settlement) (next : List ℕ) (leas
           set_beside next e.handler h m apart ∙ w.cursors h l ∙ ap (λ (zs : List Settlement). Some (length zs)) (sym (kept h es e apart))
     ]
 
-    -- it stands there, or its handler comes behind one that differs
+    -- it stands there, or its handler comes after one that differs
     pub walked_on : StandsAt rs e.handler n e ⊎ (least < e.handler) → Walked rs (es ++ e ∷ []) (slice_set next e.handler m) least
     walked_on why = record { few = w.few; size = size; cursors = cursors; begins = begins; differs = still }
       where

@@ -341,7 +341,7 @@ module _ (runs_as : WorldRunsAsMachine) (s : System) (root : Root) (faultless : 
       subst (λ (ls : List ℕ). IsBeside ls (opened p v) z) (one_more hs k ks)
       (runs_beside ks (hs ++ k ∷ []) runs.0 z (behind hs k y runs.0 b runs.1) runs.2)
 
-  -- memory is refused behind some turns of a list, and the rest of it follows
+  -- memory is refused after some turns of a list, and the rest of it follows
   resumed : (n : ℕ) (ks hs : List ℕ) (x y z : PlainWorld) → IsBeside ks (opened p v) x → StopsBehind n hs x y → RunsBy (drop n hs) y z → IsBeside (ks ++ hs) (opened p v) z
   resumed n ks hs x y z b stops rest =
       let far = runs_beside (take n hs) ks x stops.before b stops.runs in

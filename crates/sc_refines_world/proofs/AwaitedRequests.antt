@@ -36,7 +36,7 @@ popped_waits : (v : Wait) (gs : List Frame) → StackWaits v (popped gs) → Sta
 popped_waits v [] s = s
 popped_waits v (g ∷ gs) s = inr s
 
--- behind the parts of a frame stand those of the frames below
+-- after the parts of a frame stand those of the frames below
 record Under (B : List Frame → Type 0) (gs : List Frame) : Type 0 where
   rest : List Frame
   below : B rest

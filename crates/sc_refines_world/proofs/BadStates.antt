@@ -329,7 +329,7 @@ is_settled_unmet most q h =
 
 -- ---- bodies that start
 
--- A frame stands behind its precondition, and is about to start, but a clause of it is False.
+-- A frame stands after its precondition, and is about to start, but a clause of it is False.
 abbrev starting : Span → Frame
 starting q = record (frame (Called Unqualified) Runs) { routine = record routine { require = falsity q ∷ [] }; tasks = Require [] ∷ [] }
 

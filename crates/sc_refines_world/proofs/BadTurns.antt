@@ -1,5 +1,5 @@
 -- Turns of which the headline doesn't hold, each for one of its parts: whatever the system is, that part refuses the second state
--- behind the first one.
+-- after the first one.
 use Rattle.std.proofs.Common.{ℕ, ◌≡◌, ◌⊎◌, inl, inr, true, false, List, [], ◌∷◌, Option, Some, None, length, ap, sym, ◌∙◌, arith}
 use Rattle.std.specs.Prelude.{◌++◌, Contains}
 use Rattle.sc_text.specs.declared.token.Span.{Span}

@@ -21,7 +21,7 @@ use Rattle.sc_refines_world.specs.Texts.{IsBehindFormals}
 abbrev All : System → Routine → Entities → Type 0
 All s r n = Each (IsBehindFormals s r) n
 
--- the formals of the routine, and others behind them
+-- the formals of the routine, and others after them
 pub record Knows (s : System) (r : Routine) (bs : List Binding) : Type 0 where
   pub others : Entities
   pub names_are : scope_of bs ≡ formals_known s r.text.formals ++ others

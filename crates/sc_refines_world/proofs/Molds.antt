@@ -17,7 +17,7 @@ use Rattle.sc_interp.specs.Values.{values_of}
 use Rattle.sc_refines_world.specs.regions.RegionSteps.{number_among}
 
 -- What the half that a store stands for doesn't tell of a frame: its routine, the place, how many `old`s have room, and the slots
--- behind those of its names.
+-- after those of its names.
 pub record Mold : Type 0 where
   pub routine : ℕ
   pub place : ℕ
@@ -34,7 +34,7 @@ mold_of f = mold_at f.activation.routine f.activation.place f.activation.olds.ro
 abbrev pub molds_of : List PlainFrame → List Mold
 molds_of fs = map mold_of fs
 
--- the next place is the one behind, where a number can say that
+-- the next place is the one after, where a number can say that
 pub next_mold : (n place r : ℕ) (slots : List model.Value) (rest : List Mold) → mold_at n (next_place place) r slots ∷ rest ≡ mold_at n (place + 1) r slots ∷ rest
 next_mold n place r slots rest =
     ap (λ (i : ℕ). record { routine = n; place = i; room = r; slots = slots } ∷ rest) (min-eq_left (min-le_right (place + 1) 18446744073709551615))

@@ -355,7 +355,7 @@ module _ (s : System) (me : Reference) (routine : Routine) where
       (subst (λ (ds : List Declaration). Knows s routine (p.environment ++ locals_bound s routine.text.formals ds)) (sym locals)
       (known_more s routine p.environment (locals_bound s routine.text.formals routine.locals) k (locals_others s routine routine.locals (λ e i. i))))
 
-  -- one task, where p.tasks is what is left behind it
+  -- one task, where p.tasks is what is left after it
   performs_l : (t : Task) (vs : List Operand) (p : Point) → Knows s routine p.environment → IsOf routine p.text t → AreOf routine (text_behind p.text t) p.tasks →
       Leaves (performs s me t vs p)
   performs_l (Do no_instrs) vs p k o l = (k, l)

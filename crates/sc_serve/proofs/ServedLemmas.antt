@@ -112,7 +112,7 @@ all_begins old new bytes all = ([], record { written = bytes; parts = sym (appen
 pub none_begins : (old : Option (List ℕ)) (bytes : List ℕ) → WritesBeginning old old bytes
 none_begins old bytes = (bytes, record { written = []; parts = refl; appended = Appends-nil old })
 
--- what is written stays where nothing is written behind it
+-- what is written stays where nothing is written after it
 pub begins_kept : (old mid new : Option (List ℕ)) (bytes : List ℕ) → WritesBeginning old mid bytes → Keeps mid new → WritesBeginning old new bytes
 begins_kept old mid new bytes so-far kept = (
   so-far.0,

@@ -66,7 +66,7 @@ module _ (s : System) (pure : RoutineName → Bool) (r : Routine) (me : Referenc
   Olds ts p = (i : ℕ) (e : Expr) (k : List Task) → ts ≡ Eval i e ∷ k → (sp : Span) (f : Expr) → e ≡ tree.Unary sp unary.Old f → (y : Typing) →
       HasType (context_in s pure p.text) context.Old Plain (scope_of p.environment) f y → (o : Operand) × (slice_get p.olds i ≡ Some o) × (y.type ≡ Some o.type)
 
-  -- behind a condition
+  -- after a condition
   chooses_fine : (t : Text) → t ≡ r.text → (depth : ℕ) (is : Instrs) (bs : Branches) (other : Instrs) (low high : Entities) (u : Operand) (p : Point) → BaseOf s r me p → p.text ≡ t →
       types_of p.values ≡ [] → Came low high u p → depth ≡ length low → Extends low high → InBody s pure r t (instructions high is) → InBody s pure r t (branches low bs) →
       InBody s pure r t (instructions low other) → InPure s pure r p.tasks (at t low []) → Fine (chooses depth u.value is bs other p)

@@ -259,7 +259,7 @@ on_calm s me (CreateBy x k n) u p e h = tt
 on_calm s me (Open xs b) u p e h = tt
 on_calm s me (Leave d) u p e h = tt
 
--- one task, where p.tasks is what is left behind it
+-- one task, where p.tasks is what is left after it
 performs_calm : (s : System) (me : Reference) (t : Task) (vs : List Operand) (p : Point) → is_clause t ≡ false → HasStarted p.tasks → RefusesNone (performs s me t vs p)
 performs_calm s me (Do no_instrs) vs p e h = h
 performs_calm s me (Do (instr_then i is)) vs p e h =

@@ -201,7 +201,7 @@ ensures_started : (i : ℕ) (ks : List Clause) → HasStarted (ensures i ks)
 ensures_started i [] = tt
 ensures_started i (k ∷ ks) = (refl, (refl, ensures_started (i + olds_in k.condition) ks))
 
--- what is left behind the precondition and the `old`s
+-- what is left after the precondition and the `old`s
 abbrev pub rest_of : Routine → List Task
 rest_of r = In r.text ∷ Declare r.locals ∷ Do r.body ∷ Forget (length r.text.formals) ∷ In r.contract ∷ ensures 0 r.ensure
 

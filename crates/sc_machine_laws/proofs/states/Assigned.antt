@@ -166,7 +166,7 @@ module _ (x : List ℕ) (v : Value) where
       by true e go = e
       by false e go = go e
 
--- a formal's handler is known before what stands behind the formals
+-- a formal's handler is known before what stands after the formals
 formal_before : (bs cs : List Binding) (i k : ℕ) → AreBehind cs → option_and_then formal_handler (slice_get (bs ++ cs) i) ≡ Some k → option_and_then formal_handler (slice_get bs i) ≡ Some k
 formal_before [] [] i k r e = e
 formal_before [] (c ∷ cs) zero k r e = absurd (none (is_formal c.role) r.0 e)

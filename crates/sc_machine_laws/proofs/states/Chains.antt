@@ -66,7 +66,7 @@ by_lent w fine p k x n d lo has l c =
     let to_k : InChain w p k = Next c (l.0.for, waits_stack (w.handlers d).stack l.0.for l.0.waits, l.0.target) in
     ⊎_elim (λ waits. inl (by_top w fine p k x n k has waits to_k)) (λ f. inr (k, f, to_k)) l.1
 
--- behind a stuck wait somebody has failed
+-- after a stuck wait someone has failed
 stuck_failed : (w : World) → IsConsistent w → (p x j : ℕ) → Stuck w x j → InChain w p x → HasFailed w p
 stuck_failed w fine p x j (Told is) c = let r = fine.why_told x is in (r.0.target, r.2, Next c (r.0, r.1, refl))
 stuck_failed w fine p x j (On v o still is has lt s) c = stuck_failed w fine p v.target o s

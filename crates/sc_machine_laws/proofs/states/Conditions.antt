@@ -90,7 +90,7 @@ module _ (s : System) (pure : RoutineName → Bool) (r : Routine) (me : Referenc
   conclude_condition_step u first low high x k (says_false e z) fs =
       subst (λ v. StepFits s pure r me (concludes v p)) (sym e) (goes_denied s pure r me p b p.tasks boolean p.values first high k (extends_further first low (scope_of p.environment) x z) refl fs)
 
-  -- what lies behind these names is forgotten
+  -- what lies after these names is forgotten
   pub record Forgotten (depth : ℕ) (low : Entities) : Type 0 where
     pub known : scope_of (take depth p.environment) ≡ low
     pub base : Base s r me p.text (take depth p.environment) p.result p.olds p.objects

@@ -40,7 +40,7 @@ blocks_append (b ∷ bs) cs = by (blocks_append bs cs) (is_block b.role)
     by e true = ap (λ vs. b.value ∷ vs) e
     by e false = e
 
--- a name keeps its handler where more names are bound behind it
+-- a name keeps its handler where more names are bound after it
 pub names_append : (bs cs : List Binding) → Names (handler_named bs) (handler_named (bs ++ cs))
 names_append bs cs (Formal i) k e = found_append formal_handler bs cs i k e
 names_append bs cs (BlockName j) k e =
@@ -171,7 +171,7 @@ no_local role.Block e f = cc
 no_local role.Local e f = cc
 no_local role.Test e f = cc
 
--- behind formals alone nothing stands that is none
+-- after formals alone nothing stands that is none
 none_behind : (pre post : List Binding) → Each (λ (b : Binding). is_formal b.role ≡ true) (pre ++ post) → AreBehind post → post ≡ []
 none_behind [] [] e f = refl
 none_behind [] (b ∷ post) e f = absurd (no_both (is_formal b.role) e.0 f.0)
@@ -199,7 +199,7 @@ entry_fits s me formals vs p = of_bound (bound_from s me formals vs 0 formals vs
 
 -- ---- fewer names
 
--- what lies behind the first names
+-- what lies after the first names
 pub record Split (n : Entities) (bs : List Binding) : Type 0 where
   pub front : List Binding
   pub back : List Binding
@@ -274,7 +274,7 @@ extends_same n m o q x = record { more = x.more; is_longer = q ∙ x.is_longer; 
 pub parted_at : (n : Entities) (bs : List Binding) → Extends n (scope_of bs) → Split n bs
 parted_at n bs x = split_at n x.more bs x.is_longer (behind_listed x.more x.no_formals)
 
--- where formals alone are known, no names stand behind them
+-- where formals alone are known, no names stand after them
 pub formals_alone : (bs pre post : List Binding) → list_all (λ (e : Entity). is_formal e.role) (scope_of bs) ≡ true → bs ≡ pre ++ post → AreBehind post → pre ≡ bs
 formals_alone bs pre post e q r =
     sym (q ∙ ap (λ post. pre ++ post) (none_behind pre post (subst (Each (λ (b : Binding). is_formal b.role ≡ true)) q (all_formals bs e)) r) ∙ append-nil pre)

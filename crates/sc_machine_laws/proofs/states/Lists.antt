@@ -74,7 +74,7 @@ pub last_is : {A : Type 0} (xs : List A) (x : A) → slice_get (xs ++ x ∷ []) 
 last_is [] x = refl
 last_is (y ∷ xs) x = last_is xs x
 
--- what lies at a place is there before, or behind
+-- what lies at a place is there before, or after
 pub behind_append : {A : Type 0} (xs ys : List A) (j : ℕ) (x : A) → slice_get ys j ≡ Some x → slice_get (xs ++ ys) (length xs + j) ≡ Some x
 behind_append [] ys j x e = let q : 0 + j ≡ j = omega arith in ap (slice_get ys) q ∙ e
 behind_append (z ∷ xs) ys j x e = let q : suc (length xs) + j ≡ suc (length xs + j) = omega arith in ap (slice_get (z ∷ (xs ++ ys))) q ∙ behind_append xs ys j x e

@@ -30,7 +30,7 @@ contains_cases {X} y xs x i = ⊎_elim
 
 -- ---- the frames of one frame of the machine
 
--- behind them stand those of the frames below, and only the topmost may wait
+-- after them stand those of the frames below, and only the topmost may wait
 pub record Parted (B : List Frame → Type 0) (gs : List Frame) : Type 0 where
   pub rest : List Frame
   pub below : B rest

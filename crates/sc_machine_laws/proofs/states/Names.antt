@@ -61,7 +61,7 @@ binary_there op a b u e = by (binary_type op a b) e
     by None e = cc
     by (Some v) e = cc
 
--- what a name stands for behind a target is a feature
+-- what a name stands for after a target is a feature
 pub record FeatureMeant (s : System) (a : EntityType) (o : Option DeclaredFeature) (g : Signature) : Type 0 where
   pub feature : DeclaredFeature
   pub is_there : o ≡ Some feature

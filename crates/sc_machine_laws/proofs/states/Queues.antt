@@ -27,7 +27,7 @@ use Rattle.sc_machine_laws.proofs.states.KeptQueues.{Keeps, Kept, answer_keeps, 
 
 -- ---- a request comes
 
--- each queue stays, or falls with its handler, or a request of h comes behind its last; of the handlers that are
+-- each queue stays, or falls with its handler, or a request of h comes after its last; of the handlers that are
 -- there
 record Moves (h : ℕ) (w v : World) : Type 0 where
   each : (k : ℕ) → k < w.count → Kept (w.handlers k) (v.handlers k) ⊎

@@ -126,7 +126,7 @@ module _ (P : Value → Type 0) (me : Reference) (own : HoldsOfOwn P me) (object
       by y (tree.Attribute d) e = of_type y (declared_type s [] d) (fresh_attributes s fs) e
       by y (tree.Routine c) e = e
 
-  -- a new object stands behind the others
+  -- a new object stands after the others
   with_fresh : (s : System) (k : ℕ) (p : Point) → Stays P objects p → Stays P objects (record p { objects = p.objects ++ fresh_object s k ∷ [] })
   with_fresh s k p h = record {
     values = record {

@@ -72,7 +72,7 @@ AllFit s me p vs = Each (OperandFits s me.handler p.environment) vs
 abbrev pub TasksTyped : System → (RoutineName → Bool) → Routine → Point → List Task → List EntityType → Type 0
 TasksTyped s pure r p k ts = IsTyped s pure r k (at p.text (scope_of p.environment) (types_of p.olds) ts)
 
--- behind a condition, of these names
+-- after a condition, of these names
 abbrev pub TasksAfter : System → (RoutineName → Bool) → Routine → Point → List Task → Entities → Entities → List EntityType → Type 0
 TasksAfter s pure r p k low high ts = IsTyped s pure r k (after p.text low high (types_of p.olds) ts)
 

@@ -101,7 +101,7 @@ module _ (s : System) (pure : RoutineName → Bool) (r : Routine) (me : Referenc
   known_step (Leave depth ∷ k) [] (typed.leave_block {n = low} own e x d) f g = goes_forgotten s pure r me (q k []) b depth low k e x d
   known_step (Leave depth ∷ k) (u ∷ us) d f g = elim d [ ]
 
-  -- behind a condition, whose value is there
+  -- after a condition, whose value is there
   pub concluded_step : (k : List Task) (u : Operand) (us : List Operand) (low high : Entities) → TasksAfter s pure r p k low high (types_of us) → Tells p.environment low high u.value →
       AllFit s me p us → StepFits s pure r me (step_at s me k (q k (u ∷ us)))
   concluded_step [] u us low high d t f = elim d [ ]

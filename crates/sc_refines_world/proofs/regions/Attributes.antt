@@ -34,7 +34,7 @@ pub record StandsAt (x : List ℕ) (bs : List Binding) (t : EntityType) : Type 0
   pub found : slice_get bs number ≡ Some binding
   pub type : binding.type ≡ t
 
--- behind one of another name
+-- after one of another name
 one_behind : (x : List ℕ) (b : Binding) (bs : List Binding) (t : EntityType) → bytes_eq b.name x ≡ false → StandsAt x bs t → StandsAt x (b ∷ bs) t
 one_behind x b bs t e at = record {
   number = suc at.number;

@@ -48,7 +48,7 @@ data IsCreation (n : ℕ) : Operation → Type 0 where
   elsewhere : (site : CreationSite) → site.count ≡ n → IsCreation n (op.CreateHandler site)
 
 module _ (g : Run) (me : Reference) (tail : List Value) where
-  -- Behind some jumps the code has the creation, and room for the reference.
+  -- After some jumps the code has the creation, and room for the reference.
   record Creation (pc : ℕ) (ts : List EntityType) (n : ℕ) : Type 0 where
     place : ℕ
     steps : ℕ

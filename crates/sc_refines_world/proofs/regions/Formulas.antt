@@ -1,4 +1,4 @@
--- What the formulas of an invariant see: the attributes of the class, and none behind them.
+-- What the formulas of an invariant see: the attributes of the class, and none after them.
 use Rattle.std.proofs.Common.{◌≡◌, ◌<◌, ◌≤◌, ℕ, zero, suc, Bool, true, false, List, [], ◌∷◌, ◌++◌, Option, Some, None, length, refl, ap, ◌∙◌, arith}
 use Rattle.std.specs.Prelude.{◌&&◌, bytes_eq, not, slice_get, unwrap_or, if◌then◌else◌}
 use Rattle.std.specs.Option.{option_map, option_and_then, option_or}
@@ -28,7 +28,7 @@ use Rattle.sc_model.specs.Values.{Value, Integer, Boolean, Void, Attached}
 use Rattle.sc_code.specs.Attributes.{known_formulas}
 use Rattle.sc_region.specs.Classes.{all_hold}
 
--- What comes of atoms doesn't change with others behind them, where there are so many.
+-- What comes of atoms doesn't change with others after them, where there are so many.
 abbrev Sees : {A : Type 0} → ℕ → (List Atom → A) → Type 0
 Sees n g = (front more : List Atom) → n ≤ length front → g (front ++ more) ≡ g front
 
@@ -213,7 +213,7 @@ known_see : (n : ℕ) (o : Option (List PlainFormula)) → ClausesSee n o → Se
 known_see n None h = λ front more m. refl
 known_see n (Some clauses) h = h
 
--- The invariant of a class doesn't see what lies behind the attributes of the class.
+-- The invariant of a class doesn't see what lies after the attributes of the class.
 pub invariant_sees : (s : System) (k : ℕ) → Sees (length (fresh_attributes s (features s k))) (all_hold (known_formulas (formulas_of s k)))
 invariant_sees s k =
     let bs = fresh_attributes s (features s k) in

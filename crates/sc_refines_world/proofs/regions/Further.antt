@@ -153,7 +153,7 @@ module _ (most h : ℕ) (j : Job) (c : State) (g : goes_on j ≡ true) where
       ∙ ap (λ (t : HandlerStage). job_at h t (d.handlers h) d) runs.stage_is
   go false less is = none_some j is
 
--- Behind it the handler goes on.
+-- After it the handler goes on.
 pub first_turns_go_on : FirstTurnsGoOn
 first_turns_go_on most h j c is g =
     ap (λ (d : State). job_of h d) (first_settled most h j c g) ∙ go most h j c g (nat_lt h c.count) refl is

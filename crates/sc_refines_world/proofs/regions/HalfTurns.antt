@@ -169,7 +169,7 @@ module _ (most : ℕ) (names : List (List ℕ)) (s : System) (h : ℕ) (w : Worl
 
     -- the core has begun the job, and stands so
     module _ (c1 : core.State) (count : c1.count ≡ w.count) (rested : IsRested (c1.handlers h)) (m : List Marked) (is : f.stage ≡ machine.Runs) where
-      -- the handler behind the silent steps
+      -- the handler after the silent steps
       abbrev stepped_to : Point → Handler
       stepped_to p = record (w.handlers h) { objects = p.objects; stack = frame_at f p ∷ below }
 

@@ -53,7 +53,7 @@ module _ (P Q : List Object → Type 0) (s : System) (weaker : (os : List Object
     on_kept me (Open xs b) u p h = h
     on_kept me (Leave d) u p h = h
 
-    -- one task, where p.tasks is what is left behind it
+    -- one task, where p.tasks is what is left after it
     performs_kept : (me : Reference) (t : Task) (vs : List Operand) (p : Point) → start.tasks ≡ t ∷ p.tasks → P p.objects → Keeps P Q start (performs s me t vs p)
     performs_kept me (Do no_instrs) vs p e h = h
     performs_kept me (Do (instr_then i is)) vs p e h =

@@ -213,7 +213,7 @@ atom_same (Boolean b) = refl
 atom_same Void = refl
 atom_same (Attached r) = refl
 
--- the atoms of the attributes, and those behind them
+-- the atoms of the attributes, and those after them
 record Atoms (bs : List Binding) (vs : List Value) : Type 0 where
   more : List Atom
   same : atoms_of vs ≡ model.atoms_of (valued bs (values_of vs)) ++ more

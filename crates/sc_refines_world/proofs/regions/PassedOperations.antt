@@ -1,4 +1,4 @@
--- Visible operations behind which the routine goes on.
+-- Visible operations after which the routine goes on.
 use Rattle.std.proofs.Common.{◌≡◌, ℕ, ◌+◌, ◌-◌, ◌<◌, ◌^◌, List, ◌∷◌, Option, Some, None, length, reverse, refl, sym, ap, ◌∙◌, subst, arith}
 use Rattle.std.specs.Fmt.{signed_decimal}
 use Rattle.std.specs.Prelude.{slice_get}
@@ -131,7 +131,7 @@ module _ (s : System) (x : Half) (o : Hop) (y z : PlainStore) (is : IsProgramFor
         failure = comes.remains.failure ∙ region.failure;
       }
 
-  -- behind a visible operation that takes so many operands
+  -- after a visible operation that takes so many operands
   pub region_past : (shown : flat.Act) (n : ℕ) (to : ℕ) (tail : List Value) → flat.does shown (without n (state_in s z m.activation)) ≡ flat.Does m.shown m.state →
       m.state ≡ state_at to tail m.point → Stands run to tail m.point → IsRegionOf s after (on_top (past n) z)
   region_past shown n to tail does leads st =

@@ -131,7 +131,7 @@ module _ (point : Point) where
   on_quiet s me (Open xs b) u p h = tt
   on_quiet s me (Leave d) u p h = tt
 
-  -- one task, where p.tasks is what is left behind it
+  -- one task, where p.tasks is what is left after it
   performs_quiet : (s : System) (me : Reference) (t : Task) (vs : List Operand) (p : Point) → IsLike point p → Quiet point (performs s me t vs p)
   unfolding Quiet
   performs_quiet s me (Do no_instrs) vs p h = tt

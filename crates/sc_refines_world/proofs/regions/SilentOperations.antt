@@ -57,7 +57,7 @@ does_point a b p q e = cc
 goes_does : {A : Type 0} (p q : Point) (a : Act) → Goes p ≡ Does a q → A
 goes_does p q a e = cc
 
--- A visible step comes behind some silent ones, and the operation that it is in flat code behind silent operations from this state.
+-- A visible step comes after some silent ones, and the operation that it is in flat code after silent operations from this state.
 pub record Visible (g : Run) (me : model.Reference) (start : flat.State) (a : Act) (q : Point) : Type 0 where
   pub last : Point
   pub place : ℕ

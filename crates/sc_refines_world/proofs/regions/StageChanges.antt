@@ -1,4 +1,4 @@
--- Visible operations behind which the routine waits, or a separate block begins or ends.
+-- Visible operations after which the routine waits, or a separate block begins or ends.
 use Rattle.std.proofs.Common.{◌≡◌, ℕ, zero, suc, ◌+◌, ◌-◌, ◌<◌, Bool, true, false, List, [], ◌∷◌, ◌++◌, Option, Some, None, drop, take, is_some, length, reverse, refl, sym, ap, ◌∙◌, subst, arith}
 use Rattle.std.proofs.lemmas.List.{reverse-append}
 use Rattle.std.specs.Prelude.{◌||◌, slice_get, slice_set}
@@ -116,7 +116,7 @@ module _ (s : System) (x : Half) (o : Hop) (y z : PlainStore) (is : IsProgramFor
   pub next_said : (to : ℕ) → m.activation.place + 1 ≡ to → to < length (routine_code s m.frame.routine) → m.activation.place < 18446744073709551615
   next_said to next inside = omega (arith, next, inside, few s x o y z is region comes m)
 
-  -- behind a visible operation that takes so many operands
+  -- after a visible operation that takes so many operands
   pub state_past : (shown : flat.Act) (n : ℕ) (to : ℕ) (tail : List values.Value) → flat.does shown (without n (state_in s z m.activation)) ≡ flat.Does m.shown m.state →
       m.state ≡ state_at to tail m.point → to < length (routine_code s m.frame.routine) →
       state_of (objects_in s z.objects) (past n m.activation) ≡ state_at to tail m.point

@@ -114,7 +114,7 @@ pub plain_leaves : (t : Task) (n : ℕ) → is_leave t ≡ false → with_leave 
 plain_leaves (Leave depth) n e = no_require (sym e)
 plain_leaves t n e = refl
 
--- behind a task that ends no block
+-- after a task that ends no block
 pub kept_rest : (c : Formals) (bs : List Binding) (t : Task) (ts : List Task) → is_leave t ≡ false → AreKept c bs (t ∷ ts) → AreKept c bs ts
 kept_rest c bs (Leave depth) ts e k = no_require (sym e)
 kept_rest c bs t ts e k = record {

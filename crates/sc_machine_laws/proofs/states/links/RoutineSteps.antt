@@ -24,7 +24,7 @@ use Rattle.sc_machine_laws.proofs.states.links.RoutineInstructions.{assigns_well
 module _ (K : ℕ → Type 0) (fm : Formals) (s : System) (me : Reference) (there : K me.handler) where
   -- ---- tasks
 
-  -- p has what is left behind the task
+  -- p has what is left after the task
   on_well : (n : ℕ) (t : Task) (u : Operand) (p : Point) → IsWell K fm n p → OperandKnown K u → (is_body t ≡ true → IsCalm p.tasks)
       → (is_require t ≡ true → leaves p.tasks ≡ 0) → IsDeep fm.count t × IsClean t p.environment
       → StepsWell K fm me.handler n (performs_on s me t u p)
