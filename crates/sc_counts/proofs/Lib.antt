@@ -5,3 +5,5 @@ mod Handlers
 mod Counting
 mod Settled
 mod Centers
+pub mod ReadStates
+mod HandlerCounts

@@ -1,8 +1,9 @@
 -- States that are read alike.
-use Rattle.std.specs.Prelude.{◌≡◌, ℕ, Some}
+use Rattle.std.specs.Prelude.{◌≡◌, ◌≤◌, ℕ, Some}
 use Rattle.sc_region.specs.declared.job.Job.{Job}
 use Rattle.sc_region.specs.declared.job.Request.{Request}
 use Rattle.sc_region.specs.declared.job.Want.{Want}
+use Rattle.sc_handler.specs.Handlers.{State}
 use Rattle.sc_handler.specs.Canonical.{canon}
 use Rattle.sc_request.specs.Logs.{Center, opening, pick_for, picked, put_back, settles, status_in}
 use Rattle.sc_counts.specs.Counted.{IsCounted}
@@ -26,6 +27,20 @@ abbrev pub SettlementsStayCounted : Type 0
 SettlementsStayCounted =
     (most h turns : ℕ) (j : Job) (w : Want) (c : Center) → pick_for h c ≡ Some j → IsCounted c.state →
     IsCounted (settles most h j turns w (picked h j c)).state
+
+-- So does what is read of it.
+abbrev pub ReadStatesAreCounted : Type 0
+ReadStatesAreCounted = (s : State) → IsCounted s → IsCounted (canon s)
+
+-- It is read as it is.
+abbrev pub ReadStatesStay : Type 0
+ReadStatesStay = (s : State) → canon (canon s) ≡ canon s
+
+-- There are no more handlers after a settlement than there may be.
+abbrev pub SettlementsStayFew : Type 0
+SettlementsStayFew =
+    (most h turns : ℕ) (j : Job) (w : Want) (c : Center) → c.state.count ≤ most →
+    (settles most h j turns w (picked h j c)).state.count ≤ most
 
 -- ---- states that are read alike
 
