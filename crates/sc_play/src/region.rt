@@ -153,6 +153,20 @@ impl<'p> Region<'p> {
         }
     }
 
+    /// A copy, which takes its memory from this allocator.
+    ///
+    /// # Errors
+    /// Memory ran out.
+    pub fn copy(&self, alloc: Global) -> Result<Region<'p>, AllocError>
+        ensures { IfOk result (λ region. region ≡ self.now) }
+    {
+        Ok(Region {
+            store: self.store.copy(alloc)?,
+            handler: self.handler,
+            is_told: self.is_told,
+        })
+    }
+
     /// Makes the first turn of the job, and further ones as long as they want nothing and fewer than `limit` are
     /// made. If memory is refused to one of these, they end before it. Err if memory is refused to the first: at most
     /// silent operations of a routine that goes on are executed then. The job can be played again, and has the result
