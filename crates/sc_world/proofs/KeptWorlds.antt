@@ -5,6 +5,9 @@ use Rattle.std.proofs.lemmas.Bool.{cases_eq, cases_lt}
 use Rattle.std.proofs.lemmas.Option.{slice_get_past}
 use Rattle.std.specs.Prelude.{slice_get, if◌then◌else◌}
 use Rattle.std.specs.List.{range_with_len}
+use Rattle.sc_lockpass.specs.declared.version.Version.{Version}
+use Rattle.sc_lockpass.specs.declared.version.Version.TheVariants.{One, Two}
+use Rattle.sc_lockpass.specs.Versions.{most_handlers}
 use Rattle.sc_code.specs.declared.program.Image.{Image}
 use Rattle.sc_region.specs.declared.job.Job.{Job}
 use Rattle.sc_model.specs.Reports.{end_text, line_feed}
@@ -12,7 +15,7 @@ use Rattle.sc_handler.specs.Handlers.{State}
 use Rattle.sc_handler.specs.Canonical.{canon}
 use Rattle.sc_request.specs.Logs.{Center, pick_for, picked, put_back, put_back_with, root_of, settles, status_in}
 use Rattle.sc_counts.specs.Counted.{IsCounted}
-use Rattle.sc_counts.specs.Laws.{AlikeAreReadAlike, AlikeSettleAlike, IsReadAlike, OpeningsAreCounted, PicksStayCounted, PutBacksStayCounted, SettlementsStayCounted}
+use Rattle.sc_counts.specs.Laws.{AlikeAreReadAlike, AlikeSettleAlike, IsReadAlike, OpeningsAreCounted, PicksStayCounted, PutBacksStayCounted, SettlementsStayCounted, SettlementsStayFew}
 use Rattle.sc_play.specs.Contents.{Contents, contents_at, contents_in, contents_of, new_contents}
 use Rattle.sc_play.specs.Regions.{PlainRegion, new_region}
 use Rattle.sc_world.specs.Kept.{AreKeptAlike, AreReadAlike, AttemptsStayOf, IsOf, KeptAlikeReadAlike, KeptAlikeTurnAlike, OpeningsAreOf, PlainKept, RunsStayOf, TurnsTo, kept}
@@ -95,7 +98,7 @@ hold_alike : (xs ys : List PlainRegion) (h : ℕ) (x y : PlainRegion) → conten
 hold_alike xs ys h x y same there its_there = sym (ap (contents_in h) there) ∙ ap (λ (f : ℕ → Contents). f h) same ∙ ap (contents_in h) its_there
 
 -- Worlds of one program that are kept alike have the same regions.
-regions_are : (p : Image) (most : ℕ) (w v : PlainWorld) → AreKeptAlike p most w v → w.regions ≡ v.regions
+pub regions_are : (p : Image) (most : ℕ) (w v : PlainWorld) → AreKeptAlike p most w v → w.regions ≡ v.regions
 regions_are p most w v alike =
     let hold : contents_at w.regions ≡ contents_at v.regions = ap (λ (k : PlainKept). k.regions) alike.same in
     lists_are p w.regions v.regions (alike.of.places ∙ sym alike.its.places) alike.of.programs alike.its.programs
@@ -232,9 +235,14 @@ all_of p h zero k x e = absurd (cc)
 all_of p h (suc n) zero x e = let is : new_region p h ≡ x = cc in ap (λ (r : PlainRegion). r.store.program) (sym is)
 all_of p h (suc n) (suc k) x e = all_of p (suc h) n k x e
 
+some_handler : (version : Version) → 1 ≤ most_handlers version
+some_handler One = omega arith
+some_handler Two = omega arith
+
 pub openings_are_of : OpeningsAreCounted → OpeningsAreOf
 openings_are_of open_counted p version = record {
   most = refl;
+  few = some_handler version;
   nobody_out = λ h. refl;
   places = so_many p 0 max_handlers;
   programs = λ h x e. all_of p 0 max_handlers h x e;
@@ -264,9 +272,13 @@ is_in : (b : Bool) (j : Job) (o : Option Job) → o ≡ None → (if b then None
 is_in true j o e = refl
 is_in false j o e = e
 
-made_stay : SettlementsStayCounted → (p : Image) (most h : ℕ) (j : Job) (w v : PlainWorld) → IsOf p most w → pick_for h w.center ≡ Some j → Makes 1 h j 1 w v → IsOf p most v
-made_stay settled p most h j w v of has makes = record {
+made_stay : SettlementsStayCounted → SettlementsStayFew → (p : Image) (most h : ℕ) (j : Job) (w v : PlainWorld) → IsOf p most w → pick_for h w.center ≡ Some j → Makes 1 h j 1 w v → IsOf p most v
+made_stay settled few p most h j w v of has makes = record {
   most = makes.most ∙ of.most;
+  few =
+      let before : w.center.state.count ≤ w.most = subst (λ (n : ℕ). w.center.state.count ≤ n) (sym of.most) of.few in
+      subst (λ (n : ℕ). v.center.state.count ≤ n) of.most
+      (subst (λ (c : Center). c.state.count ≤ w.most) (sym makes.settles.center) (few w.most h 1 j makes.settles.outcome.want w.center before));
   nobody_out = λ k. ap (λ (c : Center). c.out k) makes.settles.center ∙ is_in (k == h) j (w.center.out k) (of.nobody_out k);
   places = ap length makes.regions ∙ set_many w.regions h makes.after ∙ of.places;
   programs = λ k x there.
@@ -281,14 +293,14 @@ made_stay settled p most h j w v of has makes = record {
       subst (λ (c : Center). IsCounted c.state) (sym makes.settles.center) (settled w.most h 1 j makes.settles.outcome.want w.center has of.counted);
 }
 
-turn_stays : SettlementsStayCounted → (p : Image) (most h : ℕ) (o : Option Job) (w v : PlainWorld) → IsOf p most w → pick_for h w.center ≡ o → TurnsUnder h o w v → IsOf p most v
-turn_stays settled p most h None w v of has same = let P : PlainWorld → Type 0 = λ u. IsOf p most u in subst P (sym same) of
-turn_stays settled p most h (Some j) w v of has makes = made_stay settled p most h j w v of has makes
+turn_stays : SettlementsStayCounted → SettlementsStayFew → (p : Image) (most h : ℕ) (o : Option Job) (w v : PlainWorld) → IsOf p most w → pick_for h w.center ≡ o → TurnsUnder h o w v → IsOf p most v
+turn_stays settled few p most h None w v of has same = let P : PlainWorld → Type 0 = λ u. IsOf p most u in subst P (sym same) of
+turn_stays settled few p most h (Some j) w v of has makes = made_stay settled few p most h j w v of has makes
 
-pub runs_stay_of : SettlementsStayCounted → RunsStayOf
-runs_stay_of settled p most [] w v of same = let P : PlainWorld → Type 0 = λ u. IsOf p most u in subst P (sym same) of
-runs_stay_of settled p most (h ∷ hs) w v of runs =
-    runs_stay_of settled p most hs runs.0 v (turn_stays settled p most h (pick_for h w.center) w runs.0 of refl runs.1) runs.2
+pub runs_stay_of : SettlementsStayCounted → SettlementsStayFew → RunsStayOf
+runs_stay_of settled few p most [] w v of same = let P : PlainWorld → Type 0 = λ u. IsOf p most u in subst P (sym same) of
+runs_stay_of settled few p most (h ∷ hs) w v of runs =
+    runs_stay_of settled few p most hs runs.0 v (turn_stays settled few p most h (pick_for h w.center) w runs.0 of refl runs.1) runs.2
 
 -- ---- where memory is refused
 
@@ -296,10 +308,18 @@ put_back_out : (h : ℕ) (j : Job) (c : Center) (k : ℕ) → c.out k ≡ None �
 put_back_out h j c k e =
     ap (λ (o : Option Job). (put_back_with h o (picked h j c)).out k) (picked-out h j c (picked h j c) refl) ∙ is_in (k == h) j (c.out k) e
 
-module _ (picks : PicksStayCounted) (put_backs : PutBacksStayCounted) (settled : SettlementsStayCounted) where
+put_back_count : (h : ℕ) (o : Option Job) (c : Center) → (put_back_with h o c).state.count ≡ c.state.count
+put_back_count h None c = refl
+put_back_count h (Some j) c = refl
+
+module _ (picks : PicksStayCounted) (put_backs : PutBacksStayCounted) (settled : SettlementsStayCounted) (few : SettlementsStayFew) where
   held_stays : (p : Image) (most h : ℕ) (j : Job) (w v : PlainWorld) → IsOf p most w → pick_for h w.center ≡ Some j → IsHeldUp h j w v → IsOf p most v
   held_stays p most h j w v of has held = record {
     most = held.most ∙ of.most;
+    few =
+        let same : v.center.state.count ≡ w.center.state.count =
+        ap (λ (c : Center). c.state.count) held.put_back.center ∙ put_back_count h ((picked h j w.center).out h) (picked h j w.center) in
+        subst (λ (n : ℕ). n ≤ most) (sym same) of.few;
     nobody_out = λ k. ap (λ (c : Center). c.out k) held.put_back.center ∙ put_back_out h j w.center k (of.nobody_out k);
     places = ap length held.regions ∙ set_many w.regions h held.after ∙ of.places;
     programs = λ k x there.
@@ -325,6 +345,6 @@ module _ (picks : PicksStayCounted) (put_backs : PutBacksStayCounted) (settled :
   pub attempts_stay_of : AttemptsStayOf
   attempts_stay_of p most [] w v of same = let P : PlainWorld → Type 0 = λ u. IsOf p most u in subst P (sym same) of
   attempts_stay_of p most (Made h ∷ ts) w v of tried =
-      attempts_stay_of p most ts tried.0 v (turn_stays settled p most h (pick_for h w.center) w tried.0 of refl tried.1) tried.2
+      attempts_stay_of p most ts tried.0 v (turn_stays settled few p most h (pick_for h w.center) w tried.0 of refl tried.1) tried.2
   attempts_stay_of p most (Refused h ∷ ts) w v of tried =
       attempts_stay_of p most ts tried.0 v (refused_stays p most h w tried.0 of tried.1) tried.2

@@ -1,5 +1,5 @@
 -- What is kept of a world as it is read, to be compared with others.
-use Rattle.std.specs.Prelude.{◌≡◌, ℕ, List, Some, None, length, slice_get}
+use Rattle.std.specs.Prelude.{◌≡◌, ◌≤◌, ℕ, List, Some, None, length, slice_get}
 use Rattle.sc_lockpass.specs.declared.version.Version.{Version}
 use Rattle.sc_lockpass.specs.Versions.{most_handlers}
 use Rattle.sc_code.specs.declared.program.Image.{Image}
@@ -29,10 +29,12 @@ kept_of w = record { state = core.kept_of w.core; regions = contents_at w.region
 
 -- ---- laws
 
--- A world in which no handler is out, with a region for each handler that there may be, all of them of the program.
--- Its core names only handlers that there are, and counts of sessions that were reached.
+-- A world in which no handler is out. There are no more handlers than there may be, and a region for each that there
+-- may be in any version, all of them of the program. The core names only handlers that there are, and counts of
+-- sessions that were reached.
 pub record IsOf (p : Image) (limit : ℕ) (w : PlainWorld) : Type 0 where
   pub most : w.most ≡ limit
+  pub few : w.center.state.count ≤ limit
   pub nobody_out : (h : ℕ) → w.center.out h ≡ None
   pub places : length w.regions ≡ max_handlers
   pub programs : (h : ℕ) (x : PlainRegion) → slice_get w.regions h ≡ Some x → x.store.program ≡ p

@@ -6,7 +6,7 @@ ghost use Rattle.sc_world.specs.Views.{world_of};
 use crate::world::World;
 use sc_counts::laws::{
     alike_are_read_alike, alike_settle_alike, openings_are_counted, picks_stay_counted,
-    put_backs_stay_counted, settlements_stay_counted,
+    put_backs_stay_counted, settlements_stay_counted, settlements_stay_few,
 };
 use sc_lockpass::HandlerNumber;
 
@@ -48,6 +48,7 @@ pub fn runs_stay_of_their_program()
     ensures { RunsStayOf }
 {
     settlements_stay_counted();
+    settlements_stay_few();
 }
 
 /// So it does where memory is refused to some of them.
@@ -57,6 +58,7 @@ pub fn attempts_stay_of_their_program()
     picks_stay_counted();
     put_backs_stay_counted();
     settlements_stay_counted();
+    settlements_stay_few();
 }
 
 /// In worlds of one program that are kept alike the handlers have the same jobs and statuses, and the reports are the
