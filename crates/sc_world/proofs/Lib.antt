@@ -16,3 +16,5 @@ pub mod AlikeCounts
 pub mod PassingCounts
 pub mod SettledCounts
 pub mod Links
+mod LoadedRegions
+mod LoadedWorlds

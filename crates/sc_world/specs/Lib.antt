@@ -1,5 +1,6 @@
 pub mod Free
 pub mod Kept
+pub mod Loading
 pub mod Reports
 pub mod Requests
 pub mod UnderJob

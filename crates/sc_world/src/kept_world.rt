@@ -2,6 +2,7 @@
 ghost use Rattle.std.specs.Prelude.{◌≡◌, ◌≤◌, ◌↔◌, ℕ, IfOk, IsTrue, length, vec_len};
 ghost use Rattle.sc_play.specs.Contents.{contents_at, new_contents};
 
+use crate::configuration::Configuration;
 use crate::world::World;
 use sc_lockpass::HandlerNumber;
 use sc_play::Region;
@@ -19,6 +20,23 @@ pub struct KeptWorld<'p> {
     pub(crate) ghost few: { vec_len regions ≤ 512 },
 }
 
+impl<'p> Configuration<'p> {
+    ghost use Rattle.sc_world.specs.Kept.{kept, kept_of};
+    ghost use Rattle.sc_world.specs.Views.{world_in};
+
+    /// What the core and the regions hold, to be kept. They are consumed.
+    ///
+    /// # Errors
+    /// Memory ran out. They are gone then, too.
+    pub fn keep(self) -> Result<KeptWorld<'p>, AllocError>
+        ensures { IfOk result (λ world. kept_of world ≡ kept (world_in self.entry)) }
+    {
+        let core = self.core.keep(self.alloc)?;
+        let regions = without_new(self.regions);
+        Ok(KeptWorld { core, regions })
+    }
+}
+
 impl<'p> World<'p> {
     ghost use Rattle.sc_world.specs.Kept.{kept, kept_of};
     ghost use Rattle.sc_world.specs.Views.{world_of};
@@ -30,10 +48,7 @@ impl<'p> World<'p> {
     pub fn keep(self) -> Result<KeptWorld<'p>, AllocError>
         ensures { IfOk result (λ world. kept_of world ≡ kept (world_of self.entry)) }
     {
-        let configuration = self.configuration;
-        let core = configuration.core.keep(configuration.alloc)?;
-        let regions = without_new(configuration.regions);
-        Ok(KeptWorld { core, regions })
+        self.configuration.keep()
     }
 
     /// A hash of what the world holds. No contract says which number it is. It takes time for each handler, for what
@@ -76,9 +91,10 @@ fn without_new<'p>(mut regions: Vec<Region<'p>>) -> Vec<Region<'p>>
 }
 
 /// A number from which on all regions are new.
-fn used(regions: &[Region<'_>]) -> usize
+pub(crate) fn used(regions: &[Region<'_>]) -> usize
     requires { length regions.now ≤ 512 }
-    ensures { (handler : ℕ) → result ≤ handler → contents_at regions.now handler ≡ new_contents handler }
+    ensures few { result ≤ length regions.now }
+    ensures new { (handler : ℕ) → result ≤ handler → contents_at regions.now handler ≡ new_contents handler }
 {
     let mut count = regions.len();
     while count > 0 && is_new_at(regions, (count - 1) as HandlerNumber) {

@@ -1,6 +1,7 @@
 //! What holds in each world that turns lead to, each the contract of a function that does nothing.
 ghost use Rattle.sc_world.specs.Free.{FreeObjectsMeet, OpeningsAreLinked, RunsStayLinked, StoppedRunsStayLinked};
 ghost use Rattle.sc_world.specs.Kept.{AttemptsStayOf, KeptAlikeReadAlike, KeptAlikeTurnAlike, OpeningsAreOf, RunsStayOf};
+ghost use Rattle.sc_world.specs.Loading.{WorldsAreKeptByNumbers};
 ghost use Rattle.sc_world.specs.Views.{world_of};
 
 use crate::world::World;
@@ -35,6 +36,11 @@ pub fn free_objects_meet(world: &World<'_>, handler: HandlerNumber)
         region.settled_objects_meet();
     }
 }
+
+/// Where all from a number on are new, the parts and the regions below it are all that is kept of a world.
+pub fn worlds_are_kept_by_numbers()
+    ensures { WorldsAreKeptByNumbers }
+{}
 
 /// At the opening of a program all regions belong to it, and no handler is out.
 pub fn openings_are_of_their_program()

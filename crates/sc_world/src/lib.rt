@@ -9,11 +9,13 @@
 mod configuration;
 mod kept_world;
 pub mod laws;
+mod loading;
 mod report;
 pub mod request_laws;
 mod world;
 
 pub use configuration::{Configuration, Turned};
 pub use kept_world::KeptWorld;
+pub use loading::{Numbers, Tables};
 pub use report::{code_of, is_busy, push_end, push_handler};
 pub use world::World;
