@@ -1,5 +1,5 @@
 -- Handlers that are read alike.
-use Rattle.std.proofs.Common.{◌≡◌, ◌∙◌, ◌↔◌, ℕ, Bool, true, false, IsTrue, List, [], ◌∷◌, map, refl, sym, ap}
+use Rattle.std.proofs.Common.{◌≡◌, ◌∙◌, ◌↔◌, ℕ, Bool, false, IsTrue, List, [], ◌∷◌, map, refl, sym, ap}
 use Rattle.std.specs.Prelude.{if◌then◌else◌}
 use Rattle.sc_lockpass.specs.wait_conditions.Reservations.{mark_allows, mark_of}
 use Rattle.sc_lockpass.specs.declared.wait_conditions.mark.Marked.{Marked}
@@ -7,7 +7,7 @@ use Rattle.sc_handler.specs.declared.handler.HandlerStage as coded_stage
 use Rattle.sc_handler.specs.declared.handler.HandlerStage.TheVariants as stage
 use Rattle.sc_handler.specs.declared.handler.Posting.{Posting}
 use Rattle.sc_handler.specs.declared.handler.Handler as coded
-use Rattle.sc_handler.specs.Handlers.{Handler, Service}
+use Rattle.sc_handler.specs.Handlers.{Handler}
 use Rattle.sc_handler.specs.Canonical.{canon_handler, canon_mark, canon_service, canon_stage, marked_in, uncounted}
 use Rattle.sc_handler.specs.InMemory.{answers_of, first_posted, handler_of, posting_of, service_of, stage_of}
 use Rattle.sc_handler.specs.Same.{AreAskedAlike, StandAlike}

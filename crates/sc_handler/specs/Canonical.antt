@@ -1,6 +1,6 @@
 -- What a state is compared by: of the counts of sessions, and of the marks that were made of them, no more than whether
 -- an entry may be tried again.
-use Rattle.std.specs.Prelude.{ℕ, Bool, List, [], map, if◌then◌else◌}
+use Rattle.std.specs.Prelude.{ℕ, List, [], map, if◌then◌else◌}
 use Rattle.sc_lockpass.specs.wait_conditions.Reservations.{mark_allows}
 use Rattle.sc_lockpass.specs.declared.wait_conditions.mark.Marked.{Marked}
 use Rattle.sc_handler.specs.Handlers.{HandlerStage, Idle, Runs, HasMade, Reserves, Awaits, Service, Handler, State}

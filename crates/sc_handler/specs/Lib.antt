@@ -1,5 +1,4 @@
 pub mod Handlers
-pub mod Actuals
 pub mod Picking
 pub mod Changes
 pub mod Fits

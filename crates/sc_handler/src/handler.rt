@@ -47,7 +47,7 @@ pub enum HandlerStage {
     },
 }
 
-/// A request in a handler's queue or callback, or one that its frames serve. It takes 80 bytes, and 16 more in a
+/// A request in a handler's queue or callback, or one that its frames serve. It takes 88 bytes, and 16 more in a
 /// list; and further memory only if it has more than one actual, or rights were passed with it.
 #[derive(Drop)]
 pub struct Posting {
@@ -61,9 +61,9 @@ pub struct Posting {
 
 impl Posting {
     /// A place for a posting.
-    pub fn blank() -> Posting {
+    pub fn blank(alloc: Global) -> Posting {
         Posting {
-            request: PostedRequest::blank(),
+            request: PostedRequest::blank(alloc),
             passed: Passing::none(),
             over: HandlerStage::Idle,
         }

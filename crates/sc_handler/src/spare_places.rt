@@ -6,7 +6,6 @@ use crate::handler::{HandlerStage, Posting};
 use crate::passing::PassedPlace;
 use crate::posted_request::Block;
 use crate::postings::take_first;
-use arrayvec::ArrayVec;
 use sc_lockpass::Passed;
 use sc_region::Request;
 use std::alloc::{AllocError, Global};
@@ -20,7 +19,7 @@ use std::marker::Model;
 pub struct SparePlaces {
     nodes: LinkedList<Posting>,
     /// Memory for the actuals of a request with more than one.
-    blocks: Vec<Box<Block>>,
+    blocks: Vec<Block>,
     /// Memory for what is passed.
     passed: Vec<Box<PassedPlace>>,
 }
@@ -112,20 +111,21 @@ fn push_nodes(nodes: &mut LinkedList<Posting>, wanted: usize) -> Result<(), Allo
     ensures kept { length nodes.old ≤ length nodes.new }
     ensures err { OnErr result (length nodes.old < wanted) }
 {
+    let alloc = *nodes.allocator();
     for _place in nodes.len()..wanted {
-        nodes.push_back(Posting::blank())?;
+        nodes.push_back(Posting::blank(alloc))?;
     }
     Ok(())
 }
 
-fn push_blocks(blocks: &mut Vec<Box<Block>>, wanted: usize) -> Result<(), AllocError>
+fn push_blocks(blocks: &mut Vec<Block>, wanted: usize) -> Result<(), AllocError>
     ensures ok { OnOk result (wanted ≤ vec_len blocks.new) }
     ensures kept { vec_len blocks.old ≤ vec_len blocks.new }
     ensures err { OnErr result (vec_len blocks.old < wanted) }
 {
     let alloc = *blocks.allocator();
     for _place in blocks.len()..wanted {
-        blocks.push(Box::new(alloc, ArrayVec::new())?)?;
+        blocks.push(Block::new(alloc)?)?;
     }
     Ok(())
 }
