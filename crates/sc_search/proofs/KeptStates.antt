@@ -1,10 +1,7 @@
 -- States that are kept.
-use Rattle.std.proofs.Common.{◌≡◌, ◌⊎◌, ◌++◌, ◌∙◌, inl, inr, ℕ, zero, suc, Bool, true, false, IsTrue, ◌↔◌, List, [], ◌∷◌, Option, Some, None, is_some, Result, Ok, Err, length, map, slice_get, refl, sym, ap}
-use Rattle.std.specs.Option.{option_map}
+use Rattle.std.proofs.Common.{◌≡◌, ◌⊎◌, ◌++◌, ◌∙◌, inl, inr, ℕ, zero, suc, Bool, true, false, IsTrue, ◌↔◌, List, [], ◌∷◌, Option, Some, None, is_some, Result, Ok, Err, length, slice_get, refl, ap}
 use Rattle.std.specs.Prelude.{IfNone, IfOk}
-use Rattle.std.proofs.lemmas.Option.{slice_get-map}
-use Rattle.sc_world.specs.declared.kept_world.KeptWorld.{KeptWorld}
-use Rattle.sc_world.specs.Kept.{PlainKept, kept, kept_of}
+use Rattle.sc_world.specs.Kept.{PlainKept, kept}
 use Rattle.sc_world.specs.Reports.{statuses}
 use Rattle.sc_world.specs.Worlds.{PlainWorld}
 use Rattle.sc_search.specs.declared.aims.Aim.{Aim}
@@ -34,13 +31,6 @@ pub same_some : {X : Type 0} (x y : X) → Some x ≡ Some y → x ≡ y
 same_some x y e = cc
 
 -- ---- worlds
-
--- the state at a place is that of what is kept there
-pub stands_there : (ws : List KeptWorld) (i : ℕ) (k : KeptWorld) (x : PlainKept) (b : Bool) → Some k ≡ slice_get ws i → (IsTrue b ↔ kept_of k ≡ x) →
-    IsTrue b ↔ slice_get (map kept_of ws) i ≡ Some x
-stands_there ws i k x b at same =
-    let stood : slice_get (map kept_of ws) i ≡ Some (kept_of k) = slice_get-map kept_of ws i ∙ ap (option_map kept_of) (sym at) in
-    (λ is. stood ∙ ap Some (same.0 is), λ e. same.1 (same_some (kept_of k) x (sym stood ∙ e)))
 
 pub unmet_not : (b : Bool) (P : Type 0) → b ≡ false → (IsTrue b ↔ P) → P → ⊥
 unmet_not true P e is p = let no : true ≡ false = e in cc

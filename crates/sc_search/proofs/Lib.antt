@@ -1,8 +1,14 @@
-mod LineTurns
 mod KeptStates
+mod Numbers
+mod Stores
+mod LineTurns
 mod OrderEnds
-mod TriedTurns
 mod Reasons
+mod TriedTurns
+mod Orders
+mod Loaded
+mod LoadedStates
+mod Waits
+mod IdleHandlers
 mod Verdicts
 mod Rows
-mod Waits

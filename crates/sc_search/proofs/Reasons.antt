@@ -25,7 +25,7 @@ use Rattle.sc_search.proofs.KeptStates.{get_before, get_either, get_last}
 
 -- ---- lists
 
-there_is : {X : Type 0} (xs : List X) (i : ℕ) → i < length xs → (x : X) × (slice_get xs i ≡ Some x)
+pub there_is : {X : Type 0} (xs : List X) (i : ℕ) → i < length xs → (x : X) × (slice_get xs i ≡ Some x)
 there_is [] i below = absurd (omega (arith, below))
 there_is (x ∷ xs) zero below = (x, refl)
 there_is (x ∷ xs) (suc i) below = there_is xs i (omega (arith, below))

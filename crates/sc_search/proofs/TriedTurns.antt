@@ -15,7 +15,7 @@ use Rattle.sc_world.specs.Turning.{IsTurn, Runs, TurnsUnder}
 use Rattle.sc_world.specs.Worlds.{PlainWorld, opened}
 use Rattle.sc_world.proofs.Runs.{runs-more}
 use Rattle.sc_search.specs.declared.aims.Aim.{Aim}
-use Rattle.sc_search.specs.Closed.{IsAmong, IsClosed, IsTried, IsUnmet}
+use Rattle.sc_search.specs.Closed.{IsAmong, IsClosed, IsUnmet}
 use Rattle.sc_search.specs.Aims.{IsMet}
 use Rattle.sc_search.specs.Steps.{AddsEdge, AreTurns, AreUnmet, Extends, IsEdge, IsExplored, IsTriedAlong, IsTriedAt, Keeps, Opens, OpensAlone, Stands, Tries, TriesAll}
 use Rattle.sc_search.specs.Views.{Met, nothing_met}
@@ -175,10 +175,6 @@ module _ (p : Image) (v : Version) (a : Aim) where
   pub tries_first : (x : Met) (number : ℕ) → TriesBelow x x number 0
   tries_first x number = record { extends = extends_none x; tried = λ h few. absurd (omega (arith, few)) }
 
-  pub stands_along : (ks : List PlainKept) (number : ℕ) (hs gs path : List ℕ) (x : PlainWorld) → hs ≡ path → gs ≡ path → Runs hs (opened p v) x → slice_get ks number ≡ Some (kept x) →
-      Stands p v ks number gs x
-  stands_along ks number hs gs path x e f runs at = record { runs = subst (λ (ts : List ℕ). Runs ts (opened p v) x) (e ∙ sym f) runs; stands = at }
-
   pub stands_still : (x y : Met) (number : ℕ) (hs : List ℕ) (w : PlainWorld) → Extends p v a x y → Stands p v x.states number hs w → Stands p v y.states number hs w
   stands_still x y number hs w e stands = record { runs = stands.runs; stands = e.stay number (kept w) stands.stands }
 
@@ -203,13 +199,13 @@ module _ (p : Image) (v : Version) (a : Aim) where
       by false true j e = absurd (omega (arith, past, ltb-true h c.state.count e))
 
   pub tries_all : (x y : Met) (number : ℕ) (hs : List ℕ) (w : PlainWorld) (below : ℕ) → TriesBelow x y number below → Stands p v x.states number hs w →
-      w.center.state.count ≤ below → TriesAll p v a x y number
+      ((h : ℕ) → below ≤ h → pick_for h w.center ≡ None) → TriesAll p v a x y number
   tries_all x y number hs w below so stands all = record {
     extends = so.extends;
     tried = λ h k here. elim (cases_lt h below) [
       | inl less ↦ so.tried h less k here
       | inr more ↦
-          stays_tried number h hs w y (stands_still x y number hs w so.extends stands) (none_past h w.center (omega (arith, all, more))) k (so.extends.stay number k here)
+          stays_tried number h hs w y (stands_still x y number hs w so.extends stands) (all h (omega (arith, more))) k (so.extends.stay number k here)
     ];
   }
 

@@ -1,13 +1,11 @@
 -- Handlers that wait for good.
-use Rattle.std.proofs.Common.{◌≡◌, ◌⊎◌, ◌↔◌, ◌<◌, ◌≤◌, ◌^◌, ◌+◌, ◌++◌, ◌∙◌, ◌||◌, inl, inr, ℕ, zero, suc, Bool, true, false, List, [], ◌∷◌, Option, Some, None, Result, Ok, Err, get_or, is_some, length, map, slice_get, take, refl, sym, ap, subst, arith}
+use Rattle.std.proofs.Common.{◌≡◌, ◌↔◌, ◌<◌, ◌≤◌, ◌^◌, ◌+◌, ◌++◌, ◌∙◌, ◌||◌, inl, inr, ℕ, zero, suc, Bool, true, false, List, [], ◌∷◌, Option, Some, None, Result, Ok, Err, get_or, is_some, length, slice_get, take, refl, sym, ap, subst, arith}
 use Rattle.std.specs.List.{list_any}
 use Rattle.std.specs.Prelude.{IfNone, IfOk, IfSome, nat_lt, if◌then◌else◌}
 use Rattle.std.proofs.lemmas.Bool.{cases_lt}
 use Rattle.std.proofs.lemmas.List.FromFn.{get_or-map-range_with_len}
 use Rattle.std.proofs.lemmas.List.{get_or_past, take_more}
-use Rattle.std.proofs.lemmas.Option.{slice_get_within}
-use Rattle.std.specs.declared.alloc.Global.{Global}
-use Rattle.std.specs.declared.vec.Vec.{Vec}
+use Rattle.std.proofs.lemmas.Option.{get_or_from_slice_get, slice_get_within}
 use Rattle.sc_lockpass.specs.Versions.{most_handlers}
 use Rattle.sc_lockpass.specs.declared.version.Version.{Version}
 use Rattle.sc_model.specs.declared.cause.Cause.{Cause}
@@ -43,20 +41,16 @@ use Rattle.sc_search.proofs.TriedTurns.{none_past}
 -- ---- columns
 
 -- the row of a state, and what stands in a column for it
-column_at : (k : Kind) (h : ℕ) (rows : List (Vec Status Global)) (i : ℕ) (ss : List Status) →
-    slice_get (map (λ (r : Vec Status Global). r.items) rows) i ≡ Some ss → get_or (column k h rows) i false ≡ is_of k (get_or ss h Free)
+column_at : (k : Kind) (h : ℕ) (rows : List (List Status)) (i : ℕ) (ss : List Status) →
+    slice_get rows i ≡ Some ss → get_or (column k h rows) i false ≡ is_of k (get_or ss h Free)
 column_at k h [] i ss at = cc
-column_at k h (r ∷ rows) zero ss at = ap (λ (xs : List Status). is_of k (get_or xs h Free)) (same_some r.items ss at)
+column_at k h (r ∷ rows) zero ss at = ap (λ (xs : List Status). is_of k (get_or xs h Free)) (same_some r ss at)
 column_at k h (r ∷ rows) (suc i) ss at = column_at k h rows i ss at
 
-within_column : (k : Kind) (h : ℕ) (rows : List (Vec Status Global)) (i : ℕ) → get_or (column k h rows) i false ≡ true → i < length rows
+within_column : (k : Kind) (h : ℕ) (rows : List (List Status)) (i : ℕ) → get_or (column k h rows) i false ≡ true → i < length rows
 within_column k h [] i e = cc
 within_column k h (r ∷ rows) zero e = omega arith
 within_column k h (r ∷ rows) (suc i) e = let more = within_column k h rows i e in omega (arith, more)
-
-items_long : (rs : List (Vec Status Global)) → length (map (λ (r : Vec Status Global). r.items) rs) ≡ length rs
-items_long [] = refl
-items_long (r ∷ rs) = ap suc (items_long rs)
 
 -- ---- states that are explored
 
@@ -67,8 +61,8 @@ module _ (alike : KeptAlikeReadAlike) (open_of : OpeningsAreOf) (stay : RunsStay
   same_statuses : (w u : PlainWorld) → IsPlayed p v w → IsPlayed p v u → kept w ≡ kept u → statuses w ≡ statuses u
   same_statuses w u played its same = (alike p (most_handlers v) w u (record { of = of_program w played; its = of_program u its; same = same })).statuses
 
-  module _ (a : Aim) (x : Met) (os : List (List ℕ)) (rows : List (Vec Status Global)) (turns : ℕ) (explored : IsExplored p v x)
-      (reached : AreReached p v a x.states os (map (λ (r : Vec Status Global). r.items) rows) turns) where
+  module _ (a : Aim) (x : Met) (os : List (List ℕ)) (rows : List (List Status)) (turns : ℕ) (explored : IsExplored p v x)
+      (reached : AreReached p v a x.states os (rows) turns) where
     -- the world was played, and is in the state of the number
     abbrev InState : ℕ → PlainWorld → Type 0
     InState i w = IsPlayed p v w × (slice_get x.states i ≡ Some (kept w))
@@ -122,7 +116,7 @@ module _ (alike : KeptAlikeReadAlike) (open_of : OpeningsAreOf) (stay : RunsStay
     left_is_stuck h number left = record {
       there =
           let below = within_column kind.IsWaiting h rows number left.waits in
-          omega (arith, below, reached.rows, items_long rows);
+          omega (arith, below, reached.rows);
       waits = λ w played at. (
         h,
         record { waits_now = sym (told kind.IsWaiting h number w (played, at)) ∙ left.waits; never = (tell h number w (played, at)).never left.left },
@@ -146,10 +140,10 @@ module _ (alike : KeptAlikeReadAlike) (open_of : OpeningsAreOf) (stay : RunsStay
         let t = explored.turns place e at in
         let from = slice_get_within x.states e.from (kept t.before) t.from in
         let to = slice_get_within x.states e.to (kept t.after) t.to in
-        (omega (arith, from, reached.rows, items_long rows), omega (arith, to, reached.rows, items_long rows))
+        (omega (arith, from, reached.rows), omega (arith, to, reached.rows))
 
     pub rows_few : length rows < 2 ^ 32
-    rows_few = omega (arith, explored.few, reached.rows, items_long rows)
+    rows_few = omega (arith, explored.few, reached.rows)
 
 -- ---- where no handler has a turn
 
@@ -176,7 +170,7 @@ none_where P (s ∷ ss) (suc h) not_free none = none_where P ss h not_free (rest
     rest_false true c e = let no : true ≡ false = e in cc
     rest_false false c e = e
 
-module _ (p : Image) (v : Version) (a : Aim) (w : PlainWorld) (none : some_is kind.IsBusy (statuses w) ≡ false) where
+module _ (p : Image) (v : Version) (a : Aim) (w : PlainWorld) where
   -- one that has failed has no job
   dead : (h : ℕ) (s : State) (why : Cause) → (s.handlers h).failure ≡ Some why → job_of h s ≡ None
   dead h s why e = ap (λ (f : Option Cause). if nat_lt h s.count then job_with h f (s.handlers h) s else None) e ∙ by (nat_lt h s.count) None
@@ -193,16 +187,21 @@ module _ (p : Image) (v : Version) (a : Aim) (w : PlainWorld) (none : some_is ki
   no_job_by (Some c) true j stage idle dead = refl
   no_job_by (Some c) false j stage idle dead = dead c refl
 
-  no_job : (h : ℕ) → pick_for h w.center ≡ None
-  no_job h = elim (cases_lt h w.center.state.count) [
+  -- one whose status isn't busy has none
+  pub idle_job : (h : ℕ) → is_of kind.IsBusy (get_or (statuses w) h Free) ≡ false → pick_for h w.center ≡ None
+  idle_job h none = elim (cases_lt h w.center.state.count) [
     | inl few ↦
         let at : get_or (statuses w) h Free ≡ status_in h w.center =
         get_or-map-range_with_len (λ (k : ℕ). status_in k w.center) 0 w.center.state.count h h Free few (omega arith) in
-        let idle : is_of kind.IsBusy (status_in h w.center) ≡ false = sym (ap (is_of kind.IsBusy) at) ∙ none_where (is_of kind.IsBusy) (statuses w) h refl none in
+        let idle : is_of kind.IsBusy (status_in h w.center) ≡ false = sym (ap (is_of kind.IsBusy) at) ∙ none in
         no_job_by (w.center.state.handlers h).failure (is_some (w.center.out h)) (job_of h w.center.state) (w.center.state.handlers h).stage idle
         (λ c e. dead h w.center.state c e)
     | inr past ↦ none_past p v a h w.center (omega (arith, past))
   ]
+
+module _ (p : Image) (v : Version) (a : Aim) (w : PlainWorld) (none : some_is kind.IsBusy (statuses w) ≡ false) where
+  no_job : (h : ℕ) → pick_for h w.center ≡ None
+  no_job h = idle_job p v a w h (none_where (is_of kind.IsBusy) (statuses w) h refl none)
 
   stays_there : (played : IsPlayed p v w) (hs : List ℕ) → orders.Leads (IsAnewTurn p v) hs w w
   stays_there played [] = refl
@@ -236,27 +235,28 @@ waits_sought p v aim.Any w seeks waits = inl waits
 
 -- ---- what is computed
 
-column_append : (k : Kind) (h : ℕ) (xs ys : List (Vec Status Global)) → column k h (xs ++ ys) ≡ column k h xs ++ column k h ys
+column_append : (k : Kind) (h : ℕ) (xs ys : List (List Status)) → column k h (xs ++ ys) ≡ column k h xs ++ column k h ys
 column_append k h [] ys = refl
-column_append k h (r ∷ xs) ys = ap (λ (bs : List Bool). is_of k (get_or r.items h Free) ∷ bs) (column_append k h xs ys)
+column_append k h (r ∷ xs) ys = ap (λ (bs : List Bool). is_of k (get_or r h Free) ∷ bs) (column_append k h xs ys)
 
-pub column_more : (k : Kind) (h : ℕ) (rows : List (Vec Status Global)) (i : ℕ) (d : Vec Status Global) → i < length rows →
-    column k h (take i rows) ++ is_of k (get_or (get_or rows i d).items h Free) ∷ [] ≡ column k h (take (i + 1) rows)
-column_more k h rows i d below =
-    sym (ap (λ (rs : List (Vec Status Global)). column k h rs) (take_more rows i d below) ∙ column_append k h (take i rows) (get_or rows i d ∷ []))
+pub column_more : (k : Kind) (h : ℕ) (rows : List (List Status)) (i : ℕ) (row : List Status) → slice_get rows i ≡ Some row →
+    column k h (take i rows) ++ is_of k (get_or row h Free) ∷ [] ≡ column k h (take (i + 1) rows)
+column_more k h rows i row at =
+    ap (λ (r : List Status). column k h (take i rows) ++ is_of k (get_or r h Free) ∷ []) (sym (get_or_from_slice_get rows i row row at))
+    ∙ sym (ap (λ (rs : List (List Status)). column k h rs) (take_more rows i row (slice_get_within rows i row at)) ∙ column_append k h (take i rows) (get_or rows i row ∷ []))
 
 -- a handler that no row has doesn't wait
-pub none_waits_past : (h : ℕ) (rows : List (Vec Status Global)) → ((i : ℕ) (r : Vec Status Global) → slice_get rows i ≡ Some r → length r.items ≤ h) → (number : ℕ) →
+pub none_waits_past : (h : ℕ) (rows : List (List Status)) → ((i : ℕ) (r : List Status) → slice_get rows i ≡ Some r → length r ≤ h) → (number : ℕ) →
     get_or (column kind.IsWaiting h rows) number false ≡ true → ⊥
 none_waits_past h [] few number e = let no : false ≡ true = e in cc
 none_waits_past h (r ∷ rows) few zero e =
-    let free : get_or r.items h Free ≡ Free = get_or_past r.items h Free (few 0 r refl) in
+    let free : get_or r h Free ≡ Free = get_or_past r h Free (few 0 r refl) in
     let no : false ≡ true = sym (ap (is_of kind.IsWaiting) free) ∙ e in
     cc
 none_waits_past h (r ∷ rows) few (suc number) e = none_waits_past h rows (λ i s at. few (suc i) s at) number e
 
 -- the first one that is left, or that none is
-pub is_left : (edges : List Edge) (rows : List (Vec Status Global)) (h number : ℕ) (waiting busy moves : List Bool) → waiting ≡ column kind.IsWaiting h rows →
+pub is_left : (edges : List Edge) (rows : List (List Status)) (h number : ℕ) (waiting busy moves : List Bool) → waiting ≡ column kind.IsWaiting h rows →
     busy ≡ column kind.IsBusy h rows → ((state : ℕ) → (get_or moves state false ≡ true) ↔ Leads edges busy state) → get_or waiting number false ≡ true →
     get_or moves number false ≡ false → IsLeft edges rows h number
 is_left edges rows h number waiting busy moves same_waiting same_busy tell waits none = record {
@@ -267,7 +267,7 @@ is_left edges rows h number waiting busy moves same_waiting same_busy tell waits
       cc;
 }
 
-pub are_led : (edges : List Edge) (rows : List (Vec Status Global)) (h : ℕ) (waiting busy moves : List Bool) → waiting ≡ column kind.IsWaiting h rows →
+pub are_led : (edges : List Edge) (rows : List (List Status)) (h : ℕ) (waiting busy moves : List Bool) → waiting ≡ column kind.IsWaiting h rows →
     busy ≡ column kind.IsBusy h rows → ((state : ℕ) → (get_or moves state false ≡ true) ↔ Leads edges busy state) →
     ((number : ℕ) → get_or waiting number false ≡ true → get_or moves number false ≡ true) → (number : ℕ) → IsLed edges rows h number
 are_led edges rows h waiting busy moves same_waiting same_busy tell all number waits =

@@ -4,7 +4,10 @@ pub mod Found
 pub mod Ends
 pub mod Closed
 pub mod Limits
+pub mod Numbering
+pub mod Tuples
 pub mod Steps
 pub mod Views
+pub mod Stored
 pub mod Stops
 pub mod Verdicts

@@ -1,12 +1,13 @@
 -- What a search has played, and why it stops.
 use Rattle.std.specs.Prelude.{◌≡◌, ◌++◌, ℕ, Bool, true, false, List, Option, Some, None, length, slice_get}
+use Rattle.sc_lockpass.specs.Versions.{most_handlers}
 use Rattle.sc_lockpass.specs.declared.version.Version.{Version}
 use Rattle.sc_model.specs.declared.status.Status.{Status}
 use Rattle.sc_code.specs.declared.program.Image.{Image}
-use Rattle.sc_world.specs.Kept.{PlainKept, kept}
+use Rattle.sc_world.specs.Views.{world_in}
+use Rattle.sc_world.specs.Kept.{IsOf, PlainKept, kept}
 use Rattle.sc_world.specs.Reports.{statuses}
 use Rattle.sc_world.specs.Turning.{Runs}
-use Rattle.sc_world.specs.Views.{world_of}
 use Rattle.sc_world.specs.Worlds.{PlainWorld, opened}
 use Rattle.sc_search.specs.declared.aims.Aim.{Aim}
 use Rattle.sc_search.specs.declared.movers.Rest.{Rest}
@@ -19,6 +20,7 @@ use Rattle.sc_search.specs.declared.verdict.Finding.{Finding}
 use Rattle.sc_search.specs.declared.verdict.Finding.TheVariants as finding
 use Rattle.sc_search.specs.Aims.{IsMet}
 use Rattle.sc_search.specs.Limits.{ArePlayed, GivesUp, SaysWhyFor}
+use Rattle.sc_search.specs.Stored.{IsAlikeAfter, IsStored}
 use Rattle.sc_search.specs.Views.{orders_of, states_of, statuses_of}
 
 -- The order of the number leads to a world in the state, whose statuses are those that are kept and don't show what
@@ -41,8 +43,11 @@ pub record AreReached (p : Image) (v : Version) (a : Aim) (ks : List PlainKept) 
   pub rows : length told ≡ length ks
   pub played : ArePlayed p v turns
 
-abbrev pub HasReached : Image → Version → Aim → Progress → Type 0
-HasReached p v a x = AreReached p v a (states_of x) (orders_of x) (statuses_of x) x.turns
+-- Each state is reached so, and the world that is played in is of the program, as what is kept is.
+pub record HasReached (p : Image) (v : Version) (a : Aim) (x : Progress) : Type 0 where
+  pub reached : AreReached p v a (states_of x) (orders_of x) (statuses_of x) x.turns
+  pub stored : IsStored p x.store
+  pub of : IsOf p (most_handlers v) (world_in x.world)
 
 -- ---- why a search stops
 
@@ -109,7 +114,7 @@ pub record Moves (before after : List ℕ) (x y : PlainWorld) : Type 0 where
   pub runs : Runs more x y
 
 -- where the turns led
-abbrev pub RestsAt : Image → Version → Aim → List ℕ → Rest → Type 0
-RestsAt p v a turns rest.Met = MeetsAfter p v a turns
-RestsAt p v a turns (rest.At world) = Runs turns (opened p v) (world_of world)
-RestsAt p v a turns rest.Endless = Unit {0}
+abbrev pub RestsAt : Image → Version → Aim → List ℕ → PlainWorld → Rest → Type 0
+RestsAt p v a turns w rest.Met = MeetsAfter p v a turns
+RestsAt p v a turns w rest.Reached = IsAlikeAfter p v turns w
+RestsAt p v a turns w rest.Endless = Unit {0}

@@ -1,7 +1,5 @@
 -- Handlers that wait for good.
 use Rattle.std.specs.Prelude.{◌≡◌, ◌⊎◌, ◌<◌, ℕ, Bool, true, false, List, Some, get_or, length, map, slice_get}
-use Rattle.std.specs.declared.alloc.Global.{Global}
-use Rattle.std.specs.declared.vec.Vec.{Vec}
 use Rattle.sc_lockpass.specs.declared.version.Version.{Version}
 use Rattle.sc_model.specs.declared.status.Status.{Status}
 use Rattle.sc_model.specs.declared.status.Status.TheVariants.{Free}
@@ -74,16 +72,16 @@ AreMoving p v a ks = seeks_stuck a ≡ true → (i : ℕ) (k : PlainKept) → sl
 -- ---- the statuses of states
 
 -- for each state whether the status of the handler is of this kind in it
-abbrev pub column : Kind → ℕ → List (Vec Status Global) → List Bool
-column k h rows = map (λ (r : Vec Status Global). is_of k (get_or r.items h Free)) rows
+abbrev pub column : Kind → ℕ → List (List Status) → List Bool
+column k h rows = map (λ (r : List Status). is_of k (get_or r h Free)) rows
 
 -- The handler waits in the state, and no edges lead from there to a state in which it has a turn.
-pub record IsLeft (edges : List Edge) (rows : List (Vec Status Global)) (h number : ℕ) : Type 0 where
+pub record IsLeft (edges : List Edge) (rows : List (List Status)) (h number : ℕ) : Type 0 where
   pub waits : get_or (column kind.IsWaiting h rows) number false ≡ true
   pub left : Leads edges (column kind.IsBusy h rows) number → ⊥
 
 -- If it waits in the state, edges lead from there to one in which it has a turn.
-abbrev pub IsLed : List Edge → List (Vec Status Global) → ℕ → ℕ → Type 0
+abbrev pub IsLed : List Edge → List (List Status) → ℕ → ℕ → Type 0
 IsLed edges rows h number =
     get_or (column kind.IsWaiting h rows) number false ≡ true → Leads edges (column kind.IsBusy h rows) number
 

@@ -1,14 +1,16 @@
 //! The search over choices alone.
-ghost use Rattle.std.specs.Prelude.{IfNone, IfOk, IfSome};
+ghost use Rattle.std.specs.Prelude.{◌≡◌, ◌≤◌, ◌<◌, [], IfNone, IfOk, IfSome, length};
 ghost use Rattle.sc_search.specs.Stops.{ChoiceStopsFor, HasReached};
+ghost use Rattle.sc_search.specs.Stored.{IsFrom};
+ghost use Rattle.sc_search.specs.Views.{states_of};
 
+use crate::judging::{Kind, is_at};
 use crate::movers::{Rest, play_movers};
 use crate::progress::{Progress, Stop, Way};
-use crate::replay::{Subject, world_after};
+use crate::replay::Subject;
 use crate::watch::Watch;
 use sc_lockpass::HandlerNumber;
-use sc_request::Core;
-use std::alloc::{AllocError, Global};
+use std::alloc::AllocError;
 
 /// Plays choices in every order, and movers after each, as long as at most this number of states are kept. Returns
 /// why it stopped before all was played.
@@ -21,26 +23,22 @@ pub(crate) fn play_choices<'p, W: Watch>(
     limit: u32,
     watch: &mut W,
 ) -> Result<Option<Stop>, AllocError>
-    requires { HasReached subject.program.now.image subject.version subject.aim progress.old }
+    requires none { states_of progress.old ≡ [] }
+    requires reached { HasReached subject.program.now.image subject.version subject.aim progress.old }
     ensures reached { IfOk result (λ stop. IfNone stop (HasReached subject.entry.program.now.image subject.entry.version subject.entry.aim progress.new)) }
     ensures stops { IfOk result (λ stop. IfSome stop (ChoiceStopsFor subject.entry.program.now.image subject.entry.version subject.entry.aim limit)) }
 {
-    let opening = Way {
-        parent: None,
-        turns: Vec::new(subject.alloc),
-        from: 0,
-    };
-    if let Some(stop) = follow(subject, progress, opening, limit)? {
+    if let Some(stop) = follow(subject, progress, None, Vec::new(subject.alloc), limit)? {
         return Ok(Some(stop));
     }
     for number in 0..limit {
-        if number >= progress.states.len() {
+        if number >= progress.store.len() {
             break;
         }
         if let Some(stop) = choose(subject, progress, number, limit)? {
             return Ok(Some(stop));
         }
-        watch.kept(progress.states.len());
+        watch.kept(progress.store.len());
     }
     Ok(None)
 }
@@ -52,65 +50,47 @@ fn choose<'p>(
     number: u32,
     limit: u32,
 ) -> Result<Option<Stop>, AllocError>
-    requires { HasReached subject.program.now.image subject.version subject.aim progress.old }
+    requires there { number < length (states_of progress.old) }
+    requires reached { HasReached subject.program.now.image subject.version subject.aim progress.old }
     ensures reached { IfOk result (λ stop. IfNone stop (HasReached subject.entry.program.now.image subject.entry.version subject.entry.aim progress.new)) }
     ensures stops { IfOk result (λ stop. IfSome stop (ChoiceStopsFor subject.entry.program.now.image subject.entry.version subject.entry.aim limit)) }
+    ensures more { IfOk result (λ stop. IfNone stop (length (states_of progress.old) ≤ length (states_of progress.new))) }
 {
-    let path = progress.states.order(number)?;
-    let choices = choices_after(subject, &path)?;
-    for handler in choices.as_slice() {
-        let mut turns = path.clone()?;
-        turns.push(*handler)?;
-        let way = Way {
-            parent: Some(number),
-            turns,
-            from: path.len(),
-        };
-        if let Some(stop) = follow(subject, progress, way, limit)? {
+    for handler in 0..progress.store.statuses(number).len() {
+        if !is_at(Kind::IsBusy, progress.store.statuses(number), handler) {
+            continue;
+        }
+        let mut turns = Vec::new(subject.alloc);
+        turns.push(handler as HandlerNumber)?;
+        if let Some(stop) = follow(subject, progress, Some(number), turns, limit)? {
             return Ok(Some(stop));
         }
     }
     Ok(None)
 }
 
-/// The handlers that have a job after these turns.
-///
-/// # Errors
-/// Memory ran out.
-fn choices_after(
-    subject: Subject<'_>,
-    turns: &[HandlerNumber],
-) -> Result<Vec<HandlerNumber>, AllocError> {
-    let world = world_after(subject, turns)?;
-    choices_in(subject.alloc, world.core())
-}
-
-/// The handlers that have a job in this core.
-fn choices_in(alloc: Global, core: &Core) -> Result<Vec<HandlerNumber>, AllocError> {
-    let mut choices = Vec::new(alloc);
-    for handler in 0..core.handler_count() {
-        let handler = handler as HandlerNumber;
-        if core.pick_for(handler).is_some() {
-            choices.push(handler)?;
-        }
-    }
-    Ok(choices)
-}
-
-/// Plays movers after the turns of a way, and keeps the state that they lead to.
+/// Plays movers after turns from a state, or from the opening, and keeps the state that they lead to.
 fn follow<'p>(
     subject: Subject<'p>,
     progress: &mut Progress<'p>,
-    mut way: Way,
+    parent: Option<u32>,
+    mut turns: Vec<HandlerNumber>,
     limit: u32,
 ) -> Result<Option<Stop>, AllocError>
-    requires { HasReached subject.program.now.image subject.version subject.aim progress.old }
+    requires from { IsFrom (states_of progress.old) parent }
+    requires reached { HasReached subject.program.now.image subject.version subject.aim progress.old }
     ensures reached { IfOk result (λ stop. IfNone stop (HasReached subject.entry.program.now.image subject.entry.version subject.entry.aim progress.new)) }
     ensures stops { IfOk result (λ stop. IfSome stop (ChoiceStopsFor subject.entry.program.now.image subject.entry.version subject.entry.aim limit)) }
+    ensures more { IfOk result (λ stop. IfNone stop (length (states_of progress.old) ≤ length (states_of progress.new))) }
 {
-    match play_movers(subject, &mut way.turns)? {
-        Rest::Met => Ok(Some(Stop::Met(way.turns))),
+    let rest = play_movers(subject, progress, parent, &mut turns)?;
+    let way = Way {
+        parent,
+        turns: &turns,
+    };
+    match rest {
+        Rest::Met => Ok(Some(Stop::Met(progress.order_of(way)?))),
         Rest::Endless => Ok(Some(Stop::Endless)),
-        Rest::At(world) => progress.keep(subject, world, way, limit),
+        Rest::Reached => progress.keep(subject, way, limit),
     }
 }

@@ -1,16 +1,21 @@
 //! The search over all turns.
 ghost use Rattle.std.specs.Prelude.{◌≡◌, ◌<◌, IfNone, IfOk, IfSome, length};
-ghost use Rattle.sc_world.specs.Views.{world_of};
+ghost use Rattle.sc_world.specs.Views.{world_in};
+ghost use Rattle.sc_world.specs.Worlds.{opened};
 ghost use Rattle.sc_search.specs.Closed.{IsClosedFor};
-ghost use Rattle.sc_search.specs.Steps.{IsExplored, IsLedTo, OpensAlone, Stands, Tries, TriesAll};
+ghost use Rattle.sc_search.specs.Steps.{IsExplored, OpensAlone, Tries, TriesAll};
 ghost use Rattle.sc_search.specs.Stops.{HasReached, StopsFor};
 ghost use Rattle.sc_search.specs.Views.{met_of, nothing_met, states_of};
 
+use crate::judging::{Kind, is_at};
 use crate::progress::{Progress, Stop, Way};
-use crate::replay::{Subject, world_after};
+use crate::replay::Subject;
 use crate::watch::Watch;
 use sc_lockpass::HandlerNumber;
-use sc_world::World;
+use sc_world::laws::{
+    kept_alike_read_alike, kept_alike_turn_alike, openings_are_of_their_program,
+    runs_stay_of_their_program,
+};
 use std::alloc::AllocError;
 
 /// Plays each turn of each state, as long as at most this number of states are kept. Returns why it stopped before
@@ -25,6 +30,7 @@ pub(crate) fn play_all<'p, W: Watch>(
     watch: &mut W,
 ) -> Result<Option<Stop>, AllocError>
     requires none { met_of progress.old ≡ nothing_met }
+    requires opens { world_in progress.old.world ≡ opened subject.program.now.image subject.version }
     requires reached { HasReached subject.program.now.image subject.version subject.aim progress.old }
     ensures closed { IfOk result (λ stop. IfNone stop (IsClosedFor subject.entry (states_of progress.new))) }
     ensures explored { IfOk result (λ stop. IfNone stop (IsExplored subject.entry.program.now.image subject.entry.version (met_of progress.new))) }
@@ -36,16 +42,16 @@ pub(crate) fn play_all<'p, W: Watch>(
     }
     let mut number = 0;
     for _ in 0..limit {
-        if number >= progress.states.len() {
+        if number >= progress.store.len() {
             break;
         }
         if let Some(stop) = try_all(subject, progress, number, limit)? {
             return Ok(Some(stop));
         }
         number += 1;
-        watch.kept(progress.states.len());
+        watch.kept(progress.store.len());
     }
-    if number < progress.states.len() || number == u32::MAX {
+    if number < progress.store.len() || number == u32::MAX {
         return Ok(Some(Stop::Cut));
     }
     Ok(None)
@@ -58,19 +64,18 @@ fn keep_opening<'p>(
     limit: u32,
 ) -> Result<Option<Stop>, AllocError>
     requires none { met_of progress.old ≡ nothing_met }
+    requires opens { world_in progress.old.world ≡ opened subject.program.now.image subject.version }
     requires reached { HasReached subject.program.now.image subject.version subject.aim progress.old }
-    ensures opens { IfOk result (λ stop. IfNone stop (OpensAlone subject.entry.program.now.image subject.entry.version subject.entry.aim (met_of progress.new))) }
+    ensures opens { IfOk result (λ stop. IfNone stop
+        (OpensAlone subject.entry.program.now.image subject.entry.version subject.entry.aim (met_of progress.new))) }
     ensures reached { IfOk result (λ stop. IfNone stop (HasReached subject.entry.program.now.image subject.entry.version subject.entry.aim progress.new)) }
     ensures stops { IfOk result (λ stop. IfSome stop (StopsFor subject.entry.program.now.image subject.entry.version subject.entry.aim limit)) }
 {
-    let turns = Vec::new(subject.alloc);
-    let world = world_after(subject, &turns)?;
     let opening = Way {
         parent: None,
-        turns,
-        from: 0,
+        turns: &[],
     };
-    progress.keep(subject, world, opening, limit)
+    progress.keep(subject, opening, limit)
 }
 
 /// Tries the turn of each handler in a state.
@@ -87,70 +92,63 @@ fn try_all<'p>(
     ensures reached { IfOk result (λ stop. IfNone stop (HasReached subject.entry.program.now.image subject.entry.version subject.entry.aim progress.new)) }
     ensures stops { IfOk result (λ stop. IfSome stop (StopsFor subject.entry.program.now.image subject.entry.version subject.entry.aim limit)) }
 {
-    let path = progress.states.order(number)?;
-    let world = world_after(subject, &path)?;
-    if !progress.states.is_at(number, &world) {
-        return Ok(Some(Stop::Cut));
-    }
-    for place in 0..world.core().handler_count() {
-        let handler = place as HandlerNumber;
-        if let Some(stop) = try_turn(subject, progress, number, &world, &path, handler, limit)? {
+    for handler in 0..progress.store.statuses(number).len() {
+        if let Some(stop) = try_turn(subject, progress, number, handler as HandlerNumber, limit)? {
             return Ok(Some(stop));
         }
     }
     Ok(None)
 }
 
-/// Tries the turn of a handler in the state of a number, to which these turns led this world.
+/// Tries the turn of a handler in a state.
 fn try_turn<'p>(
     subject: Subject<'p>,
     progress: &mut Progress<'p>,
     number: u32,
-    world: &World<'p>,
-    path: &[HandlerNumber],
     handler: HandlerNumber,
     limit: u32,
 ) -> Result<Option<Stop>, AllocError>
-    requires stands { Stands subject.program.now.image subject.version (states_of progress.old) number path.now (world_of world.now) }
+    requires there { number < length (states_of progress.old) }
     requires reached { HasReached subject.program.now.image subject.version subject.aim progress.old }
     ensures tries { IfOk result (λ stop. IfNone stop
         (Tries subject.entry.program.now.image subject.entry.version subject.entry.aim (met_of progress.old) (met_of progress.new) number handler)) }
     ensures reached { IfOk result (λ stop. IfNone stop (HasReached subject.entry.program.now.image subject.entry.version subject.entry.aim progress.new)) }
     ensures stops { IfOk result (λ stop. IfSome stop (StopsFor subject.entry.program.now.image subject.entry.version subject.entry.aim limit)) }
 {
-    if world.core().pick_for(handler).is_none() {
+    if !is_at(
+        Kind::IsBusy,
+        progress.store.statuses(number),
+        handler as usize,
+    ) {
         return Ok(None);
     }
-    move_on(subject, progress, number, path, handler, limit)
+    move_on(subject, progress, number, handler, limit)
 }
 
-/// Makes the turn of a handler in the state of a number, to which these turns led, in a world that is played anew.
+/// Makes the turn of a handler in a state, and keeps the state that it leads to.
 fn move_on<'p>(
     subject: Subject<'p>,
     progress: &mut Progress<'p>,
     number: u32,
-    path: &[HandlerNumber],
     handler: HandlerNumber,
     limit: u32,
 ) -> Result<Option<Stop>, AllocError>
-    requires leads { IsLedTo subject.program.now.image subject.version (states_of progress.old) number path.now }
+    requires there { number < length (states_of progress.old) }
     requires reached { HasReached subject.program.now.image subject.version subject.aim progress.old }
     ensures tries { IfOk result (λ stop. IfNone stop
         (Tries subject.entry.program.now.image subject.entry.version subject.entry.aim (met_of progress.old) (met_of progress.new) number handler)) }
     ensures reached { IfOk result (λ stop. IfNone stop (HasReached subject.entry.program.now.image subject.entry.version subject.entry.aim progress.new)) }
     ensures stops { IfOk result (λ stop. IfSome stop (StopsFor subject.entry.program.now.image subject.entry.version subject.entry.aim limit)) }
 {
-    let mut world = world_after(subject, path)?;
-    if !progress.states.is_at(number, &world) {
-        return Ok(Some(Stop::Cut));
-    }
-    world.turn(handler)?;
-    let mut turns = Vec::from_slice(subject.alloc, path)?;
-    turns.push(handler)?;
+    kept_alike_read_alike();
+    kept_alike_turn_alike();
+    openings_are_of_their_program();
+    runs_stay_of_their_program();
+    progress.load(subject, number)?;
+    progress.turn(subject, handler)?;
     let way = Way {
         parent: Some(number),
-        turns,
-        from: path.len(),
+        turns: &[handler],
     };
-    progress.keep(subject, world, way, limit)
+    progress.keep(subject, way, limit)
 }

@@ -10,7 +10,7 @@ use crate::lines::lines_of;
 use crate::replay::{Subject, world_after};
 use crate::verdict::{End, Order};
 use sc_lockpass::HandlerNumber;
-use sc_world::World;
+use sc_world::{Configuration, World};
 use std::alloc::{AllocError, Global};
 
 /// Turns from the opening on, after which no handler has a job, and the report of what they leave.
@@ -27,7 +27,7 @@ pub(crate) struct FoundEnd {
 pub(crate) fn push_outcome(
     alloc: Global,
     outcomes: &mut Vec<FoundEnd>,
-    world: &World<'_>,
+    world: &Configuration<'_>,
     turns: &[HandlerNumber],
 ) -> Result<(), AllocError> {
     let report = world.report()?;

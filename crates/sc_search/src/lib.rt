@@ -15,7 +15,7 @@ mod movers;
 mod progress;
 mod replay;
 mod searching;
-mod states;
+mod store;
 mod verdict;
 mod waiting;
 mod watch;

@@ -4,17 +4,26 @@
 //! unless no other handler can be in its way; and if it takes a request while another handler may post to it. Any
 //! other is a mover: it does the same before and after the turns of others, so that these needn't be tried before
 //! it.
-ghost use Rattle.std.specs.Prelude.{◌≡◌, IfOk};
-ghost use Rattle.sc_world.specs.Views.{world_of};
-ghost use Rattle.sc_search.specs.Stops.{Moves, RestsAt};
+ghost use Rattle.std.specs.Prelude.{◌≡◌, ℕ, IfOk, OnOk};
+ghost use Rattle.sc_code.specs.declared.program.Image.{Image};
+ghost use Rattle.sc_world.specs.Views.{world_in};
+ghost use Rattle.sc_world.specs.Kept.{IsOf};
+ghost use Rattle.sc_search.specs.Stops.{HasReached, Moves, RestsAt};
+ghost use Rattle.sc_search.specs.Stored.{IsFrom, order_after};
+ghost use Rattle.sc_search.specs.Views.{orders_of, states_of};
 
 use crate::judging::is_met;
-use crate::replay::{Subject, world_after};
+use crate::progress::{Progress, Way};
+use crate::replay::Subject;
 use sc_lockpass::HandlerNumber;
 use sc_model::Status;
 use sc_region::{Job, Want};
 use sc_request::Core;
-use sc_world::World;
+use sc_world::Configuration;
+use sc_world::laws::{
+    kept_alike_read_alike, kept_alike_turn_alike, openings_are_of_their_program,
+    runs_stay_of_their_program,
+};
 use std::alloc::AllocError;
 
 /// How many handlers there may be in any version.
@@ -35,12 +44,12 @@ enum Peek {
 }
 
 /// Where movers led.
-#[derive(Drop)]
-pub(crate) enum Rest<'p> {
+#[derive(Clone, Copy)]
+pub(crate) enum Rest {
     /// On the way what is looked for was met.
     Met,
-    /// No handler has a mover any more.
-    At(World<'p>),
+    /// No handler has a mover any more in the world.
+    Reached,
     /// There were too many of them.
     Endless,
 }
@@ -55,25 +64,37 @@ enum Moved {
     TooMany,
 }
 
-/// Plays movers after these turns until none is left, and adds their turns.
+/// Plays movers after turns from a state, or from the opening, until none is left, and adds their turns.
 ///
 /// # Errors
 /// Memory ran out.
 pub(crate) fn play_movers<'p>(
     subject: Subject<'p>,
+    progress: &mut Progress<'p>,
+    parent: Option<u32>,
     turns: &mut Vec<HandlerNumber>,
-) -> Result<Rest<'p>, AllocError>
-    ensures { IfOk result (RestsAt subject.entry.program.now.image subject.entry.version subject.entry.aim turns.new.items) }
+) -> Result<Rest, AllocError>
+    requires from { IsFrom (states_of progress.old) parent }
+    requires reached { HasReached subject.program.now.image subject.version subject.aim progress.old }
+    ensures store { progress.new.store ≡ progress.old.store }
+    ensures edges { progress.new.edges ≡ progress.old.edges }
+    ensures reached { OnOk result (HasReached subject.entry.program.now.image subject.entry.version subject.entry.aim progress.new) }
+    ensures rests { IfOk result (RestsAt subject.entry.program.now.image subject.entry.version subject.entry.aim
+        (order_after (orders_of progress.old) parent turns.new.items) (world_in progress.new.world)) }
 {
+    kept_alike_read_alike();
+    kept_alike_turn_alike();
+    openings_are_of_their_program();
+    runs_stay_of_their_program();
     let mut peeks = vec![in subject.alloc; Peek::Unknown; MAX_HANDLERS]?;
     for _ in 0..MOST_MOVERS {
-        let mut world = world_after(subject, turns)?;
-        let statuses = world.statuses()?;
+        progress.go(subject, Way { parent, turns })?;
+        let statuses = progress.world.statuses()?;
         if is_met(subject.aim, &statuses) {
             return Ok(Rest::Met);
         }
-        match move_on(&mut world, turns, &mut peeks)? {
-            Moved::All => return Ok(Rest::At(world)),
+        match move_on(&mut progress.world, turns, &mut peeks)? {
+            Moved::All => return Ok(Rest::Reached),
             Moved::Chose => {}
             Moved::TooMany => return Ok(Rest::Endless),
         }
@@ -83,12 +104,14 @@ pub(crate) fn play_movers<'p>(
 
 /// Plays movers in the world, until none is left or one turns out to be a choice, and adds their turns.
 fn move_on(
-    world: &mut World<'_>,
+    world: &mut Configuration<'_>,
     turns: &mut Vec<HandlerNumber>,
     peeks: &mut Vec<Peek>,
 ) -> Result<Moved, AllocError>
-    ensures { IfOk result (λ moved. moved ≡ Moved.All → Moves turns.old.items turns.new.items (world_of world.old) (world_of world.new)) }
+    ensures moves { IfOk result (λ moved. moved ≡ Moved.All → Moves turns.old.items turns.new.items (world_in world.old) (world_in world.new)) }
+    ensures of { OnOk result ((p : Image) (most : ℕ) → IsOf p most (world_in world.old) → IsOf p most (world_in world.new)) }
 {
+    runs_stay_of_their_program();
     for _ in 0..MOST_MOVERS {
         let Some(handler) = next_mover(world.core(), peeks) else {
             return Ok(Moved::All);
@@ -150,7 +173,7 @@ fn is_contested(core: &Core, handler: HandlerNumber) -> bool {
 }
 
 /// What the last turn of the world was: the handler made it, and this was known of it.
-fn peek_behind(world: &World<'_>, handler: HandlerNumber, was: Peek) -> Peek {
+fn peek_behind(world: &Configuration<'_>, handler: HandlerNumber, was: Peek) -> Peek {
     match (world.status(handler), was) {
         (Some(Status::Failed(_)), _) => Peek::Choice,
         (_, Peek::Unknown) => last_peek(world),
@@ -159,7 +182,7 @@ fn peek_behind(world: &World<'_>, handler: HandlerNumber, was: Peek) -> Peek {
 }
 
 /// What the last turn of the world asked, where its handler hasn't failed.
-fn last_peek(world: &World<'_>) -> Peek {
+fn last_peek(world: &Configuration<'_>) -> Peek {
     let log = world.log();
     let Some(settlement) = log.get(log.len().saturating_sub(1)) else {
         return Peek::Choice;

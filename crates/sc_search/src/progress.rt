@@ -1,20 +1,28 @@
 //! How far a search has come.
-ghost use Rattle.std.specs.Prelude.{◌≡◌, IfNone, IfOk, IfSome, OnOk};
-ghost use Rattle.sc_world.specs.Turning.{Runs};
-ghost use Rattle.sc_world.specs.Views.{world_of};
+ghost use Rattle.std.specs.Prelude.{◌≡◌, ◌<◌, [], ℕ, Some, IfNone, IfOk, IfSome, OnOk, get_or, length, slice_get};
+ghost use Rattle.sc_world.specs.Views.{world_in};
+ghost use Rattle.sc_world.specs.Kept.{kept};
+ghost use Rattle.sc_world.specs.Turning.{IsTurn};
+ghost use Rattle.sc_world.specs.Reports as told;
 ghost use Rattle.sc_world.specs.Worlds.{opened};
+ghost use Rattle.sc_search.specs.Aims.{IsMet};
 ghost use Rattle.sc_search.specs.Steps.{AddsEdge, Keeps};
 
 use crate::ends::{FoundEnd, push_outcome};
 use crate::judging::{Kind, is_met, some_is};
 use crate::replay::Subject;
-use crate::states::States;
+use crate::store::Store;
 use sc_lockpass::HandlerNumber;
+use sc_model::Status;
 use sc_orders::Edge;
-use sc_world::World;
+use sc_world::Configuration;
+use sc_world::laws::{
+    kept_alike_read_alike, kept_alike_turn_alike, openings_are_linked,
+    openings_are_of_their_program, runs_stay_linked, runs_stay_of_their_program,
+};
 use std::alloc::AllocError;
 
-/// How many turns may be played anew for each state that may be kept.
+/// How many turns may be played for each state that may be kept.
 const TURNS_A_STATE: u64 = 2_000;
 
 /// Why a search stops before all is played.
@@ -28,48 +36,150 @@ pub(crate) enum Stop {
     Endless,
 }
 
-/// What a search has met.
+/// What a search has met, and the world that it plays in.
 #[derive(Drop)]
 pub(crate) struct Progress<'p> {
-    pub(crate) states: States<'p>,
+    pub(crate) store: Store<'p>,
+    pub(crate) world: Configuration<'p>,
+    /// The numbers of what the world holds. It is written each time that a state is looked for.
+    tuple: Vec<u32>,
     pub(crate) edges: Vec<Edge>,
     pub(crate) outcomes: Vec<FoundEnd>,
-    /// How many turns were played anew.
+    /// How many turns were played.
     turns: u64,
 }
 
-/// A turn, or several, on the way.
-#[derive(Drop)]
-pub(crate) struct Way {
-    /// The state that it leads from, but for the opening.
+/// Turns on the way from a state.
+#[derive(Clone, Copy)]
+pub(crate) struct Way<'w> {
+    /// The state that they lead from, or None for the opening.
     pub(crate) parent: Option<u32>,
-    /// The turns from the opening to the current state.
-    pub(crate) turns: Vec<HandlerNumber>,
-    /// How many of them are those to the state that it leads from.
-    pub(crate) from: usize,
+    pub(crate) turns: &'w [HandlerNumber],
 }
 
 impl<'p> Progress<'p> {
+    ghost use Rattle.sc_search.specs.Stored.{IsAlikeAfter, IsFrom, IsTupleOf, order_after};
     ghost use Rattle.sc_search.specs.Stops.{HasReached, StopsFor};
-    ghost use Rattle.sc_search.specs.Views.{met_of, nothing_met};
+    ghost use Rattle.sc_search.specs.Views.{met_of, nothing_met, orders_of, states_of, tuples_in};
 
-    /// Progress with nothing searched yet.
+    /// Progress with nothing searched yet. The world is the opening.
     ///
     /// # Errors
     /// Memory ran out.
     pub(crate) fn new(subject: Subject<'p>) -> Result<Progress<'p>, AllocError>
         ensures none { IfOk result (λ progress. met_of progress ≡ nothing_met) }
+        ensures opens { IfOk result (λ progress. world_in progress.world ≡ opened subject.entry.program.now.image subject.entry.version) }
         ensures reached { IfOk result (HasReached subject.entry.program.now.image subject.entry.version subject.entry.aim) }
     {
+        openings_are_of_their_program();
         Ok(Progress {
-            states: States::new(subject.alloc)?,
+            store: Store::new(subject.alloc)?,
+            world: Configuration::open(subject.alloc, subject.program, subject.version)?,
+            tuple: Vec::new(subject.alloc),
             edges: Vec::new(subject.alloc),
             outcomes: Vec::new(subject.alloc),
             turns: 0,
         })
     }
 
-    /// Keeps the state of the world to which the way leads, unless it was met before. A long way counts as several
+    /// Brings the world into the state with the number.
+    ///
+    /// # Errors
+    /// Memory ran out.
+    pub(crate) fn load(&mut self, subject: Subject<'p>, number: u32) -> Result<(), AllocError>
+        requires there { number < length (states_of self.old) }
+        requires reached { HasReached subject.program.now.image subject.version subject.aim self.old }
+        ensures store { self.new.store ≡ self.old.store }
+        ensures edges { self.new.edges ≡ self.old.edges }
+        ensures reached { OnOk result (HasReached subject.entry.program.now.image subject.entry.version subject.entry.aim self.new) }
+        ensures after { OnOk result (IsAlikeAfter subject.entry.program.now.image subject.entry.version
+            (get_or (orders_of self.old) number []) (world_in self.new.world)) }
+        ensures stands { OnOk result (slice_get (states_of self.old) number ≡ Some (kept (world_in self.new.world))) }
+    {
+        openings_are_of_their_program();
+        runs_stay_of_their_program();
+        openings_are_linked();
+        runs_stay_linked();
+        self.store.load(subject, &mut self.world, number)?;
+        Ok(())
+    }
+
+    /// Makes the turn of a handler in the world.
+    ///
+    /// # Errors
+    /// Memory ran out.
+    pub(crate) fn turn(
+        &mut self,
+        subject: Subject<'p>,
+        handler: HandlerNumber,
+    ) -> Result<(), AllocError>
+        requires reached { HasReached subject.program.now.image subject.version subject.aim self.old }
+        ensures store { self.new.store ≡ self.old.store }
+        ensures edges { self.new.edges ≡ self.old.edges }
+        ensures reached { OnOk result (HasReached subject.entry.program.now.image subject.entry.version subject.entry.aim self.new) }
+        ensures turn { OnOk result (IsTurn handler (world_in self.old.world) (world_in self.new.world)) }
+    {
+        runs_stay_of_their_program();
+        self.world.turn(handler)?;
+        Ok(())
+    }
+
+    /// Brings the world to where a way begins: into the state that it leads from, or to the opening.
+    ///
+    /// # Errors
+    /// Memory ran out.
+    fn begin(&mut self, subject: Subject<'p>, parent: Option<u32>) -> Result<(), AllocError>
+        requires from { IsFrom (states_of self.old) parent }
+        requires reached { HasReached subject.program.now.image subject.version subject.aim self.old }
+        ensures store { self.new.store ≡ self.old.store }
+        ensures edges { self.new.edges ≡ self.old.edges }
+        ensures reached { OnOk result (HasReached subject.entry.program.now.image subject.entry.version subject.entry.aim self.new) }
+        ensures after { OnOk result (IsAlikeAfter subject.entry.program.now.image subject.entry.version
+            (order_after (orders_of self.old) parent []) (world_in self.new.world)) }
+    {
+        if let Some(number) = parent {
+            return self.load(subject, number);
+        }
+        openings_are_of_their_program();
+        self.world = Configuration::open(subject.alloc, subject.program, subject.version)?;
+        Ok(())
+    }
+
+    /// Brings the world to where a way leads.
+    ///
+    /// # Errors
+    /// Memory ran out.
+    pub(crate) fn go(&mut self, subject: Subject<'p>, way: Way<'_>) -> Result<(), AllocError>
+        requires from { IsFrom (states_of self.old) way.parent }
+        requires reached { HasReached subject.program.now.image subject.version subject.aim self.old }
+        ensures store { self.new.store ≡ self.old.store }
+        ensures edges { self.new.edges ≡ self.old.edges }
+        ensures reached { OnOk result (HasReached subject.entry.program.now.image subject.entry.version subject.entry.aim self.new) }
+        ensures after { OnOk result (IsAlikeAfter subject.entry.program.now.image subject.entry.version
+            (order_after (orders_of self.old) way.entry.parent way.entry.turns.now) (world_in self.new.world)) }
+    {
+        kept_alike_turn_alike();
+        openings_are_of_their_program();
+        runs_stay_of_their_program();
+        self.begin(subject, way.parent)?;
+        for handler in way.turns {
+            self.turn(subject, *handler)?;
+        }
+        Ok(())
+    }
+
+    /// The turns of a way, and those to the state that it leads from.
+    ///
+    /// # Errors
+    /// Memory ran out.
+    pub(crate) fn order_of(&self, way: Way<'_>) -> Result<Vec<HandlerNumber>, AllocError>
+        requires { IsFrom (states_of self.now) way.parent }
+        ensures { IfOk result (λ order. order.items ≡ order_after (orders_of self.now) way.entry.parent way.entry.turns.now) }
+    {
+        self.store.order_after(way.parent, way.turns)
+    }
+
+    /// Keeps the state of the world, to which the way led, unless it was met before. A long way counts as several
     /// states, in proportion to its turns.
     ///
     /// # Errors
@@ -77,49 +187,136 @@ impl<'p> Progress<'p> {
     pub(crate) fn keep(
         &mut self,
         subject: Subject<'p>,
-        world: World<'p>,
-        way: Way,
+        way: Way<'_>,
         limit: u32,
     ) -> Result<Option<Stop>, AllocError>
-        requires leads { Runs way.turns.items (opened subject.program.now.image subject.version) (world_of world) }
+        requires from { IsFrom (states_of self.old) way.parent }
+        requires leads { IsAlikeAfter subject.program.now.image subject.version
+            (order_after (orders_of self.old) way.parent way.turns.now) (world_in self.old.world) }
         requires reached { HasReached subject.program.now.image subject.version subject.aim self.old }
-        ensures keeps { IfOk result (λ stop. IfNone stop (Keeps subject.entry.aim (world_of world.entry) way.parent (met_of self.old) (met_of self.new))) }
+        ensures keeps { IfOk result (λ stop. IfNone stop
+            (Keeps subject.entry.aim (world_in self.old.world) way.entry.parent (met_of self.old) (met_of self.new))) }
         ensures reached { IfOk result (λ stop. IfNone stop (HasReached subject.entry.program.now.image subject.entry.version subject.entry.aim self.new)) }
         ensures stops { IfOk result (λ stop. IfSome stop (StopsFor subject.entry.program.now.image subject.entry.version subject.entry.aim limit)) }
     {
-        let statuses = world.statuses()?;
+        kept_alike_read_alike();
+        openings_are_of_their_program();
+        runs_stay_of_their_program();
+        let statuses = self.world.statuses()?;
         if is_met(subject.aim, &statuses) {
-            return Ok(Some(Stop::Met(way.turns)));
+            return Ok(Some(Stop::Met(self.order_of(way)?)));
         }
+        self.count_turns(subject, way);
+        self.number(subject)?;
+        match self.store.find(&self.tuple) {
+            Some(number) => {
+                self.push_edge(way, number)?;
+                Ok(None)
+            }
+            None => self.keep_new(subject, way, &statuses, limit),
+        }
+    }
+
+    /// Counts the turns of a way, which led to the world.
+    fn count_turns(&mut self, subject: Subject<'p>, way: Way<'_>)
+        requires leads { IsAlikeAfter subject.program.now.image subject.version
+            (order_after (orders_of self.old) way.parent way.turns.now) (world_in self.old.world) }
+        requires reached { HasReached subject.program.now.image subject.version subject.aim self.old }
+        ensures store { self.new.store ≡ self.old.store }
+        ensures world { self.new.world ≡ self.old.world }
+        ensures edges { self.new.edges ≡ self.old.edges }
+        ensures reached { HasReached subject.entry.program.now.image subject.entry.version subject.entry.aim self.new }
+    {
         self.turns = self.turns.saturating_add(way.turns.len() as u64);
-        if let Some(number) = self.states.find(&world) {
-            self.push_edge(&way, number)?;
-            return Ok(None);
-        }
-        let number = self.states.len();
+    }
+
+    /// Writes the numbers of what the world holds.
+    ///
+    /// # Errors
+    /// Memory ran out.
+    fn number(&mut self, subject: Subject<'p>) -> Result<(), AllocError>
+        requires reached { HasReached subject.program.now.image subject.version subject.aim self.old }
+        ensures states { OnOk result (states_of self.new ≡ states_of self.old) }
+        ensures orders { OnOk result (orders_of self.new ≡ orders_of self.old) }
+        ensures world { self.new.world ≡ self.old.world }
+        ensures edges { self.new.edges ≡ self.old.edges }
+        ensures reached { OnOk result (HasReached subject.entry.program.now.image subject.entry.version subject.entry.aim self.new) }
+        ensures kept { OnOk result (IsTupleOf self.new.store self.new.tuple.items (world_in self.new.world)) }
+    {
+        self.store.number(subject, &self.world, &mut self.tuple)?;
+        Ok(())
+    }
+
+    /// Keeps the state of the world, which has these statuses and wasn't met before.
+    ///
+    /// # Errors
+    /// Memory ran out.
+    fn keep_new(
+        &mut self,
+        subject: Subject<'p>,
+        way: Way<'_>,
+        statuses: &[Status],
+        limit: u32,
+    ) -> Result<Option<Stop>, AllocError>
+        requires from { IsFrom (states_of self.old) way.parent }
+        requires leads { IsAlikeAfter subject.program.now.image subject.version
+            (order_after (orders_of self.old) way.parent way.turns.now) (world_in self.old.world) }
+        requires reached { HasReached subject.program.now.image subject.version subject.aim self.old }
+        requires kept { IsTupleOf self.old.store self.old.tuple.items (world_in self.old.world) }
+        requires new { (number : ℕ) → slice_get (tuples_in self.old.store) number ≡ Some self.old.tuple.items → ⊥ }
+        requires told { statuses.now ≡ told.statuses (world_in self.old.world) }
+        requires unmet { IsMet subject.aim statuses.now → ⊥ }
+        ensures keeps { IfOk result (λ stop. IfNone stop
+            (Keeps subject.entry.aim (world_in self.old.world) way.entry.parent (met_of self.old) (met_of self.new))) }
+        ensures reached { IfOk result (λ stop. IfNone stop (HasReached subject.entry.program.now.image subject.entry.version subject.entry.aim self.new)) }
+        ensures stops { IfOk result (λ stop. IfSome stop (StopsFor subject.entry.program.now.image subject.entry.version subject.entry.aim limit)) }
+    {
+        kept_alike_read_alike();
+        openings_are_of_their_program();
+        runs_stay_of_their_program();
+        let number = self.store.len();
         if number >= limit || self.turns >= TURNS_A_STATE * limit as u64 {
             return Ok(Some(Stop::Cut));
         }
-        if !some_is(Kind::IsBusy, &statuses) {
-            push_outcome(subject.alloc, &mut self.outcomes, &world, &way.turns)?;
-        }
-        self.push_edge(&way, number)?;
-        self.states.push(world, way.turns, statuses)?;
+        self.push_end(subject, way, statuses)?;
+        self.push_edge(way, number)?;
+        self.store
+            .push(subject, &self.tuple, way.parent, way.turns, statuses)?;
         Ok(None)
     }
 
-    /// Adds that the way leads to the state of the number.
-    fn push_edge(&mut self, way: &Way, to: u32) -> Result<(), AllocError>
-        ensures states { self.new.states ≡ self.old.states }
+    /// Adds the outcome of a way if no handler has a job in the world that it led to, which has these statuses.
+    fn push_end(
+        &mut self,
+        subject: Subject<'p>,
+        way: Way<'_>,
+        statuses: &[Status],
+    ) -> Result<(), AllocError>
+        requires { IsFrom (states_of self.old) way.parent }
+        ensures store { self.new.store ≡ self.old.store }
+        ensures world { self.new.world ≡ self.old.world }
+        ensures tuple { self.new.tuple ≡ self.old.tuple }
+        ensures edges { self.new.edges ≡ self.old.edges }
         ensures turns { self.new.turns ≡ self.old.turns }
-        ensures edge { OnOk result (AddsEdge way.now.parent to self.old.edges.items self.new.edges.items) }
+    {
+        if some_is(Kind::IsBusy, statuses) {
+            return Ok(());
+        }
+        let order = self.order_of(way)?;
+        push_outcome(subject.alloc, &mut self.outcomes, &self.world, &order)?;
+        Ok(())
+    }
+
+    /// Adds that the way leads to the state of the number.
+    fn push_edge(&mut self, way: Way<'_>, to: u32) -> Result<(), AllocError>
+        ensures store { self.new.store ≡ self.old.store }
+        ensures world { self.new.world ≡ self.old.world }
+        ensures tuple { self.new.tuple ≡ self.old.tuple }
+        ensures turns { self.new.turns ≡ self.old.turns }
+        ensures edge { OnOk result (AddsEdge way.entry.parent to self.old.edges.items self.new.edges.items) }
     {
         if let Some(from) = way.parent {
-            let turns = way
-                .turns
-                .len()
-                .saturating_sub(way.from)
-                .min(u32::MAX as usize) as u32;
+            let turns = way.turns.len().min(u32::MAX as usize) as u32;
             self.edges.push(Edge { from, to, turns })?;
         }
         Ok(())

@@ -7,15 +7,14 @@ ghost use Rattle.sc_world.specs.Reports.{statuses};
 ghost use Rattle.sc_search.specs.Aims.{IsMet};
 ghost use Rattle.sc_search.specs.Found.{IsFirst, IsFound, RunsUnmet, turns_of};
 ghost use Rattle.sc_search.specs.Limits.{SaysWhyFor};
-ghost use Rattle.sc_search.specs.Steps.{IsLedTo};
-ghost use Rattle.sc_search.specs.Stops.{IsOrdered, MissesAfter};
-ghost use Rattle.sc_search.specs.Views.{states_in};
+ghost use Rattle.sc_search.specs.Stops.{HasReached, IsOrdered, MissesAfter};
+ghost use Rattle.sc_search.specs.Views.{states_of};
 ghost use Rattle.sc_search.specs.Waiting.{HasStuck, seeks_stuck};
 
 use crate::aims::Aim;
 use crate::judging::{is_met, tells_failure};
 use crate::lines::lines_of;
-use crate::states::States;
+use crate::progress::Progress;
 use crate::verdict::{Finding, Order};
 use sc_audit::RecordLine;
 use sc_code::Program;
@@ -60,28 +59,29 @@ fn world_after_lines<'p>(
     Ok(world)
 }
 
-/// What is found if a handler waits for good in the state of a number, to which these turns led.
+/// What is found if a handler waits for good in the state with the number.
 ///
 /// # Errors
 /// Memory ran out.
-pub(crate) fn stuck_after(
-    subject: Subject<'_>,
-    states: &States<'_>,
+pub(crate) fn stuck_after<'p>(
+    subject: Subject<'p>,
+    mut progress: Progress<'p>,
     number: u32,
-    turns: &[HandlerNumber],
 ) -> Result<Finding, AllocError>
-    requires stuck { HasStuck subject.program.now.image subject.version (states_in states.now) number }
+    requires stuck { HasStuck subject.program.now.image subject.version (states_of progress) number }
+    requires reached { HasReached subject.program.now.image subject.version subject.aim progress }
     requires seeks { seeks_stuck subject.aim ≡ true }
-    requires leads { IsLedTo subject.program.now.image subject.version (states_in states.now) number turns.now }
     ensures found { IfOk result (IsFound subject.entry.program.now.image subject.entry.version) }
     ensures first { IfOk result (IsFirst subject.entry.program.now.image subject.entry.version subject.entry.aim) }
     ensures why { IfOk result (λ found. (limit : ℕ) → SaysWhyFor subject.entry limit false found) }
 {
-    let (world, made) = play_until_met(subject, turns)?;
+    let turns = progress.store.order(number)?;
+    let (world, made) = play_until_met(subject, &turns)?;
     if let Some(finding) = finding_in(subject, &world, &made)? {
         return Ok(finding);
     }
-    if !states.is_at(number, &world) {
+    progress.load(subject, number)?;
+    if !progress.world.keep()?.is_same(&world) {
         return Ok(Finding::Undecided);
     }
     let lines = lines_of(subject.alloc, &made)?;

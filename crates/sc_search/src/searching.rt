@@ -1,5 +1,5 @@
 //! The search.
-ghost use Rattle.std.specs.Prelude.{◌≡◌, ℕ, IfOk, IfSome, None, false, length, min, true};
+ghost use Rattle.std.specs.Prelude.{◌≡◌, ℕ, IfOk, None, false, length, min, true};
 ghost use Rattle.sc_search.specs.Closed.{IsClosedFor};
 ghost use Rattle.sc_search.specs.Ends.{AreEnds};
 ghost use Rattle.sc_search.specs.Found.{IsFirst, IsFound};
@@ -135,13 +135,13 @@ fn stuck_verdict<'p>(
     ensures whole { IfOk result (λ verdict. verdict.is_whole ≡ false) }
     ensures why { IfOk result (λ verdict. (limit : ℕ) → SaysWhyFor subject.entry limit false verdict.finding) }
 {
-    let turns = progress.states.order(number)?;
-    let finding = stuck_after(subject, &progress.states, number, &turns)?;
+    let met = progress.store.len();
     let length = orders_length(subject.alloc, &progress)?;
     let ends = ends_after(subject, &progress.outcomes)?;
+    let finding = stuck_after(subject, progress, number)?;
     Ok(Verdict {
         finding,
-        states: progress.states.len(),
+        states: met,
         is_whole: false,
         ends,
         length,
@@ -150,13 +150,11 @@ fn stuck_verdict<'p>(
 
 /// How long orders are, if all turns of all states were played.
 fn orders_length(alloc: Global, progress: &Progress<'_>) -> Result<Length, AllocError> {
-    let first = progress.states.order(0)?.len().min(u32::MAX as usize) as u32;
-    length_of(
-        alloc,
-        first,
-        progress.states.len() as usize,
-        &progress.edges,
-    )
+    if progress.store.len() == 0 {
+        return Ok(Length::Unknown);
+    }
+    let first = progress.store.order(0)?.len().min(u32::MAX as usize) as u32;
+    length_of(alloc, first, progress.store.len() as usize, &progress.edges)
 }
 
 /// The verdict of a search that stopped so, and played all turns or choices alone.
@@ -174,7 +172,7 @@ fn verdict_of(
     ensures done { stop ≡ None → IfOk result (λ verdict. (verdict.finding ≡ Finding.Nothing) × (verdict.is_whole ≡ is_all)) }
     ensures why { IfOk result (λ verdict. SaysWhyAt subject.entry stop verdict.finding) }
 {
-    let states = progress.states.len();
+    let states = progress.store.len();
     let is_whole = is_all && stop.is_none();
     let length = match stop {
         None => orders_length(subject.alloc, &progress)?,

@@ -1,12 +1,11 @@
 //! Handlers that wait for good, in states that are closed.
 //!
 //! Whether a handler has a turn in a state, or waits, is told by the statuses that are kept with each state: they take
-//! a byte or two a handler, and to play the order to a state again costs as much as a turn of the search.
-ghost use Rattle.std.specs.Prelude.{◌≡◌, ◌⊎◌, ◌≤◌, ◌<◌, ◌^◌, ℕ, IfNone, None, IfOk, IfSome, Some, false, get_or, length, slice_get, true};
-ghost use Rattle.std.specs.declared.alloc.Global.{Global};
-ghost use Rattle.std.specs.declared.vec.Vec.{Vec};
+//! a byte or two a handler.
+ghost use Rattle.std.specs.Prelude.{◌≡◌, ◌⊎◌, ◌≤◌, ◌<◌, ◌^◌, ℕ, IfNone, None, IfOk, IfSome, List, Some, false, get_or, length, slice_get, true};
 ghost use Rattle.sc_model.specs.declared.status.Status.{Status};
 ghost use Rattle.sc_orders.specs.Edges.{AreWithin, Leads};
+ghost use Rattle.sc_states.specs.RowViews.{rows_of};
 ghost use Rattle.sc_search.specs.Steps.{IsExplored};
 ghost use Rattle.sc_search.specs.Stops.{HasReached};
 ghost use Rattle.sc_search.specs.Views.{met_of, states_of};
@@ -17,6 +16,7 @@ use crate::progress::Progress;
 use crate::replay::Subject;
 use sc_model::Status;
 use sc_orders::{Edge, may_move};
+use sc_states::Rows;
 use sc_world::laws::{
     kept_alike_read_alike, openings_are_of_their_program, runs_stay_of_their_program,
 };
@@ -33,24 +33,25 @@ pub(crate) fn first_stuck<'p>(
     requires explored { IsExplored subject.program.now.image subject.version (met_of progress.now) }
     requires reached { HasReached subject.program.now.image subject.version subject.aim progress.now }
     ensures stuck { IfOk result (λ first. IfSome first (HasStuck subject.entry.program.now.image subject.entry.version (states_of progress.now))) }
-    ensures none { IfOk result (λ first. IfNone first (AreMoving subject.entry.program.now.image subject.entry.version subject.entry.aim (states_of progress.now))) }
+    ensures none { IfOk result (λ first. IfNone first
+        (AreMoving subject.entry.program.now.image subject.entry.version subject.entry.aim (states_of progress.now))) }
 {
     kept_alike_read_alike();
     openings_are_of_their_program();
     runs_stay_of_their_program();
-    first_waiting(subject.alloc, &progress.edges, &progress.states.statuses)
+    first_waiting(subject.alloc, &progress.edges, &progress.store.statuses)
 }
 
 /// The first state in which some handler waits and from which no edges lead to one in which it has a turn.
 fn first_waiting(
     alloc: Global,
     edges: &[Edge],
-    statuses: &[Vec<Status>],
+    statuses: &Rows<Status>,
 ) -> Result<Option<u32>, AllocError>
-    requires within { AreWithin edges.now (length statuses.now) }
-    requires few { length statuses.now < 2 ^ 32 }
-    ensures some { IfOk result (λ first. IfSome first (λ number. (h : ℕ) × IsLeft edges.now statuses.now h number)) }
-    ensures none { IfOk result (λ first. IfNone first ((h number : ℕ) → IsLed edges.now statuses.now h number)) }
+    requires within { AreWithin edges.now (length (rows_of statuses.now)) }
+    requires few { length (rows_of statuses.now) < 2 ^ 32 }
+    ensures some { IfOk result (λ first. IfSome first (λ number. (h : ℕ) × IsLeft edges.now (rows_of statuses.now) h number)) }
+    ensures none { IfOk result (λ first. IfNone first ((h number : ℕ) → IsLed edges.now (rows_of statuses.now) h number)) }
 {
     let mut first = None;
     for handler in 0..most_handlers(statuses) {
@@ -72,12 +73,13 @@ fn lower(one: Option<u32>, other: Option<u32>) -> Option<u32>
 }
 
 /// The most handlers that there are in a state.
-fn most_handlers(statuses: &[Vec<Status>]) -> usize
-    ensures { (i : ℕ) (row : Vec Status Global) → slice_get statuses.now i ≡ Some row → length row.items ≤ result }
+fn most_handlers(statuses: &Rows<Status>) -> usize
+    requires { length (rows_of statuses.now) < 2 ^ 32 }
+    ensures { (i : ℕ) (row : List Status) → slice_get (rows_of statuses.now) i ≡ Some row → length row ≤ result }
 {
     let mut most = 0;
-    for row in statuses {
-        most = larger(most, row.len());
+    for number in 0..statuses.len() {
+        most = larger(most, statuses.row(number as u32).len());
     }
     most
 }
@@ -94,13 +96,13 @@ fn larger(one: usize, other: usize) -> usize
 fn first_left(
     alloc: Global,
     edges: &[Edge],
-    statuses: &[Vec<Status>],
+    statuses: &Rows<Status>,
     handler: usize,
 ) -> Result<Option<u32>, AllocError>
-    requires within { AreWithin edges.now (length statuses.now) }
-    requires few { length statuses.now < 2 ^ 32 }
-    ensures some { IfOk result (λ first. IfSome first (IsLeft edges.now statuses.now handler)) }
-    ensures none { IfOk result (λ first. IfNone first ((number : ℕ) → IsLed edges.now statuses.now handler number)) }
+    requires within { AreWithin edges.now (length (rows_of statuses.now)) }
+    requires few { length (rows_of statuses.now) < 2 ^ 32 }
+    ensures some { IfOk result (λ first. IfSome first (IsLeft edges.now (rows_of statuses.now) handler)) }
+    ensures none { IfOk result (λ first. IfNone first ((number : ℕ) → IsLed edges.now (rows_of statuses.now) handler number)) }
 {
     let busy = column(alloc, Kind::IsBusy, statuses, handler)?;
     let waiting = column(alloc, Kind::IsWaiting, statuses, handler)?;
@@ -136,14 +138,15 @@ fn is_true_at(list: &[bool], number: usize) -> bool
 fn column(
     alloc: Global,
     kind: Kind,
-    statuses: &[Vec<Status>],
+    statuses: &Rows<Status>,
     handler: usize,
 ) -> Result<Vec<bool>, AllocError>
-    ensures { IfOk result (λ states. states.items ≡ column kind handler statuses.now) }
+    requires { length (rows_of statuses.now) < 2 ^ 32 }
+    ensures { IfOk result (λ states. states.items ≡ column kind handler (rows_of statuses.now)) }
 {
     let mut states = Vec::new(alloc);
-    for row in statuses {
-        states.push(is_at(kind, row, handler))?;
+    for number in 0..statuses.len() {
+        states.push(is_at(kind, statuses.row(number as u32), handler))?;
     }
     Ok(states)
 }

@@ -1,4 +1,4 @@
-use Rattle.std.proofs.Common.{◌≡◌, ◌∙◌, true, false, Some, None, sym, subst}
+use Rattle.std.proofs.Common.{◌≡◌, ◌∙◌, true, false, Some, None, sym}
 use Rattle.sc_search.specs.Limits.{SaysWhyFor}
 use Rattle.sc_search.specs.Stops.{StopsFor}
 use Rattle.sc_search.specs.Views.{states_of}

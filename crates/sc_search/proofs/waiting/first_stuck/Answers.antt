@@ -1,10 +1,7 @@
 use Rattle.std.proofs.Common.{List, length, sym, subst}
-use Rattle.std.specs.declared.alloc.Global.{Global}
-use Rattle.std.specs.declared.vec.Vec.{Vec}
-use Rattle.sc_model.specs.declared.status.Status.{Status}
 use Rattle.sc_orders.specs.declared.edges.Edge.{Edge}
 use Rattle.sc_orders.specs.Edges.{AreWithin}
-use Rattle.sc_search.specs.Views.{met_of, orders_of}
+use Rattle.sc_search.specs.Views.{met_of, orders_of, statuses_of}
 use Rattle.sc_search.specs.Waiting.{IsLed, IsLeft}
 use Rattle.sc_search.proofs.KeptStates.{goes_through}
 use Rattle.sc_search.proofs.Waits.{edges_within, led_are_moving, left_is_stuck, ok_some_on}
@@ -13,20 +10,18 @@ use Rattle.sc_search.proofs.waiting.first_stuck.Goals as goal
 pub first_waiting-requires-clause-within : goal.first_waiting-requires-clause-within
 first_waiting-requires-clause-within c =
     let x = c.args.progress.now in
-    subst (λ (es : List Edge). AreWithin es (length c.deref-2.result.now)) (sym c.deref.ensures.value)
-    (subst (λ (rs : List (Vec Status Global)). AreWithin x.edges.items (length rs)) (sym c.deref-2.ensures.value)
+    subst (λ (es : List Edge). AreWithin es (length (statuses_of x))) (sym c.deref.ensures.value)
     (edges_within c.kept_alike_read_alike.ensures c.openings_are_of_their_program.ensures c.runs_stay_of_their_program.ensures
-    c.args.subject.program.now.image c.args.subject.version c.args.subject.aim (met_of x) (orders_of x) x.states.statuses.items x.turns c.requires.explored c.requires.reached))
+    c.args.subject.program.now.image c.args.subject.version c.args.subject.aim (met_of x) (orders_of x) (statuses_of x) x.turns c.requires.explored c.requires.reached.reached)
 
 pub returns-clause-stuck : goal.returns-clause-stuck
 returns-clause-stuck c =
     let x = c.args.progress.now in
     ok_some_on c.first_waiting.result
     (λ number is. left_is_stuck c.kept_alike_read_alike.ensures c.openings_are_of_their_program.ensures c.runs_stay_of_their_program.ensures
-    c.args.subject.program.now.image c.args.subject.version c.args.subject.aim (met_of x) (orders_of x) x.states.statuses.items x.turns c.requires.explored c.requires.reached
+    c.args.subject.program.now.image c.args.subject.version c.args.subject.aim (met_of x) (orders_of x) (statuses_of x) x.turns c.requires.explored c.requires.reached.reached
     is.0 number
-    (subst (λ (es : List Edge). IsLeft es x.states.statuses.items is.0 number) c.deref.ensures.value
-    (subst (λ (rs : List (Vec Status Global)). IsLeft c.deref.result.now rs is.0 number) c.deref-2.ensures.value is.1)))
+    (subst (λ (es : List Edge). IsLeft es (statuses_of x) is.0 number) c.deref.ensures.value is.1))
     c.first_waiting.ensures.some
 
 pub returns-clause-none : goal.returns-clause-none
@@ -34,8 +29,7 @@ returns-clause-none c =
     let x = c.args.progress.now in
     goes_through
     (λ all. led_are_moving c.kept_alike_read_alike.ensures c.openings_are_of_their_program.ensures c.runs_stay_of_their_program.ensures
-    c.args.subject.program.now.image c.args.subject.version c.args.subject.aim (met_of x) (orders_of x) x.states.statuses.items x.turns c.requires.explored c.requires.reached
+    c.args.subject.program.now.image c.args.subject.version c.args.subject.aim (met_of x) (orders_of x) (statuses_of x) x.turns c.requires.explored c.requires.reached.reached
     (λ h number.
-    subst (λ (es : List Edge). IsLed es x.states.statuses.items h number) c.deref.ensures.value
-    (subst (λ (rs : List (Vec Status Global)). IsLed c.deref.result.now rs h number) c.deref-2.ensures.value (all h number))))
+    subst (λ (es : List Edge). IsLed es (statuses_of x) h number) c.deref.ensures.value (all h number)))
     c.first_waiting.result c.first_waiting.ensures.none
