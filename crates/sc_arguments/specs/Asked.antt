@@ -67,7 +67,7 @@ pub record AreSearchOptions (words : List (List ℕ)) (options : SearchOptions) 
   pub root : IsRootIn words options.root
   pub format : options.format ≡ format_in words
   pub sought : options.sought ≡ sought_named (value_or (codes "--for") (codes "any") words)
-  pub states : Writes (value_or (codes "--states") (codes "25000") words) options.states
+  pub states : Writes (value_or (codes "--states") (codes "100000") words) options.states
   pub record_name : option_map (λ name. name.now) options.record ≡ value_of (codes "--record") words
   pub lists_outcomes : options.lists_outcomes ≡ has_option (codes "--outcomes") words
 

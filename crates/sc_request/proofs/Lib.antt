@@ -29,7 +29,7 @@ mod JobKinds
 mod Created
 mod Ended
 mod Fallen
-mod Untouched
+pub mod Untouched
 mod Reservers
 mod KeptStages
 mod Waiters

@@ -17,9 +17,9 @@ use Rattle.sc_handler.specs.Canonical.{canon_handler}
 use Rattle.sc_handler.specs.InMemory.{handler_of}
 use Rattle.sc_request.specs.declared.handler_set.HandlerSet.{HandlerSet}
 use Rattle.sc_request.specs.declared.parts.Part.{Part}
-use Rattle.sc_request.specs.Candidates.{AreCandidates, AreReserving, HasGrantsBelow, HasOutsBelow, is_granted}
+use Rattle.sc_request.specs.Candidates.{AreCandidates, AreReserving, HasGrantsBelow, HasOutsBelow, is_granted, uncounted}
 use Rattle.sc_request.specs.Crowds.{AreCrowds, crowd_at}
-use Rattle.sc_request.specs.Loading.{AreAllHome, CountsFor, handler_numbered}
+use Rattle.sc_request.specs.Loading.{AreAllHome, AreNewPlaces, CountsFor, handler_numbered}
 use Rattle.sc_request.specs.Logs.{pick_for}
 use Rattle.sc_request.specs.Parts.{NameBelow, PlainPart, new_part, none_ended, part_in, part_of, parts_in, state_with}
 use Rattle.sc_request.specs.Sound.{IsSound, IsSoundHandler}
@@ -141,18 +141,35 @@ module _ (n i : ℕ) (xs ys : List coded.Handler) (others : (k : ℕ) → (k ≡
     | inr past ↦ let e : k ≡ i = omega (arith, past, few) in ap (λ j. out_at ys j) e ∙ here
   ]
 
-pub new_from : (n i : ℕ) (xs : List coded.Handler) → length xs ≤ i → ((k : ℕ) → n ≤ k → k < i → handler_in (slice_get xs k) ≡ new_handler) →
-    (k : ℕ) → n ≤ k → handler_in (slice_get xs k) ≡ new_handler
-new_from n i xs all each k far = elim (cases_lt k i) [
-  | inl below ↦ each k far below
-  | inr past ↦ ap handler_in (slice_get_past xs k (omega (arith, all, past)))
+-- Those past a place are as they were, which was new.
+module _ (n used i : ℕ) (xs ys : List coded.Handler) (new : AreNewPlaces used ys) (all : used ≤ i) (rest : (k : ℕ) → i ≤ k → slice_get xs k ≡ slice_get ys k) where
+  pub new_from : ((k : ℕ) → n ≤ k → k < i → handler_in (slice_get xs k) ≡ new_handler) → (k : ℕ) → n ≤ k → handler_in (slice_get xs k) ≡ new_handler
+  new_from each k far = elim (cases_lt k i) [
+    | inl below ↦ each k far below
+    | inr past ↦ ap handler_in (rest k past) ∙ (new k (omega (arith, all, past))).0
+  ]
+
+  pub out_from : ((k : ℕ) → n ≤ k → k < i → out_at xs k ≡ None) → (k : ℕ) → n ≤ k → out_at xs k ≡ None
+  out_from each k far = elim (cases_lt k i) [
+    | inl below ↦ each k far below
+    | inr past ↦ ap out_in (rest k past) ∙ (new k (omega (arith, all, past))).1
+  ]
+
+zeroed : (o : Option coded.Handler) → uncounted (handler_in o) ≡ handler_in o
+zeroed None = refl
+zeroed (Some x) = refl
+
+-- Handlers that were asked for nothing are new, and so are those that have no place.
+pub fresh_there : (xs : List coded.Handler) (ss : List ℕ) (used k : ℕ) → length xs ≤ 512 → ((h : ℕ) → used ≤ h → h < 512 → uncounted (handler_at xs ss h) ≡ new_handler) →
+    used ≤ k → handler_in (slice_get xs k) ≡ new_handler
+fresh_there xs ss used k few fresh far = elim (cases_lt k 512) [
+  | inl below ↦ sym (zeroed (slice_get xs k)) ∙ fresh k far below
+  | inr past ↦ ap handler_in (slice_get_past xs k (omega (arith, few, past)))
 ]
 
-pub out_from : (n i : ℕ) (xs : List coded.Handler) → length xs ≤ i → ((k : ℕ) → n ≤ k → k < i → out_at xs k ≡ None) → (k : ℕ) → n ≤ k → out_at xs k ≡ None
-out_from n i xs all each k far = elim (cases_lt k i) [
-  | inl below ↦ each k far below
-  | inr past ↦ ap out_in (slice_get_past xs k (omega (arith, all, past)))
-]
+pub new_places : (xs : List coded.Handler) (ss : List ℕ) (used : ℕ) → length xs ≤ 512 → ((h : ℕ) → used ≤ h → h < 512 → uncounted (handler_at xs ss h) ≡ new_handler) →
+    ((h : ℕ) → used ≤ h → out_at xs h ≡ None) → AreNewPlaces used xs
+new_places xs ss used few fresh home k far = (fresh_there xs ss used k few fresh far, home k far)
 
 pushed_below : (xs : List coded.Handler) (y : coded.Handler) (k : ℕ) → k < length xs → slice_get (xs ++ y ∷ []) k ≡ slice_get xs k
 pushed_below [] y k l = absurd (omega (arith, l))

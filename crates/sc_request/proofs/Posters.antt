@@ -33,3 +33,15 @@ touched_posters x xs sessions h k old m n new e first second third =
     third ∙ ap (λ b. s || b) second ∙ ap (λ b. s || (q || b)) first ∙ ap (λ b. s || (q || (b || old))) (callback_first k x.callback)
     ∙ ap (λ b. b || (q || (c || old))) (served_first k x.services) ∙ any_of_three _ q c old
     ∙ ap (λ (y : Handler). may_hear_from y k || old) (sym (handler_is xs sessions h x e))
+
+none_or : (b : Bool) → false ≡ (b || false) → b ≡ false
+none_or true e = sym e
+none_or false e = refl
+
+pub hears_from_none : (x : coded.Handler) (xs : List coded.Handler) (sessions : List ℕ) (h k : ℕ) → slice_get xs h ≡ Some x →
+    posted_first k (map posting_of x.callback) ≡ false → posted_first k (map posting_of x.queue) ≡ false →
+    posted_first k (map posting_of x.services) ≡ false → may_hear_from (handler_at xs sessions h) k ≡ false
+hears_from_none x xs sessions h k e callback queue services =
+    none_or (may_hear_from (handler_at xs sessions h) k)
+    (touched_posters x xs sessions h k false false false false e (sym (ap (λ b. b || false) callback)) (sym (ap (λ b. b || false) queue))
+    (sym (ap (λ b. b || false) services)))

@@ -8,7 +8,7 @@ use Rattle.sc_region.specs.declared.job.Job.TheVariants as job
 use Rattle.sc_region.specs.declared.job.Want.{Want}
 use Rattle.sc_region.specs.declared.job.Want.TheVariants.{Post, Ask, Create, Done}
 use Rattle.sc_handler.specs.declared.handler.Handler as coded
-use Rattle.sc_handler.specs.Handlers.{Posted, Service, Handler, State, is_reserving}
+use Rattle.sc_handler.specs.Handlers.{Posted, Service, Handler, State, is_reserving, new_handler}
 use Rattle.sc_handler.specs.Changes.{to_list}
 use Rattle.sc_handler.specs.Freeing.{frees_under}
 use Rattle.sc_request.specs.Settling.{settled}
@@ -125,6 +125,32 @@ comes_again j c = not (frees_under j) && not (is_some (next c))
 -- the handler, whatever the count of its sessions
 abbrev pub uncounted : Handler → Handler
 uncounted x = record x { sessions = 0 }
+
+-- From this number on no handler that has a place was asked for anything yet.
+abbrev pub AreFreshFrom : ℕ → State → Type 0
+AreFreshFrom n s = (h : ℕ) → n ≤ h → h < 512 → uncounted (s.handlers h) ≡ new_handler
+
+-- The handler of the number isn't the first one, nor the next one that is made, and didn't post what the first one
+-- serves, or takes next.
+pub record IsStrangerTo (h : ℕ) (s : State) (k : ℕ) : Type 0 where
+  pub other : (k == h) ≡ false
+  pub later : (k == s.count) ≡ false
+  pub silent : may_hear_from (s.handlers h) k ≡ false
+
+-- a turn that wants this asks the handler of the number
+abbrev pub is_asked : Want → ℕ → Bool
+is_asked (Post r) k = k == r.target.handler
+is_asked (Ask r passing) k = k == r.target.handler
+is_asked w k = false
+
+-- A turn of a handler that wanted this didn't ask the handler of the number, and it has not failed.
+pub record IsSparedBy (h : ℕ) (w : Want) (s : State) (k : ℕ) : Type 0 where
+  pub unasked : is_asked w k ≡ false
+  pub stands : (s.handlers h).failure ≡ None
+
+-- From this number on all that have a place are strangers to the handler.
+abbrev pub AreStrangersFrom : ℕ → ℕ → State → Type 0
+AreStrangersFrom n h s = (k : ℕ) → n ≤ k → k < 512 → IsStrangerTo h s k
 
 -- Whom a settlement doesn't touch stays as it is but for its count of sessions, unless the settled handler has failed.
 abbrev pub LeavesUntouched : Type 0

@@ -37,3 +37,4 @@ pub use center::Core;
 pub use kept_core::KeptCore;
 pub use parts::Part;
 pub use settlement::SettleFault;
+pub use touching::past_target;

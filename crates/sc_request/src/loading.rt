@@ -4,7 +4,8 @@ ghost use Rattle.sc_lockpass.specs.Tables.{rights_of};
 ghost use Rattle.sc_lockpass.specs.Versions.{most_handlers};
 ghost use Rattle.sc_handler.specs.Handlers.{new_handler};
 ghost use Rattle.sc_handler.specs.InMemory.{handler_of};
-ghost use Rattle.sc_request.specs.Loading.{AreAllHome, CountsFor, handler_numbered};
+ghost use Rattle.sc_request.specs.Candidates.{AreFreshFrom};
+ghost use Rattle.sc_request.specs.Loading.{AreAllHome, AreNewPlaces, CountsFor, handler_numbered};
 ghost use Rattle.sc_request.specs.Parts.{AreWithin, NameBelow, parts_in, state_with};
 ghost use Rattle.sc_request.specs.Tables.{handler_in, out_at};
 
@@ -17,11 +18,15 @@ use sc_lockpass::{HandlerNumber, Rights, Version};
 use sc_region::{Job, Want};
 use std::alloc::{AllocError, Global};
 
+/// How many settlements a log may have beyond those that a state that is put into a core asks for.
+const MOST_SPARE_SETTLEMENTS: usize = 65_536;
+
 impl Core {
     ghost use Rattle.sc_request.specs.Cores.{center_of, state_of};
 
     /// Puts a state into the core: that of so many handlers, with the parts of these numbers, one after another, and new
     /// handlers past them. No handler is out then, and no session has ended. Which settlements the log has is not said.
+    /// From the number `used` on no handler was asked for anything before.
     ///
     /// # Errors
     /// Memory ran out. The state is as it was then.
@@ -31,8 +36,12 @@ impl Core {
         count: usize,
         parts: &[Part],
         numbers: &[u32],
+        used: usize,
     ) -> Result<(), AllocError>
         requires most { count ≤ most_handlers self.old.state.rights.version }
+        requires used { used ≤ 512 }
+        requires fresh { AreFreshFrom used (state_of self.old) }
+        requires at_home { (h : ℕ) → used ≤ h → (center_of self.old).out h ≡ None }
         requires few { length numbers.now ≤ 512 }
         requires within { AreWithin numbers.now (length parts.now) }
         requires named { NameBelow count (parts_in parts.now numbers.now) }
@@ -42,11 +51,10 @@ impl Core {
         ensures version { self.new.state.rights.version ≡ self.old.state.rights.version }
     {
         let mut handlers = handlers_of(alloc, parts, numbers)?;
-        let log = log_with(alloc, settlements_of(parts, numbers))?;
+        fit_log(alloc, &mut self.log, settlements_of(parts, numbers))?;
         let rights = rights_with(self.state.rights.version(), parts, numbers);
-        self.state.put(alloc, count, &mut handlers, rights);
+        self.state.put(alloc, count, &mut handlers, rights, used);
         self.outs = 0;
-        self.log = log;
         self.candidates.fill();
         self.reserving.fill();
         clear(&mut self.crowds);
@@ -56,9 +64,19 @@ impl Core {
 
 impl State {
     /// Puts so many handlers in the place of others, with these rights: none of them is out, and no session has ended.
-    fn put(&mut self, alloc: Global, count: usize, handlers: &mut Vec<Handler>, rights: Rights)
+    /// From the number `used` on they are new before.
+    fn put(
+        &mut self,
+        alloc: Global,
+        count: usize,
+        handlers: &mut Vec<Handler>,
+        rights: Rights,
+        used: usize,
+    )
         requires most { count ≤ most_handlers rights.version }
         requires few { vec_len handlers.old ≤ 512 }
+        requires used { used ≤ 512 }
+        requires new { AreNewPlaces used self.old.handlers.items }
         requires home { AreAllHome handlers.old.items }
         ensures count { self.new.count ≡ count }
         ensures rights { self.new.rights ≡ rights }
@@ -66,7 +84,7 @@ impl State {
         ensures home { AreAllHome self.new.handlers.items }
         ensures sessions { (k : ℕ) → slice_index self.new.sessions.items k ≡ 0 }
     {
-        put_handlers(alloc, &mut self.handlers, handlers);
+        put_handlers(alloc, &mut self.handlers, handlers, used);
         clear_counts(&mut self.sessions);
         self.rights = rights;
         self.count = count;
@@ -115,6 +133,18 @@ fn settlements_of(parts: &[Part], numbers: &[u32]) -> usize
     most
 }
 
+/// Makes sure that a log has this number of settlements, at least, and not many more. Its error says that memory ran out:
+/// the log is as it was then.
+fn fit_log(alloc: Global, log: &mut Log, count: usize) -> Result<(), AllocError>
+    ensures ok { OnOk result (count ≤ vec_len log.new.entries) }
+    ensures err { OnErr result (log.new ≡ log.old) }
+{
+    if log.len() < count || log.len() - count > MOST_SPARE_SETTLEMENTS {
+        *log = log_with(alloc, count)?;
+    }
+    Ok(())
+}
+
 /// A log with this number of settlements, at least. Its error says that memory ran out.
 fn log_with(alloc: Global, count: usize) -> Result<Log, AllocError>
     ensures { IfOk result (λ log. count ≤ vec_len log.entries) }
@@ -129,15 +159,17 @@ fn log_with(alloc: Global, count: usize) -> Result<Log, AllocError>
 
 // ---- what is put in the place of others
 
-/// Puts handlers in the first places, and new ones in the others.
-fn put_handlers(alloc: Global, places: &mut Vec<Handler>, handlers: &mut Vec<Handler>)
+/// Puts handlers in the first places, and new ones in the others. From the place `used` on they are new before.
+fn put_handlers(alloc: Global, places: &mut Vec<Handler>, handlers: &mut Vec<Handler>, used: usize)
     requires few { vec_len handlers.old ≤ vec_len places.old }
+    requires used { used ≤ vec_len places.old }
+    requires new { AreNewPlaces used places.old.items }
     requires home { AreAllHome handlers.old.items }
     ensures len { vec_len places.new ≡ vec_len places.old }
     ensures handlers { (k : ℕ) → handler_in (slice_get places.new.items k) ≡ handler_in (slice_get handlers.old.items k) }
     ensures home { AreAllHome places.new.items }
 {
-    for place in handlers.len()..places.len() {
+    for place in handlers.len()..used {
         renew(alloc, places, place);
     }
     while let Some(handler) = handlers.pop() {

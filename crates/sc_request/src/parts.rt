@@ -1,6 +1,7 @@
 //! What a core keeps of single handlers.
 ghost use Rattle.std.specs.Prelude.{◌≡◌, ◌<◌, ◌≤◌, ◌↔◌, ℕ, IfOk, IsTrue, length};
 ghost use Rattle.sc_handler.specs.InMemory.{handler_of};
+ghost use Rattle.sc_request.specs.Candidates.{AreFreshFrom};
 ghost use Rattle.sc_request.specs.Sound.{IsSoundHandler};
 
 use crate::center::Core;
@@ -62,12 +63,16 @@ impl Core {
     }
 
     /// A number from which on each handler was asked for nothing yet, and no handler holds it: at least that of the handlers.
-    pub fn used(&self) -> usize
+    /// The number `asked` is one from which on no handler was asked for anything.
+    pub fn used(&self, asked: usize) -> usize
+        requires few { asked ≤ 512 }
+        requires fresh { AreFreshFrom asked (state_of self.now) }
         ensures count { (state_of self.now).count ≤ result }
         ensures few { result ≤ 512 }
         ensures new { (h : ℕ) → result ≤ h → part_at h (state_of self.now) ≡ new_part }
     {
-        let mut count = 512;
+        let reach = larger(asked, self.state.rights.reach());
+        let mut count = larger(self.state.count, reach);
         while count > self.state.count && self.is_new((count - 1) as HandlerNumber) {
             count -= 1;
         }
@@ -106,6 +111,7 @@ fn settlements_for(handler: &Handler) -> usize
 pub(crate) fn larger(one: usize, other: usize) -> usize
     ensures one { one ≤ result }
     ensures other { other ≤ result }
+    ensures least { (n : ℕ) → one ≤ n → other ≤ n → result ≤ n }
 {
     if one < other { other } else { one }
 }

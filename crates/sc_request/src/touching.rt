@@ -1,11 +1,12 @@
 //! Whom a settlement gives something to do.
-ghost use Rattle.std.specs.Prelude.{◌≡◌, ◌==◌, ◌<◌, ◌&&◌, ◌||◌, if◌then◌else◌, map};
+ghost use Rattle.std.specs.Prelude.{◌≡◌, ◌==◌, ◌≤◌, ◌<◌, ◌&&◌, ◌||◌, ℕ, false, if◌then◌else◌, is_some, map};
 ghost use Rattle.sc_lockpass.specs.Rights.{is_handler};
 ghost use Rattle.sc_handler.specs.Handlers.{is_reserving};
 ghost use Rattle.sc_handler.specs.InMemory.{posting_of};
-ghost use Rattle.sc_request.specs.Candidates.{Adds, AddsTouched, Puts, Wakes, may_hear_from, posted_first};
+ghost use Rattle.sc_request.specs.Candidates.{Adds, AddsTouched, AreStrangersFrom, is_asked, Puts, Wakes, may_hear_from, posted_first};
 ghost use Rattle.sc_request.specs.Places.{plain};
 
+use crate::center::Core;
 use crate::handler_set::HandlerSet;
 use crate::state::State;
 use sc_handler::{HandlerStage, Posting};
@@ -90,6 +91,90 @@ impl State {
             } => false,
         }
     }
+}
+
+impl Core {
+    ghost use Rattle.sc_request.specs.Cores.{state_of};
+
+    /// Whether a handler has failed.
+    pub fn has_failed(&self, handler: HandlerNumber) -> bool
+        requires { handler < 512 }
+        ensures { result ≡ is_some ((state_of self.now).handlers handler).failure }
+    {
+        self.state.has_failed(handler)
+    }
+
+    /// A number past that of a handler, past those that there are and the next one that is made, and past those that
+    /// posted what the handler serves, or takes next.
+    pub fn strangers_from(&self, handler: HandlerNumber) -> usize
+        requires { handler < 512 }
+        ensures few { result ≤ 512 }
+        ensures strangers { AreStrangersFrom result handler (state_of self.now) }
+    {
+        let place = &self.state.handlers[handler as usize];
+        let from = past(self.state.count, past(handler as usize, 0));
+        let from = past_poster(&place.services, from);
+        let from = past_poster(&place.queue, from);
+        past_poster(&place.callback, from)
+    }
+}
+
+/// A number, at least `from`, past the handler that a turn asks that wants this, if it asks one.
+pub fn past_target(want: &Want, from: usize) -> usize
+    requires { from ≤ 512 }
+    ensures few { result ≤ 512 }
+    ensures not_below { from ≤ result }
+    ensures past { (k : ℕ) → result ≤ k → k < 512 → is_asked want.now k ≡ false }
+{
+    match want {
+        Want::Post(request) => past(request.target.handler as usize, from),
+        Want::Ask { request, passes: _ } => past(request.target.handler as usize, from),
+        Want::Continue
+        | Want::Reserve(_)
+        | Want::Create {
+            class: _,
+            procedure: _,
+            actuals: _,
+            passes: _,
+        }
+        | Want::Release(_)
+        | Want::Wait(_)
+        | Want::Done {
+            reply: _,
+            released: _,
+            refused: _,
+        }
+        | Want::Fail(_) => from,
+    }
+}
+
+/// The poster of the first of these lies below the number, as those below `from` do.
+fn past_poster(postings: &LinkedList<Posting>, from: usize) -> usize
+    requires { from ≤ 512 }
+    ensures few { result ≤ 512 }
+    ensures not_below { from ≤ result }
+    ensures past { (k : ℕ) → result ≤ k → k < 512 → posted_first k (map posting_of postings.now) ≡ false }
+{
+    let Some(first) = postings.front() else {
+        return from;
+    };
+    match first.request.poster() {
+        Some(poster) => past(poster as usize, from),
+        None => from,
+    }
+}
+
+/// The handler lies below the number if it has a place, as those below `from` do.
+fn past(handler: usize, from: usize) -> usize
+    requires { from ≤ 512 }
+    ensures few { result ≤ 512 }
+    ensures not_below { from ≤ result }
+    ensures past { (k : ℕ) → result ≤ k → k < 512 → (k == handler) ≡ false }
+{
+    if handler < from || handler >= 512 {
+        return from;
+    }
+    handler + 1
 }
 
 /// Adds the poster of the first of these, if there is one.

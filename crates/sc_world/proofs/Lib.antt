@@ -18,3 +18,4 @@ pub mod SettledCounts
 pub mod Links
 mod LoadedRegions
 mod LoadedWorlds
+mod UnusedHandlers

@@ -105,11 +105,13 @@ module _ (n i : ℕ) (xs ys : List PlainRegion) (others : (k : ℕ) → (k ≡ i
   pub still_more : n ≤ i → (zs : List PlainRegion) → ((k : ℕ) → k < n → slice_get xs k ≡ slice_get zs k) → (k : ℕ) → k < n → slice_get ys k ≡ slice_get zs k
   still_more far zs before k below = others k (λ e. omega (arith, far, below, e)) ∙ before k below
 
-pub new_from : (n i : ℕ) (xs : List PlainRegion) → length xs ≤ i → ((k : ℕ) → n ≤ k → k < i → contents_at xs k ≡ new_contents k) →
+-- Regions past a place are as they were, which was new.
+pub new_from : (n used i : ℕ) (xs ys : List PlainRegion) → ((k : ℕ) → used ≤ k → contents_at ys k ≡ new_contents k) → used ≤ i →
+    ((k : ℕ) → i ≤ k → slice_get xs k ≡ slice_get ys k) → ((k : ℕ) → n ≤ k → k < i → contents_at xs k ≡ new_contents k) →
     (k : ℕ) → n ≤ k → contents_at xs k ≡ new_contents k
-new_from n i xs all each k far = elim (cases_lt k i) [
+new_from n used i xs ys new all rest each k far = elim (cases_lt k i) [
   | inl below ↦ each k far below
-  | inr past ↦ ap (contents_in k) (slice_get_past xs k (omega (arith, all, past)))
+  | inr past ↦ ap (contents_in k) (rest k past) ∙ new k (omega (arith, all, past))
 ]
 
 -- Past all changes what is put is new.

@@ -4,6 +4,7 @@ pub mod Loading
 pub mod Reports
 pub mod Requests
 pub mod UnderJob
+pub mod Unused
 pub mod Turning
 pub mod Views
 pub mod Worlds

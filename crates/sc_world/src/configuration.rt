@@ -1,5 +1,5 @@
 //! The core and the regions, and what one turn changes of them.
-ghost use Rattle.std.specs.Prelude.{◌≡◌, ◌≤◌, ◌↔◌, IfOk, IsTrue, OnErr, OnOk, is_some, slice_get, true, vec_len};
+ghost use Rattle.std.specs.Prelude.{◌≡◌, ◌≤◌, ◌<◌, ◌↔◌, ℕ, IfOk, IsTrue, OnErr, OnOk, Some, is_some, slice_get, true, vec_len};
 ghost use Rattle.std.specs.Option.{option_map};
 ghost use Rattle.sc_world.specs.Requests.Props.{linked_prop};
 ghost use Rattle.sc_world.specs.Requests.Links.{AreLinked};
@@ -7,9 +7,14 @@ ghost use Rattle.sc_lockpass.specs.Versions.{most_handlers};
 ghost use Rattle.sc_handler.specs.Logged.{settlements_of};
 ghost use Rattle.sc_request.specs.Cores.{center_of, log_of};
 ghost use Rattle.sc_request.specs.Rooms.{HasRoomFor};
+ghost use Rattle.sc_request.specs.Logs.{settles};
 ghost use Rattle.sc_request.specs.Logs as core;
 ghost use Rattle.sc_world.specs.Reports as told;
+ghost use Rattle.sc_region.specs.declared.job.Want.TheVariants as want;
 ghost use Rattle.sc_world.specs.UnderJob.{AreCutShort, PlaysOut};
+ghost use Rattle.sc_world.specs.Unused.{AreUnusedFrom};
+ghost use Rattle.sc_request.specs.Candidates.{IsSparedBy};
+ghost use Rattle.sc_region.specs.declared.job.Job.{Job};
 ghost use Rattle.sc_world.specs.Turning.{IsRefusedTurn, IsTurn, PutsOutBack, StopsShort, TurnsUnderJob, turned_by};
 ghost use Rattle.sc_world.specs.Worlds.{max_handlers, new_regions, opened};
 
@@ -20,7 +25,7 @@ use sc_lockpass::{HandlerNumber, Version};
 use sc_model::Status;
 use sc_play::Region;
 use sc_region::{Breakdown, Want};
-use sc_request::Core;
+use sc_request::{Core, past_target};
 use std::alloc::{AllocError, Global};
 
 /// What a step of the world did.
@@ -45,7 +50,11 @@ pub struct Configuration<'p> {
     pub(crate) core: Core,
     /// The region of each handler by number, and places for those that there may be.
     pub(crate) regions: Vec<Region<'p>>,
+    /// From this number on no handler was asked for anything yet.
+    pub(crate) used: usize,
     ghost places: { vec_len regions ≡ 512 },
+    pub(crate) ghost few: { used ≤ 512 },
+    pub(crate) ghost unused: { AreUnusedFrom used (center_of core) regions.items },
     pub(crate) ghost linked: { AreLinked (center_of core) regions.items } by { linked_prop (center_of core) regions.items },
 }
 
@@ -68,6 +77,7 @@ impl<'p> Configuration<'p> {
             alloc,
             core: open_core(alloc, program, version)?,
             regions: regions(alloc, program)?,
+            used: MAX_HANDLERS as usize,
         })
     }
 
@@ -83,8 +93,11 @@ impl<'p> Configuration<'p> {
     {
         self.core.make_room()?;
         if self.core.pick_at(handler) {
+            self.used = self.used.max(self.core.strangers_from(handler));
             let region = &mut self.regions[handler as usize];
-            play(&mut self.core, region, handler, 1)?;
+            let mut asked = Want::Continue;
+            play(&mut self.core, region, handler, 1, &mut asked)?;
+            self.used = used_after(&self.core, handler, &asked, self.used);
             Ok(Turned::Moved)
         } else {
             Ok(Turned::Nothing)
@@ -107,8 +120,10 @@ impl<'p> Configuration<'p> {
     {
         self.core.make_room()?;
         if self.core.pick_at(handler) {
+            self.used = MAX_HANDLERS as usize;
             let region = &mut self.regions[handler as usize];
-            let (turns, cut_short) = play(&mut self.core, region, handler, limit)?;
+            let mut asked = Want::Continue;
+            let (turns, cut_short) = play(&mut self.core, region, handler, limit, &mut asked)?;
             if cut_short {
                 return Err(AllocError);
             }
@@ -228,32 +243,51 @@ fn are_cut_short(limit: u32, turns: u32, asked: &Want) -> bool
     turns < limit && matches!(asked, Want::Continue)
 }
 
+/// A number, at least `from`, from which on a turn of a handler that wanted this and is settled asked no handler. It is
+/// that of all places if the handler has failed.
+fn used_after(core: &Core, handler: HandlerNumber, asked: &Want, from: usize) -> usize
+    requires there { handler < 512 }
+    requires few { from ≤ 512 }
+    ensures few { result ≤ 512 }
+    ensures not_below { from ≤ result }
+    ensures spared { (k : ℕ) → result ≤ k → k < 512 → IsSparedBy handler asked.now (center_of core.now).state k }
+{
+    if core.has_failed(handler) {
+        return MAX_HANDLERS as usize;
+    }
+    past_target(asked, from)
+}
+
 /// Plays at most this number of turns of a handler that is out under its job, and settles it. Returns how many it
-/// played, and whether memory was refused to the next. Err if it was refused to the first: the handler is put back.
+/// played, and whether memory was refused to the next; `asked` is then what the last one wanted. Err if it was refused
+/// to the first: the handler is put back.
 fn play(
     core: &mut Core,
     region: &mut Region<'_>,
     handler: HandlerNumber,
     limit: u32,
+    asked: &mut Want,
 ) -> Result<(u32, bool), AllocError>
     requires some { 1 ≤ limit }
+    requires asked { asked.old ≡ want.Continue }
     requires out { is_some ((center_of core.old).out handler) ≡ true }
     requires room { HasRoomFor 0 core.old }
     ensures ok { IfOk result (λ played. PlaysOut limit handler played.0 (most_handlers core.old.state.rights.version)
         (center_of core.old) (center_of core.new) region.old region.new played.1) }
     ensures err { OnErr result (PutsOutBack handler (center_of core.old) (center_of core.new) region.old region.new) }
+    ensures asked { IfOk result (λ played. (j : Job) → (center_of core.old).out handler ≡ Some j →
+        center_of core.new ≡ settles (most_handlers core.old.state.rights.version) handler j played.0 asked.new (center_of core.old)) }
     ensures version { core.new.state.rights.version ≡ core.old.state.rights.version }
 {
     let Some(job) = core.job_out(handler) else {
         unreachable!();
     };
-    let mut asked = Want::Continue;
-    let Ok(turns) = region.play_asking(job, limit, &mut asked) else {
+    let Ok(turns) = region.play_asking(job, limit, asked) else {
         core.put_back(handler);
         return Err(AllocError);
     };
-    let cut_short = are_cut_short(limit, turns, &asked);
-    if core.settle(handler, turns, &asked).is_err() {
+    let cut_short = are_cut_short(limit, turns, asked);
+    if core.settle(handler, turns, asked).is_err() {
         unreachable!();
     }
     Ok((turns, cut_short))

@@ -84,19 +84,20 @@ fn without_new<'p>(mut regions: Vec<Region<'p>>) -> Vec<Region<'p>>
     ensures same { contents_at result.items ≡ contents_at regions.entry.items }
     ensures few { vec_len result ≤ 512 }
 {
-    let count = used(&regions);
+    let count = used(&regions, regions.len());
     regions.truncate(count);
     regions.shrink_to_fit();
     regions
 }
 
-/// A number from which on all regions are new.
-pub(crate) fn used(regions: &[Region<'_>]) -> usize
-    requires { length regions.now ≤ 512 }
-    ensures few { result ≤ length regions.now }
+/// A number from which on all regions are new. From `from` on they are.
+pub(crate) fn used(regions: &[Region<'_>], from: usize) -> usize
+    requires few { from ≤ 512 }
+    requires new { (handler : ℕ) → from ≤ handler → contents_at regions.now handler ≡ new_contents handler }
+    ensures few { result ≤ from }
     ensures new { (handler : ℕ) → result ≤ handler → contents_at regions.now handler ≡ new_contents handler }
 {
-    let mut count = regions.len();
+    let mut count = from;
     while count > 0 && is_new_at(regions, (count - 1) as HandlerNumber) {
         count -= 1;
     }

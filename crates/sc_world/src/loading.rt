@@ -39,7 +39,8 @@ impl<'p> Configuration<'p> {
         ensures few { result ≤ 512 }
         ensures new { AreNewFrom result (world_in self.now) }
     {
-        self.core.used().max(used(&self.regions))
+        let core = self.core.used(self.used);
+        core.max(used(&self.regions, self.used))
     }
 
     /// Puts the state that these numbers stand for in the place of the one that there is. A region that holds the same
@@ -54,9 +55,15 @@ impl<'p> Configuration<'p> {
         ensures err { OnErr result (world_in self.new ≡ world_in self.old) }
     {
         let mut changes = changes_to(self.alloc, &self.regions, tables.regions, state.regions)?;
-        self.core
-            .load(self.alloc, state.count, tables.parts, state.parts)?;
-        put_regions(self.alloc, &mut self.regions, &mut changes);
+        self.core.load(
+            self.alloc,
+            state.count,
+            tables.parts,
+            state.parts,
+            self.used,
+        )?;
+        put_regions(self.alloc, &mut self.regions, &mut changes, self.used);
+        self.used = state.regions.len();
         Ok(())
     }
 }
@@ -102,19 +109,23 @@ fn change_to<'p>(
 
 // ---- what is put in the place of others
 
-/// Makes these changes to the first places, and puts new regions in the places after these.
+/// Makes these changes to the first places, and puts new regions in the places after these. From `used` on they are new
+/// before.
 fn put_regions<'p>(
     alloc: Global,
     regions: &mut Vec<Region<'p>>,
     changes: &mut Vec<Option<Region<'p>>>,
+    used: usize,
 )
     requires few { vec_len changes.old ≤ vec_len regions.old }
     requires places { vec_len regions.old ≤ 512 }
+    requires used { used ≤ vec_len regions.old }
+    requires new { (h : ℕ) → used ≤ h → contents_at regions.old.items h ≡ new_contents h }
     ensures len { vec_len regions.new ≡ vec_len regions.old }
     ensures contents { (h : ℕ) → contents_at regions.new.items h ≡ contents_after h regions.old.items (slice_get changes.old.items h) }
     ensures programs { (p : Image) → AreOf p regions.old.items → ChangesAreOf p changes.old.items → AreOf p regions.new.items }
 {
-    for place in changes.len()..regions.len() {
+    for place in changes.len()..used {
         renew(alloc, regions, place as HandlerNumber);
     }
     while let Some(change) = changes.pop() {

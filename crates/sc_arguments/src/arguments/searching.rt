@@ -47,7 +47,7 @@ pub enum Sought {
 
 const DEFAULT_SOUGHT: &str = "any";
 
-const DEFAULT_STATES: &str = "25000";
+const DEFAULT_STATES: &str = "100000";
 
 const SOUGHT: [&str; 3] = ["stuck", "fails", "any"];
 

@@ -12,20 +12,20 @@ loop-place-preserved c =
       far = omega (arith, l.invariant.far);
       new = new_more n l.place l.places.items c.renew.new.places.items c.renew.ensures.others c.renew.ensures.new l.invariant.new;
       home = out_more n l.place l.places.items c.renew.new.places.items c.renew.ensures.others c.renew.ensures.home l.invariant.home;
+      rest = λ k past. c.renew.ensures.others k (λ e. omega (arith, past, e)) ∙ l.invariant.rest k (omega (arith, past));
     }
 
 pub loop-handler-init : goal.loop-handler-init
 loop-handler-init c =
     let l = c.loop-place in
     let n = c.args.handlers.now.len in
-    let own = l.places.ok.0 in
-    let same = l.invariant.len in
-    let all : length l.places.items ≤ l.place = omega (arith, own, same, c.loop-place-test.false, c.len-place-end.ensures) in
+    let all : c.args.used ≤ l.place = omega (arith, c.loop-place-test.false) in
+    let before = c.args.places.now.items in
     record {
       len = l.invariant.len;
       few = omega arith;
-      new = new_from n l.place l.places.items all l.invariant.new;
-      home = out_from n l.place l.places.items all l.invariant.home;
+      new = new_from n c.args.used l.place l.places.items before c.requires.new all l.invariant.rest l.invariant.new;
+      home = out_from n c.args.used l.place l.places.items before c.requires.new all l.invariant.rest l.invariant.home;
       left = λ k below. refl;
       put = λ k far below. absurd (omega (arith, far, below));
     }

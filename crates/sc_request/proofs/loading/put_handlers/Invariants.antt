@@ -10,6 +10,7 @@ invariant-loop-place l = record {
   far : vec_len l.fn.handlers ≤ l.place;
   new : (k : ℕ) → vec_len l.fn.handlers ≤ k → k < l.place → handler_in (slice_get l.places.items k) ≡ new_handler;
   home : (k : ℕ) → vec_len l.fn.handlers ≤ k → k < l.place → out_at l.places.items k ≡ None;
+  rest : (k : ℕ) → l.place ≤ k → slice_get l.places.items k ≡ slice_get l.fn.places.items k;
 }
 
 abbrev pub invariant-loop-handler : goal.invariant-loop-handler

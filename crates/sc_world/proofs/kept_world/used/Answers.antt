@@ -1,6 +1,5 @@
 use Rattle.std.proofs.Common.{arith}
-use Rattle.sc_world.proofs.KeptWorlds.{new_past}
 use Rattle.sc_world.proofs.kept_world.used.Goals as goal
 
 pub loop-count-init : goal.loop-count-init
-loop-count-init c = record { few = omega arith; new = λ h past. new_past c.args.regions.now h (omega (arith, past)) }
+loop-count-init c = record { few = omega arith; new = c.requires.new }

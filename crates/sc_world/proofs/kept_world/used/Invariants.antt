@@ -5,7 +5,7 @@ use Rattle.sc_world.proofs.kept_world.used.Given as goal
 
 abbrev pub invariant-loop-count : goal.invariant-loop-count
 invariant-loop-count l = record {
-  few : l.count ≤ length l.regions;
+  few : l.count ≤ l.from;
   new : (h : ℕ) → l.count ≤ h → contents_at l.regions h ≡ new_contents h;
 }
 

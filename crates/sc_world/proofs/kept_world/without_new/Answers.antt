@@ -1,6 +1,9 @@
-use Rattle.std.proofs.Common.{◌∙◌}
-use Rattle.sc_world.proofs.KeptWorlds.{same_without_new}
+use Rattle.std.proofs.Common.{◌∙◌, arith}
+use Rattle.sc_world.proofs.KeptWorlds.{new_past, same_without_new}
 use Rattle.sc_world.proofs.kept_world.without_new.Goals as goal
+
+pub used-count-requires-clause-new : goal.used-count-requires-clause-new
+used-count-requires-clause-new c = λ h past. new_past c.deref.result.now h (omega (arith, past))
 
 pub returns-clause-same : goal.returns-clause-same
 returns-clause-same c =

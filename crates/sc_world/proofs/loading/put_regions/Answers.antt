@@ -9,6 +9,7 @@ loop-place-init c = record {
   far = omega arith;
   still = λ k below. refl;
   new = λ k far few. absurd (omega (arith, far, few));
+  rest = λ k past. refl;
   programs = λ p of. of;
 }
 
@@ -23,6 +24,7 @@ loop-place-preserved c =
       far = omega (arith, l.invariant.far);
       still = still_more n l.place xs ys c.renew.ensures.others l.invariant.far c.args.regions.now.items l.invariant.still;
       new = new_more n l.place xs ys c.renew.ensures.others c.renew.ensures.new l.invariant.new;
+      rest = λ k past. c.renew.ensures.others k (λ e. omega (arith, past, e)) ∙ l.invariant.rest k (omega (arith, past));
       programs = λ p of. c.renew.ensures.programs p (l.invariant.programs p of);
     }
 
@@ -30,9 +32,7 @@ pub loop-change-init : goal.loop-change-init
 loop-change-init c =
     let l = c.loop-place in
     let n = c.args.changes.now.len in
-    let own = l.regions.ok.0 in
-    let same = l.invariant.len in
-    let all : length l.regions.items ≤ l.place = omega (arith, own, same, c.loop-place-test.false, c.len-place-end.ensures) in
+    let all : c.args.used ≤ l.place = omega (arith, c.loop-place-test.false) in
     let fs = c.args.changes.now in
     let many : length fs.items ≡ n = let e = fs.ok.0 in omega (arith, e) in
     record {
@@ -40,7 +40,8 @@ loop-change-init c =
       few = omega arith;
       left = λ k below. refl;
       still = l.invariant.still;
-      put = put_past c.args.regions.now.items fs.items l.regions.items n many (new_from n l.place l.regions.items all l.invariant.new);
+      put = put_past c.args.regions.now.items fs.items l.regions.items n many
+          (new_from n c.args.used l.place l.regions.items c.args.regions.now.items c.requires.new all l.invariant.rest l.invariant.new);
       programs = λ p of changes. l.invariant.programs p of;
     }
 

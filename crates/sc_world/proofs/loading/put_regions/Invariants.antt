@@ -11,6 +11,7 @@ invariant-loop-place l = record {
   far : vec_len l.fn.changes ≤ l.place;
   still : (k : ℕ) → k < vec_len l.fn.changes → slice_get l.regions.items k ≡ slice_get l.fn.regions.items k;
   new : (k : ℕ) → vec_len l.fn.changes ≤ k → k < l.place → contents_at l.regions.items k ≡ new_contents k;
+  rest : (k : ℕ) → l.place ≤ k → slice_get l.regions.items k ≡ slice_get l.fn.regions.items k;
   programs : (p : Image) → AreOf p l.fn.regions.items → AreOf p l.regions.items;
 }
 

@@ -6,10 +6,18 @@ use Rattle.sc_world.specs.Loading.{contents_after, contents_by, held_in}
 use Rattle.sc_world.specs.Views.{world_in}
 use Rattle.sc_world.specs.Worlds.{world_with}
 use Rattle.sc_world.proofs.LoadedWorlds.{loaded_kept, loaded_linked, loaded_of, named}
+use Rattle.sc_world.proofs.UnusedHandlers.{loaded_unused, regions_past}
 use Rattle.sc_world.proofs.configuration.Configuration.load.Goals as goal
 
 pub load-requires-clause-named : goal.load-requires-clause-named
 load-requires-clause-named c = named (world_in c.args.self.now) c.args.tables c.args.state c.requires.loadable
+
+pub load-requires-clause-at_home : goal.load-requires-clause-at_home
+load-requires-clause-at_home c = λ h far. c.requires.loadable.of.nobody_out h
+
+pub put_regions-requires-clause-new : goal.put_regions-requires-clause-new
+put_regions-requires-clause-new c =
+    let s = c.args.self.now in regions_past s.used s.regions.items (omega (arith, s.places, s.regions.ok.0)) s.unused.regions
 
 pub invariant_of-self-2 : goal.invariant_of-self-2
 invariant_of-self-2 c =
@@ -25,6 +33,9 @@ invariant_of-self-2 c =
     ∙ c.in_ok-changes.ensures.contents h in
     record {
       places = c.put_regions.ensures.len ∙ c.args.self.now.places;
+      few = c.requires.loadable.few;
+      unused = loaded_unused c.args.tables c.args.state v.center ys.items _ (omega arith) c.requires.loadable.as_many
+          c.in_ok-load.ensures.state holds;
       linked = loaded_linked old c.args.tables c.args.state c.requires.loadable v cs same_most c.in_ok-load.ensures.state c.in_ok-load.ensures.home many holds
           c.in_ok-changes.ensures.programs c.put_regions.ensures.programs;
     }

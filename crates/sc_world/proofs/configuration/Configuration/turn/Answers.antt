@@ -1,4 +1,4 @@
-use Rattle.std.proofs.Common.{◌≡◌, Option, length, ap, sym, ◌∙◌, arith}
+use Rattle.std.proofs.Common.{◌≡◌, ◌≤◌, Option, length, ap, sym, ◌∙◌, arith}
 use Rattle.std.specs.Prelude.{is_some}
 use Rattle.sc_region.specs.declared.job.Job.{Job}
 use Rattle.sc_lockpass.specs.Versions.{most_handlers}
@@ -7,6 +7,7 @@ use Rattle.sc_request.specs.Logs.{pick_for, picked}
 use Rattle.std.proofs.lemmas.Option.{slice_get_read}
 use Rattle.sc_world.proofs.FreeHandlers.{linked_still, played_linked}
 use Rattle.sc_world.proofs.Outs.{err-at, none-job, ok-at, some-of, picked-out, turn-none, turn-some, refused-some, none-picked, some-picked, world-is, moved-by, nothing-by, makes, held-up, on-err}
+use Rattle.sc_world.proofs.UnusedHandlers.{unused_back, unused_settled, unused_still}
 use Rattle.sc_world.proofs.configuration.Configuration.turn.Goals as goal
 
 pub play-requires-clause-out : goal.play-requires-clause-out
@@ -76,6 +77,8 @@ returns-else-pick_at-clause-turned c =
 pub invariant_of-self : goal.invariant_of-self
 invariant_of-self c = record {
   places = c.args.self.now.places;
+  few = c.args.self.now.few;
+  unused = unused_still c.args.self.now.used _ _ _ c.make_room.ensures.center c.args.self.now.unused;
   linked = linked_still _ _ _ c.make_room.ensures.center c.args.self.now.linked;
 }
 
@@ -101,3 +104,50 @@ invariant_of-self-then-pick_at-clause-linked c =
     (sym (job ∙ ap (pick_for h) room)) stands out
     (ok-at c.play.result ((center_of c.pick_at.new.self).out h) _ j is_out c.play.ensures.ok)
     (err-at c.play.result ((center_of c.pick_at.new.self).out h) _ j is_out c.play.ensures.err)
+
+pub invariant_of-self-else-pick_at-clause-unused : goal.invariant_of-self-else-pick_at-clause-unused
+invariant_of-self-else-pick_at-clause-unused c =
+    let none = none-job (pick_for c.args.handler (center_of c.make_room.new.self)) (sym c.pick_at.ensures.picked ∙ c.if-pick_at.false) in
+    let kept = none-picked c.args.handler (center_of c.make_room.new.self) (center_of c.pick_at.new.self) none c.pick_at.ensures.center in
+    unused_still c.args.self.now.used _ _ _ (kept ∙ c.in_ok-make_room.ensures.center) c.args.self.now.unused
+
+pub invariant_of-self-then-pick_at-clause-unused : goal.invariant_of-self-then-pick_at-clause-unused
+invariant_of-self-then-pick_at-clause-unused c =
+    let h = c.args.handler in
+    let room = c.in_ok-make_room.ensures.center in
+    let found = some-of (pick_for h (center_of c.make_room.new.self)) (sym c.pick_at.ensures.picked ∙ c.if-pick_at.true) in
+    let j = found.0 in
+    let picks = some-picked h j (center_of c.make_room.new.self) (center_of c.pick_at.new.self) (sym found.1) c.pick_at.ensures.center in
+    let is_out = picked-out h j (center_of c.make_room.new.self) (center_of c.pick_at.new.self) picks in
+    let more : c.args.self.now.used ≤ c.max-self.result = omega (arith, c.max-self.ensures) in
+    let reached : c.strangers_from.result ≤ c.max-self.result = omega (arith, c.max-self.ensures) in
+    unused_settled h j c.args.self.now.used c.max-self.result (center_of c.args.self.now.core) (center_of c.pick_at.new.self) (center_of c.play.new.core)
+    c.args.self.now.regions.items c.play.new.region (c.pick_at.ensures.below c.if-pick_at.true) more c.args.self.now.unused (picks ∙ ap (picked h j) room)
+    (λ k far below. c.strangers_from.ensures.strangers k (omega (arith, far, reached)) below) _ _ c.play.new.asked c.used_after-self.result
+    c.used_after-self.ensures.not_below (c.in_ok-play.ensures.asked j is_out) c.used_after-self.ensures.spared
+
+pub invariant_of-self-in-Break-branch-2 : goal.invariant_of-self-in-Break-branch-2
+invariant_of-self-in-Break-branch-2 c =
+    let h = c.args.handler in
+    let room = c.in_ok-make_room.ensures.center in
+    let found = some-of (pick_for h (center_of c.make_room.new.self)) (sym c.pick_at.ensures.picked ∙ c.if-pick_at.true) in
+    let j = found.0 in
+    let job = sym found.1 in
+    let picks = some-picked h j (center_of c.make_room.new.self) (center_of c.pick_at.new.self) job c.pick_at.ensures.center in
+    let is_out = picked-out h j (center_of c.make_room.new.self) (center_of c.pick_at.new.self) picks in
+    let out = picks ∙ ap (picked h j) room in
+    let below = c.pick_at.ensures.below c.if-pick_at.true in
+    let count : 512 ≡ length c.args.self.now.regions.items = omega (arith, c.args.self.now.places, c.args.self.now.regions.ok.0) in
+    let stands = slice_get_read c.args.self.now.regions.items 512 h c.index_mut-region.result.now count below c.index_mut-region.ensures.value in
+    let more : c.args.self.now.used ≤ c.max-self.result = omega (arith, c.max-self.ensures) in
+    let reached : c.strangers_from.result ≤ c.max-self.result = omega (arith, c.max-self.ensures) in
+    record {
+      places = c.args.self.now.places;
+      few = omega (arith, c.max-self.ensures, c.args.self.now.few, c.strangers_from.ensures.few);
+      unused = unused_back h j c.args.self.now.used c.max-self.result (center_of c.args.self.now.core) (center_of c.pick_at.new.self) (center_of c.play.new.core)
+          c.args.self.now.regions.items c.play.new.region below more c.args.self.now.unused out
+          (λ k far under. c.strangers_from.ensures.strangers k (omega (arith, far, reached)) under) (c.in_err-play.ensures.err j is_out).center;
+      linked = played_linked 1 h j _ (center_of c.args.self.now.core) _ _ c.args.self.now.regions.items _ _ c.play.result c.args.self.now.linked
+          (sym (job ∙ ap (pick_for h) room)) stands out (ok-at c.play.result ((center_of c.pick_at.new.self).out h) _ j is_out c.play.ensures.ok)
+          (err-at c.play.result ((center_of c.pick_at.new.self).out h) _ j is_out c.play.ensures.err);
+    }

@@ -9,6 +9,7 @@ use Rattle.sc_world.proofs.AtOnce.{all_told, none_told, refused_told, some_told}
 use Rattle.sc_world.proofs.FreeHandlers.{linked_still, played_linked}
 use Rattle.sc_world.proofs.Outs.{err-at, held-up, none-job, none-picked, ok-at, on-err, picked-out, refused-some, some-of, some-picked, world-is}
 use Rattle.sc_world.proofs.UnderJob.{makes-all, makes-some}
+use Rattle.sc_world.proofs.UnusedHandlers.{unused_all, unused_still}
 use Rattle.sc_world.proofs.configuration.Configuration.turns_under_job.Goals as goal
 
 pub play-requires-clause-out : goal.play-requires-clause-out
@@ -90,6 +91,8 @@ returns-else-pick_at-clause-ok c =
 pub invariant_of-self : goal.invariant_of-self
 invariant_of-self c = record {
   places = c.args.self.now.places;
+  few = c.args.self.now.few;
+  unused = unused_still c.args.self.now.used _ _ _ c.make_room.ensures.center c.args.self.now.unused;
   linked = linked_still _ _ _ c.make_room.ensures.center c.args.self.now.linked;
 }
 
@@ -114,3 +117,12 @@ invariant_of-self-then-pick_at-clause-linked c =
     (sym (job ∙ ap (pick_for h) room)) stands (out ∙ ap (picked h j) room)
     (ok-at c.play.result ((center_of c.pick_at.new.self).out h) _ j is_out c.play.ensures.ok)
     (err-at c.play.result ((center_of c.pick_at.new.self).out h) _ j is_out c.play.ensures.err)
+
+pub invariant_of-self-else-pick_at-clause-unused : goal.invariant_of-self-else-pick_at-clause-unused
+invariant_of-self-else-pick_at-clause-unused c =
+    let none = none-job (pick_for c.args.handler (center_of c.make_room.new.self)) (sym c.pick_at.ensures.picked ∙ c.if-pick_at.false) in
+    let kept = none-picked c.args.handler (center_of c.make_room.new.self) (center_of c.pick_at.new.self) none c.pick_at.ensures.center in
+    unused_still c.args.self.now.used _ _ _ (kept ∙ c.in_ok-make_room.ensures.center) c.args.self.now.unused
+
+pub invariant_of-self-then-pick_at-clause-unused : goal.invariant_of-self-then-pick_at-clause-unused
+invariant_of-self-then-pick_at-clause-unused c = unused_all _ _
