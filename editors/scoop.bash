@@ -15,7 +15,7 @@ _scoop() {
     case ${before%=} in
     --root | --turns | --output-limit | --workers | --states) return ;;
     --for)
-        mapfile -t COMPREPLY < <(compgen -W 'stuck fails any' -- "$word")
+        mapfile -t COMPREPLY < <(compgen -W 'stuck fails refused any' -- "$word")
         return
         ;;
     --format)

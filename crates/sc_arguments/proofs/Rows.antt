@@ -3,7 +3,7 @@ use Rattle.std.proofs.Common.{◌≡◌, [], ◌∷◌, Some, None, true, false,
 use Rattle.sc_arguments.specs.Asked.{asks_for_help, format_in, sought_named}
 use Rattle.sc_arguments.specs.Words.{given_in, has_option, value_of}
 use Rattle.sc_arguments.specs.declared.arguments.format.Format.TheVariants.{Json, Text}
-use Rattle.sc_arguments.specs.declared.arguments.searching.Sought.TheVariants.{Any, Fails, Stuck}
+use Rattle.sc_arguments.specs.declared.arguments.searching.Sought.TheVariants.{Any, Fails, Refused, Stuck}
 
 -- ---- the value of an option
 
@@ -70,6 +70,9 @@ stuck = refl
 
 fails : sought_named (codes "fails") ≡ Fails
 fails = refl
+
+refused : sought_named (codes "refused") ≡ Refused
+refused = refl
 
 any : sought_named (codes "any") ≡ Any
 any = refl

@@ -16,7 +16,7 @@ use Rattle.sc_arguments.specs.declared.arguments.format.Format.{Format}
 use Rattle.sc_arguments.specs.declared.arguments.format.Format.TheVariants.{Json, Text}
 use Rattle.sc_arguments.specs.declared.arguments.searching.SearchOptions.{SearchOptions}
 use Rattle.sc_arguments.specs.declared.arguments.searching.Sought.{Sought}
-use Rattle.sc_arguments.specs.declared.arguments.searching.Sought.TheVariants.{Any, Fails, Stuck}
+use Rattle.sc_arguments.specs.declared.arguments.searching.Sought.TheVariants.{Any, Fails, Refused, Stuck}
 
 -- ---- what options say
 
@@ -24,10 +24,12 @@ use Rattle.sc_arguments.specs.declared.arguments.searching.Sought.TheVariants.{A
 abbrev pub format_named : List ℕ → Format
 format_named word = if bytes_eq word (codes "json") then Json else Text
 
--- what a search looks for, by the value of `--for`: `stuck`, `fails`, or else either of them
+-- what a search looks for, by the value of `--for`: `stuck`, `fails`, `refused`, or else any of them
 abbrev pub sought_named : List ℕ → Sought
 sought_named word =
-    if bytes_eq word (codes "stuck") then Stuck else if bytes_eq word (codes "fails") then Fails else Any
+    if bytes_eq word (codes "stuck") then Stuck
+    else if bytes_eq word (codes "fails") then Fails
+    else if bytes_eq word (codes "refused") then Refused else Any
 
 -- The root is the one that `--root` names, or else `APPLICATION.make`.
 abbrev pub IsRootIn : List (List ℕ) → Root → Type 0

@@ -23,11 +23,12 @@ use Rattle.sc_world.specs.Turning.{Runs}
 use Rattle.sc_world.specs.Worlds.{PlainWorld, opened}
 use Rattle.sc_world.proofs.Runs.{runs-more}
 use Rattle.sc_frontend.specs.Texts.{IsLoaded}
-use Rattle.sc_refines_world.specs.Anew.{AnewRunsAsMachine, IsPlayed, RunsAnew}
+use Rattle.sc_refines_world.specs.Anew.{AnewRunsAsMachine, IsKeptAs, IsPlayed, RunsAnew}
 use Rattle.sc_refines_world.specs.Refining.{StandingWorldIsNear, WorldReportsAsMachine, WorldRunsAsMachine}
+use Rattle.sc_refines_world.specs.Standing.{StandsFor}
 use Rattle.sc_search.specs.declared.aims.Aim.{Aim}
 use Rattle.sc_search.specs.declared.aims.Aim.TheVariants as aim
-use Rattle.sc_search.specs.Aims.{HasFailed, IsMet}
+use Rattle.sc_search.specs.Aims.{HasFailed, HasRefused, IsMet}
 use Rattle.sc_search.specs.Closed.{IsClosed}
 use Rattle.sc_search.specs.Found.{turns_of}
 use Rattle.sc_search.specs.Limits.{AllMet, AllPlayed, AreMet, ArePlayed, GivesUp, Two, turns_a_state}
@@ -35,7 +36,7 @@ use Rattle.sc_search.specs.Waiting.{AreMoving, IsAnewTurn}
 use Rattle.sc_search.specs.Waiting as world
 use Rattle.sc_headline.specs.Exactly.{OneWorld}
 use Rattle.sc_headline.specs.Headline.{machine_after}
-use Rattle.sc_headline.specs.Searched.{FoundOrdersAreTheMachines, IsSought, SearchesGiveUpAtLimits, SomeWaits, WaitsForGood, WholeSearchesFindAll, statuses_in}
+use Rattle.sc_headline.specs.Searched.{FoundOrdersAreTheMachines, IsSought, SearchesGiveUpAtLimits, SomeHasRefused, SomeWaits, WaitsForGood, WholeSearchesFindAll, statuses_in}
 use Rattle.sc_headline.proofs.Stuck.{busy_with, lives}
 
 -- ---- statuses
@@ -108,6 +109,26 @@ idle_in h w e = by (has_turn h w) refl
         let no : true ≡ false = sym (ap is_busy (listed h w few ∙ busy)) ∙ e in
         cc
 
+-- ---- refused requests
+
+-- Worlds that are kept alike have refused the same.
+refused_alike : (w u : PlainWorld) → kept w ≡ kept u → HasRefused w.center.state → HasRefused u.center.state
+refused_alike w u alike refused = subst (λ (k : PlainKept). HasRefused k.state) alike refused
+
+module _ (s : System) (p : Image) (w : World) (x : PlainWorld) (stands : StandsFor s p w x) where
+  -- what a world's handlers have refused, the machine's have
+  machine_refuses : HasRefused x.center.state → SomeHasRefused w
+  machine_refuses one =
+      let h : ℕ = one.handler in
+      let many = (stands.core.handlers h).refused in
+      record { handler = h; there = omega (arith, one.there, stands.core.count); some = omega (arith, one.some, many) }
+
+  world_refuses : SomeHasRefused w → HasRefused x.center.state
+  world_refuses one =
+      let h : ℕ = one.handler in
+      let many = (stands.core.handlers h).refused in
+      record { handler = h; there = omega (arith, one.there, stands.core.count); some = omega (arith, one.some, many) }
+
 -- ---- turns that are played anew
 
 module _ (p : Image) (v : Version) where
@@ -155,12 +176,15 @@ module _ (anew : AnewRunsAsMachine) (alike : KeptAlikeReadAlike) (near : Standin
   abbrev most : ℕ
   most = most_handlers v
 
+  kept_as : (hs : List ℕ) (y : PlainWorld) → RunsAnew p v hs (opened p v) y → IsKeptAs s p most (machine_after s root v hs) y
+  kept_as hs y runs = anew s root loaded.sound.faultless loaded.sound.well_formed p v hs y loaded.is_program loaded.fits runs
+
   -- the statuses of a world that is played anew are the machine's
   told : (hs : List ℕ) (y : PlainWorld) → RunsAnew p v hs (opened p v) y → statuses y ≡ statuses_in (machine_after s root v hs)
   told hs y runs =
       let w = machine_after s root v hs in
-      let kept_as = anew s root loaded.sound.faultless loaded.sound.well_formed p v hs y loaded.is_program loaded.fits runs in
-      sym (alike p most kept_as.world y kept_as.alike).statuses ∙ (tells s p w kept_as.world (near s p w kept_as.world kept_as.stands)).1
+      let k = kept_as hs y runs in
+      sym (alike p most k.world y k.alike).statuses ∙ (tells s p w k.world (near s p w k.world k.stands)).1
 
   waits_too : (hs : List ℕ) (x : PlainWorld) → Runs hs (opened p v) x → world.SomeWaits p v x → SomeWaits s v (machine_after s root v hs)
   waits_too hs x runs waits =
@@ -184,21 +208,28 @@ module _ (anew : AnewRunsAsMachine) (alike : KeptAlikeReadAlike) (near : Standin
   failed_too : (hs : List ℕ) (x : PlainWorld) → Runs hs (opened p v) x → HasFailed (statuses x) → HasFailed (statuses_in (machine_after s root v hs))
   failed_too hs x runs failed = subst HasFailed (told hs x (anew_runs p v hs [] (opened p v) x refl runs)) failed
 
+  refused_too : (hs : List ℕ) (x : PlainWorld) → Runs hs (opened p v) x → HasRefused x.center.state → SomeHasRefused (machine_after s root v hs)
+  refused_too hs x runs refused =
+      let k = kept_as hs x (anew_runs p v hs [] (opened p v) x refl runs) in
+      machine_refuses s p (machine_after s root v hs) k.world k.stands (refused_alike x k.world (sym k.alike.same) refused)
+
   pub sought_too : (a : Aim) (hs : List ℕ) (x : PlainWorld) → Runs hs (opened p v) x → world.IsSought p v a x → IsSought s v a (machine_after s root v hs)
   sought_too aim.Stuck hs x runs waits = waits_too hs x runs waits
   sought_too aim.Fails hs x runs failed = failed_too hs x runs failed
   sought_too aim.Any hs x runs (inl waits) = inl (waits_too hs x runs waits)
-  sought_too aim.Any hs x runs (inr failed) = inr (failed_too hs x runs failed)
+  sought_too aim.Refused hs x runs refused = refused_too hs x runs refused
+  sought_too aim.Any hs x runs (inr (inl failed)) = inr (inl (failed_too hs x runs failed))
+  sought_too aim.Any hs x runs (inr (inr refused)) = inr (inr (refused_too hs x runs refused))
 
   -- ---- where nothing was found
 
   module _ (a : Aim) (ks : List PlainKept) (closed : IsClosed p v a ks) where
-    none_fails : (hs : List ℕ) → ((ss : List Status) → HasFailed ss → IsMet a ss) → HasFailed (statuses_in (machine_after s root v hs)) → ⊥
-    none_fails hs meets failed =
+    -- no world that is played anew shows what is looked for
+    none_shows : (hs : List ℕ) → ((y : PlainWorld) → RunsAnew p v hs (opened p v) y → IsMet a y) → ⊥
+    none_shows hs shows =
         let there = reaches p v a ks closed hs (opened p v) closed.opens.number closed.opens.stands in
         let u = closed.unmet there.0 there.1 there.2 in
-        let runs = there.3 u.world (u.stands_in.handlers, u.stands_in.runs) u.stands_in.kept in
-        u.unmet (meets (statuses u.world) (subst HasFailed (sym (told hs u.world runs)) failed))
+        u.unmet (shows u.world (there.3 u.world (u.stands_in.handlers, u.stands_in.runs) u.stands_in.kept))
 
     none_waits : (hs : List ℕ) → AreMoving p v a ks → world.seeks_stuck a ≡ true → SomeWaits s v (machine_after s root v hs) → ⊥
     none_waits hs moving seeks waits =
@@ -218,11 +249,21 @@ module _ (anew : AnewRunsAsMachine) (alike : KeptAlikeReadAlike) (near : Standin
         let no : true ≡ false = sym turns ∙ ap (has_turn h) (run_append most s hs gs (opening s root)) ∙ waits.1.never gs in
         cc
 
+  fails_anew : (hs : List ℕ) (y : PlainWorld) → RunsAnew p v hs (opened p v) y → HasFailed (statuses_in (machine_after s root v hs)) → HasFailed (statuses y)
+  fails_anew hs y runs failed = subst HasFailed (sym (told hs y runs)) failed
+
+  refuses_anew : (hs : List ℕ) (y : PlainWorld) → RunsAnew p v hs (opened p v) y → SomeHasRefused (machine_after s root v hs) → HasRefused y.center.state
+  refuses_anew hs y runs refused =
+      let k = kept_as hs y runs in
+      refused_alike k.world y k.alike.same (world_refuses s p (machine_after s root v hs) k.world k.stands refused)
+
   pub none_sought : (a : Aim) (ks : List PlainKept) → IsClosed p v a ks → AreMoving p v a ks → (hs : List ℕ) → IsSought s v a (machine_after s root v hs) → ⊥
   none_sought aim.Stuck ks closed moving hs waits = none_waits aim.Stuck ks closed hs moving refl waits
-  none_sought aim.Fails ks closed moving hs failed = none_fails aim.Fails ks closed hs (λ ss f. f) failed
+  none_sought aim.Fails ks closed moving hs failed = none_shows aim.Fails ks closed hs (λ y runs. fails_anew hs y runs failed)
+  none_sought aim.Refused ks closed moving hs refused = none_shows aim.Refused ks closed hs (λ y runs. refuses_anew hs y runs refused)
   none_sought aim.Any ks closed moving hs (inl waits) = none_waits aim.Any ks closed hs moving refl waits
-  none_sought aim.Any ks closed moving hs (inr failed) = none_fails aim.Any ks closed hs (λ ss f. inr f) failed
+  none_sought aim.Any ks closed moving hs (inr (inl failed)) = none_shows aim.Any ks closed hs (λ y runs. inr (inl (fails_anew hs y runs failed)))
+  none_sought aim.Any ks closed moving hs (inr (inr refused)) = none_shows aim.Any ks closed hs (λ y runs. inr (inr (refuses_anew hs y runs refused)))
 
 pub found : AnewRunsAsMachine → KeptAlikeReadAlike → StandingWorldIsNear → WorldReportsAsMachine → FoundOrdersAreTheMachines
 found anew alike near tells text root program version lines a loaded leads = record {

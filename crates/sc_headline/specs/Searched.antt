@@ -16,7 +16,7 @@ use Rattle.sc_world.specs.Kept.{PlainKept}
 use Rattle.sc_frontend.specs.Texts.{IsLoaded, IsRead, IsSound}
 use Rattle.sc_search.specs.declared.aims.Aim.{Aim}
 use Rattle.sc_search.specs.declared.aims.Aim.TheVariants as aim
-use Rattle.sc_search.specs.Aims.{AreStuck, HasFailed}
+use Rattle.sc_search.specs.Aims.{AreStuck, HasFailed, SomeRefuses}
 use Rattle.sc_search.specs.Closed.{IsClosed}
 use Rattle.sc_search.specs.Found.{LeadsTo, turns_of}
 use Rattle.sc_search.specs.Limits.{AreMet, ArePlayed, GivesUp, turns_a_state}
@@ -42,11 +42,16 @@ pub record WaitsForGood (s : System) (version : Version) (h : ℕ) (w : World) :
 abbrev pub SomeWaits : System → Version → World → Type 0
 SomeWaits s version w = (h : ℕ) × WaitsForGood s version h w
 
+-- some handler has refused a request for which no handler waited
+abbrev pub SomeHasRefused : World → Type 0
+SomeHasRefused w = SomeRefuses w.count (λ h. (w.handlers h).refused)
+
 -- what is looked for
 abbrev pub IsSought : System → Version → Aim → World → Type 0
 IsSought s version aim.Stuck w = SomeWaits s version w
 IsSought s version aim.Fails w = HasFailed (statuses_in w)
-IsSought s version aim.Any w = SomeWaits s version w ⊎ HasFailed (statuses_in w)
+IsSought s version aim.Refused w = SomeHasRefused w
+IsSought s version aim.Any w = SomeWaits s version w ⊎ HasFailed (statuses_in w) ⊎ SomeHasRefused w
 
 -- ---- an order that was found
 
@@ -59,8 +64,8 @@ pub record LeadsMachineTo (text : List ℕ) (root : Root) (version : Version) (l
   pub sound : IsSound system root
   pub sought : IsSought system version a (machine_after system root version (turns_of lines))
 
--- An order that is found for a text's program, after which some handler waits for good or has failed, leaves the
--- machine so.
+-- An order that is found for a text's program, after which some handler waits for good, has failed, or has refused a
+-- request, leaves the machine so.
 abbrev pub FoundOrdersAreTheMachines : Type 0
 FoundOrdersAreTheMachines =
     (text : List ℕ) (root : Root) (program : Image) (version : Version) (lines : List RecordLine) (a : Aim) →

@@ -138,7 +138,7 @@ pub fn runs_are_answered_yes()
 }
 
 /// For every source text that is accepted: the turns of an order that a search found lead the machine on trees to a
-/// state from which some handler waits for good, whatever others do, or in which one has failed.
+/// state from which some handler waits for good, whatever others do, or in which one has failed or refused a request.
 pub fn found_orders_are_the_machines()
     ensures { FoundOrdersAreTheMachines }
 {
@@ -150,7 +150,7 @@ pub fn found_orders_are_the_machines()
 
 /// For every source text that is accepted: if a search of its program played every order and found none, no list of handler numbers,
 /// of any length, leads the machine on trees to a state from which some handler waits for good, or in which one has
-/// failed, whichever was looked for.
+/// failed, or one has refused a request, whichever was looked for.
 pub fn whole_searches_find_all()
     ensures { WholeSearchesFindAll }
 {

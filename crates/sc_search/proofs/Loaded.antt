@@ -18,6 +18,7 @@ use Rattle.sc_search.specs.Steps.{Keeps, Tries}
 use Rattle.sc_search.specs.Stops.{AreReached, MeetsAfter}
 use Rattle.sc_search.specs.Stored.{IsAlikeAfter, IsBacked}
 use Rattle.sc_search.specs.Views.{Met}
+use Rattle.sc_search.proofs.KeptStates.{met_alike}
 use Rattle.sc_search.proofs.Reasons.{there_is}
 use Rattle.sc_search.proofs.TriedTurns.{tries}
 
@@ -79,11 +80,11 @@ module _ (open_of : OpeningsAreOf) (stay_of : RunsStayOf) (p : Image) (v : Versi
     same_statuses order w of a =
         (alike_read p (most_handlers v) a.world w (record { of = of_reached order a.world a.runs; its = of; same = a.alike })).statuses
 
-    pub meets_after : (a : Aim) (order : List ℕ) (w : PlainWorld) → IsOf p (most_handlers v) w → IsAlikeAfter p v order w → IsMet a (statuses w) → MeetsAfter p v a order
+    pub meets_after : (a : Aim) (order : List ℕ) (w : PlainWorld) → IsOf p (most_handlers v) w → IsAlikeAfter p v order w → IsMet a w → MeetsAfter p v a order
     meets_after a order w of after met = record {
       world = after.world;
       runs = after.runs;
-      met = subst (λ (ss : List Status). IsMet a ss) (sym (same_statuses order w of after)) met;
+      met = met_alike a w after.world (sym after.alike) (sym (same_statuses order w of after)) met;
     }
 
   -- what is kept of one is kept of the other
@@ -92,7 +93,7 @@ module _ (open_of : OpeningsAreOf) (stay_of : RunsStayOf) (p : Image) (v : Versi
     among = record { number = k.among.number; stands = k.among.stands ∙ ap (λ (z : PlainKept). Some z) (sym alike) };
     grows = subst (λ (z : PlainKept). (y.states ≡ x.states) ⊎ (y.states ≡ x.states ++ z ∷ [])) (sym alike) k.grows;
     edge = k.edge;
-    unmet = subst (λ (ss : List Status). IsMet a ss → ⊥) (sym same) k.unmet;
+    unmet = λ met. k.unmet (met_alike a w u alike same met);
   }
 
   module _ (alike_turn : KeptAlikeTurnAlike) (alike_read : KeptAlikeReadAlike) where

@@ -20,7 +20,7 @@ use Rattle.sc_search.specs.Stops.{AreReached, Moves}
 use Rattle.sc_search.specs.Stored.{Grows, IsAlikeAfter, IsFrom, IsStored, order_after}
 use Rattle.sc_search.specs.Tuples.{state_by}
 use Rattle.sc_search.specs.Views.{Met, contents_in, orders_in, parts_in, states_in, statuses_in, tuples_in}
-use Rattle.sc_search.proofs.KeptStates.{get_last, same_some}
+use Rattle.sc_search.proofs.KeptStates.{get_last, met_alike, same_some}
 use Rattle.sc_search.proofs.Loaded.{after_turns, same_statuses}
 use Rattle.sc_search.proofs.Orders.{order_join, order_long}
 use Rattle.sc_search.proofs.Reasons.{reached_again, reached_new, there_is}
@@ -66,12 +66,12 @@ module _ (p : Image) (v : Version) (a : Aim) where
   module _ (open_of : OpeningsAreOf) (stay_of : RunsStayOf) (alike_read : KeptAlikeReadAlike) where
     -- the state of the world is kept
     pub reached_kept : (ks ls : List PlainKept) (os ms : List (List ℕ)) (ts us : List (List Status)) (turns : ℕ) (order : List ℕ) (w : PlainWorld) →
-        IsOf p (most_handlers v) w → IsAlikeAfter p v order w → (IsMet a (statuses w) → ⊥) → ls ≡ ks ++ kept w ∷ [] → ms ≡ os ++ order ∷ [] →
+        IsOf p (most_handlers v) w → IsAlikeAfter p v order w → (IsMet a w → ⊥) → ls ≡ ks ++ kept w ∷ [] → ms ≡ os ++ order ∷ [] →
         us ≡ ts ++ statuses w ∷ [] → AreReached p v a ks os ts turns → AreReached p v a ls ms us turns
     reached_kept ks ls os ms ts us turns order w of after unmet states orders told so =
         let same = same_statuses open_of stay_of p v alike_read order w of after in
         reached_new p v a ks ls os ms ts us turns turns order after.world after.runs
-        (λ met. unmet (subst (λ (ss : List Status). IsMet a ss) same met)) (omega arith)
+        (λ met. unmet (met_alike a after.world w after.alike same met)) (omega arith)
         (states ∙ ap (λ (k : PlainKept). ks ++ k ∷ []) (sym after.alike)) orders
         (told ∙ ap (λ (ss : List Status). ts ++ ss ∷ []) (sym same)) so
 
@@ -109,7 +109,7 @@ pub keeps_since : (a : Aim) (w : PlainWorld) (parent : Option ℕ) (x y z : Met)
 keeps_since a w parent x y z states edges k = subst (λ (m : Met). Keeps a w parent m z) (met_same y x states edges) k
 
 -- the state is that of the world
-pub keeps_pushed : (a : Aim) (w : PlainWorld) (parent : Option ℕ) (x y : Met) (k : PlainKept) (number : ℕ) → (IsMet a (statuses w) → ⊥) → y.states ≡ x.states ++ k ∷ [] →
+pub keeps_pushed : (a : Aim) (w : PlainWorld) (parent : Option ℕ) (x y : Met) (k : PlainKept) (number : ℕ) → (IsMet a w → ⊥) → y.states ≡ x.states ++ k ∷ [] →
     k ≡ kept w → number ≡ length x.states → AddsEdge parent number x.edges y.edges → Keeps a w parent x y
 keeps_pushed a w parent x y k number unmet more same last edge = record {
   among = record {

@@ -4,7 +4,7 @@ use Rattle.sc_lockpass.specs.declared.version.Version.{Version}
 use Rattle.sc_model.specs.declared.status.Status.{Status}
 use Rattle.sc_code.specs.declared.program.Image.{Image}
 use Rattle.sc_region.specs.declared.job.Job.{Job}
-use Rattle.sc_request.specs.Logs.{pick_for}
+use Rattle.sc_request.specs.Logs.{Center, pick_for}
 use Rattle.sc_world.specs.declared.configuration.Turned.{Turned}
 use Rattle.sc_world.specs.declared.configuration.Turned.TheVariants.{Moved, Nothing}
 use Rattle.sc_world.specs.Reports.{statuses}
@@ -14,32 +14,32 @@ use Rattle.sc_world.specs.Worlds.{PlainWorld, opened}
 use Rattle.sc_search.specs.declared.aims.Aim.{Aim}
 use Rattle.sc_search.specs.declared.judging.Kind.TheVariants as kind
 use Rattle.sc_search.specs.declared.verdict.End.{End}
-use Rattle.sc_search.specs.Aims.{IsMet, some_is}
+use Rattle.sc_search.specs.Aims.{IsMet, IsMetBy, some_is}
 use Rattle.sc_search.specs.Ends.{AreEnds, IsEnd}
 use Rattle.sc_search.specs.Found.{RunsUnmet, turns_of}
-use Rattle.sc_search.proofs.KeptStates.{get_either, unmet_not}
+use Rattle.sc_search.proofs.KeptStates.{get_either, of_world, unmet_not}
 
 -- they are turns as well
 pub unmet_runs : (a : Aim) (hs : List ℕ) (x y : PlainWorld) → RunsUnmet a hs x y → Runs hs x y
 unmet_runs a [] x y same = same
 unmet_runs a (h ∷ hs) x y runs = (runs.2, runs.3, unmet_runs a hs runs.2 y runs.4)
 
--- where it is told that they don't stand so
-pub unmet_by : (a : Aim) (b : Bool) (ss : List Status) (w : PlainWorld) → (IsTrue b ↔ IsMet a ss) → b ≡ false → ss ≡ statuses w → IsMet a (statuses w) → ⊥
-unmet_by a b ss w tells not_met same met = unmet_not b (IsMet a ss) not_met tells (subst (λ (ts : List Status). IsMet a ts) (sym same) met)
+-- where it is told that it isn't met
+pub unmet_by : (a : Aim) (b : Bool) (ss : List Status) (c : Center) (w : PlainWorld) → (IsTrue b ↔ IsMetBy a ss c.state) → b ≡ false → ss ≡ statuses w → c ≡ w.center → IsMet a w → ⊥
+unmet_by a b ss c w tells not_met same center = unmet_not b (IsMet a w) not_met (of_world a b ss c w tells same center)
 
 has : (o : Option Job) → turned_by o ≡ Moved → is_some o ≡ true
 has None moved = cc
 has (Some j) moved = refl
 
 -- one more turn
-unmet_more : (a : Aim) (hs : List ℕ) (h : ℕ) (x y z : PlainWorld) → RunsUnmet a hs x y → (IsMet a (statuses y) → ⊥) → turned_by (pick_for h y.center) ≡ Moved →
+unmet_more : (a : Aim) (hs : List ℕ) (h : ℕ) (x y z : PlainWorld) → RunsUnmet a hs x y → (IsMet a y → ⊥) → turned_by (pick_for h y.center) ≡ Moved →
     IsTurn h y z → RunsUnmet a (hs ++ h ∷ []) x z
 unmet_more a [] h x y z same unmet moved turn =
     subst (λ (w : PlainWorld). RunsUnmet a (h ∷ []) w z) same (unmet, has (pick_for h y.center) moved, z, turn, refl)
 unmet_more a (k ∷ hs) h x y z runs unmet moved turn = (runs.0, runs.1, runs.2, runs.3, unmet_more a hs h runs.2 y z runs.4 unmet moved turn)
 
-pub unmet_pushed : (a : Aim) (hs ms : List ℕ) (h : ℕ) (x y z : PlainWorld) (t : Turned) → ms ≡ hs ++ h ∷ [] → RunsUnmet a hs x y → (IsMet a (statuses y) → ⊥) →
+pub unmet_pushed : (a : Aim) (hs ms : List ℕ) (h : ℕ) (x y z : PlainWorld) (t : Turned) → ms ≡ hs ++ h ∷ [] → RunsUnmet a hs x y → (IsMet a y → ⊥) →
     t ≡ turned_by (pick_for h y.center) → t ≡ Moved → IsTurn h y z → RunsUnmet a ms x z
 unmet_pushed a hs ms h x y z t same runs unmet turned moved turn =
     subst (λ (gs : List ℕ). RunsUnmet a gs x z) (sym same) (unmet_more a hs h x y z runs unmet (sym turned ∙ moved) turn)

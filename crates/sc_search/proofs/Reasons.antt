@@ -6,6 +6,8 @@ use Rattle.std.proofs.lemmas.Option.{slice_get_within}
 use Rattle.sc_lockpass.specs.declared.version.Version.{Version}
 use Rattle.sc_model.specs.declared.status.Status.{Status}
 use Rattle.sc_code.specs.declared.program.Image.{Image}
+use Rattle.sc_handler.specs.Handlers.{State}
+use Rattle.sc_request.specs.Logs.{Center}
 use Rattle.sc_world.specs.Kept.{PlainKept, kept}
 use Rattle.sc_world.specs.Reports.{statuses}
 use Rattle.sc_world.specs.Turning.{Runs}
@@ -17,11 +19,11 @@ use Rattle.sc_search.specs.declared.progress.Stop.TheVariants as stop
 use Rattle.sc_search.specs.declared.verdict.Finding.{Finding}
 use Rattle.sc_search.specs.declared.verdict.Finding.TheVariants as finding
 use Rattle.sc_search.specs.declared.verdict.Verdict.{Verdict}
-use Rattle.sc_search.specs.Aims.{AreStuck, HasFailed, IsMet, tells_failure}
+use Rattle.sc_search.specs.Aims.{AreStuck, HasFailed, HasRefused, IsMet, IsMetBy, TellsRefusal, tells_failure}
 use Rattle.sc_search.specs.Limits.{AllMet, AllPlayed, ArePlayed, GivesUp, IsOrder, NothingSays, SaysWhy, Two, turns_a_state}
 use Rattle.sc_search.specs.Steps.{IsLedTo}
 use Rattle.sc_search.specs.Stops.{AreReached, ChoiceStopsFor, HasStopped, IsOrdered, IsReached, MeetsAfter, MissesAfter, StopsFor, goes_on, is_undecided}
-use Rattle.sc_search.proofs.KeptStates.{get_before, get_either, get_last}
+use Rattle.sc_search.proofs.KeptStates.{get_before, get_either, get_last, of_world}
 
 -- ---- lists
 
@@ -44,21 +46,30 @@ get_split (y ∷ xs) x (suc i) k e = elim (get_split xs x i k e) [
   | inr last ↦ inr (ap (λ (n : ℕ). suc n) last.0, last.1)
 ]
 
--- ---- how the handlers stand
+-- ---- what is met
 
 pub tells : (a : Aim) (ss : List Status) → tells_failure a ss ≡ true → HasFailed ss
 tells aim.Stuck ss e = cc
 tells aim.Fails ss e = e
+tells aim.Refused ss e = cc
 tells aim.Any ss e = e
 
-pub stuck_else : (a : Aim) (ss : List Status) → IsMet a ss → tells_failure a ss ≡ false → AreStuck ss
-stuck_else aim.Stuck ss met e = met
-stuck_else aim.Fails ss met e = let no : true ≡ false = sym met ∙ e in cc
-stuck_else aim.Any ss (inl stuck) e = stuck
-stuck_else aim.Any ss (inr failed) e = let no : true ≡ false = sym failed ∙ e in cc
+pub refuses : (a : Aim) (s : State) → TellsRefusal a s → HasRefused s
+refuses aim.Stuck s never = absurd never
+refuses aim.Fails s never = absurd never
+refuses aim.Refused s refused = refused
+refuses aim.Any s refused = refused
 
-pub met_by : (a : Aim) (b : Bool) (ss : List Status) (w : PlainWorld) → (IsTrue b ↔ IsMet a ss) → b ≡ true → ss ≡ statuses w → IsMet a (statuses w)
-met_by a b ss w tells met same = subst (λ (ts : List Status). IsMet a ts) same (tells.0 met)
+pub stuck_else : (a : Aim) (ss : List Status) (s : State) → IsMetBy a ss s → tells_failure a ss ≡ false → (TellsRefusal a s → ⊥) → AreStuck ss
+stuck_else aim.Stuck ss s met e no_refusal = met
+stuck_else aim.Fails ss s met e no_refusal = let no : true ≡ false = sym met ∙ e in cc
+stuck_else aim.Refused ss s met e no_refusal = absurd (no_refusal met)
+stuck_else aim.Any ss s (inl stuck) e no_refusal = stuck
+stuck_else aim.Any ss s (inr (inl failed)) e no_refusal = let no : true ≡ false = sym failed ∙ e in cc
+stuck_else aim.Any ss s (inr (inr refused)) e no_refusal = absurd (no_refusal refused)
+
+pub met_by : (a : Aim) (b : Bool) (ss : List Status) (c : Center) (w : PlainWorld) → (IsTrue b ↔ IsMetBy a ss c.state) → b ≡ true → ss ≡ statuses w → c ≡ w.center → IsMet a w
+met_by a b ss c w tells met same center = (of_world a b ss c w tells same center).0 met
 
 module _ (p : Image) (v : Version) (a : Aim) where
   -- ---- what is played
@@ -93,7 +104,7 @@ module _ (p : Image) (v : Version) (a : Aim) where
 
   -- it is met now
   pub reached_new : (ks ls : List PlainKept) (os ms : List (List ℕ)) (ts us : List (List Status)) (turns more : ℕ) (order : List ℕ) (w : PlainWorld) →
-      Runs order (opened p v) w → (IsMet a (statuses w) → ⊥) → more ≤ turns + length order → ls ≡ ks ++ kept w ∷ [] → ms ≡ os ++ order ∷ [] →
+      Runs order (opened p v) w → (IsMet a w → ⊥) → more ≤ turns + length order → ls ≡ ks ++ kept w ∷ [] → ms ≡ os ++ order ∷ [] →
       us ≡ ts ++ statuses w ∷ [] → AreReached p v a ks os ts turns → AreReached p v a ls ms us more
   reached_new ks ls os ms ts us turns more order w runs unmet le states orders told so = record {
     each = λ i k at. one i k (get_split ks (kept w) i k (subst (λ (xs : List PlainKept). slice_get xs i ≡ Some k) states at));
@@ -182,7 +193,7 @@ module _ (p : Image) (v : Version) (a : Aim) where
         },
       )
 
-  -- turns lead to a world whose handlers stand as is looked for, and to one whose don't
+  -- turns lead to a world that shows what is looked for, and to one that doesn't
   pub differs : (turns : List ℕ) (limit : ℕ) → MeetsAfter p v a turns → MissesAfter p v a turns → GivesUp p v a limit
   differs turns limit m n = Two (record {
     order = turns;
@@ -190,7 +201,7 @@ module _ (p : Image) (v : Version) (a : Aim) where
     other = n.world;
     leads_to_one = m.runs;
     leads_to_other = n.runs;
-    differ = λ e. n.unmet (subst (λ (w : PlainWorld). IsMet a (statuses w)) e m.met);
+    differ = λ e. n.unmet (subst (λ (w : PlainWorld). IsMet a w) e m.met);
   })
 
   -- ---- what it says then
@@ -200,12 +211,14 @@ module _ (p : Image) (v : Version) (a : Aim) where
   says_why limit false finding.Nothing up = up
   says_why limit b (finding.Stuck order) up = tt
   says_why limit b (finding.Fails order) up = tt
+  says_why limit b (finding.Refused order) up = tt
   says_why limit b finding.Undecided up = up
 
   pub says_ordered : (limit : ℕ) (b : Bool) (f : Finding) → IsOrdered f → SaysWhy p v a limit b f
   says_ordered limit b finding.Nothing never = absurd never
   says_ordered limit b (finding.Stuck order) is = tt
   says_ordered limit b (finding.Fails order) is = tt
+  says_ordered limit b (finding.Refused order) is = tt
   says_ordered limit b finding.Undecided never = absurd never
 
   pub says_whole : (limit : ℕ) (b : Bool) (f : Finding) → SaysWhy p v a limit false f → SaysWhy p v a limit b f
@@ -213,12 +226,14 @@ module _ (p : Image) (v : Version) (a : Aim) where
   says_whole limit false finding.Nothing is = is
   says_whole limit b (finding.Stuck order) is = tt
   says_whole limit b (finding.Fails order) is = tt
+  says_whole limit b (finding.Refused order) is = tt
   says_whole limit b finding.Undecided is = is
 
   pub undecided_why : (limit : ℕ) (b : Bool) (f : Finding) → is_undecided f ≡ true → SaysWhy p v a limit b f → GivesUp p v a limit
   undecided_why limit b finding.Nothing e is = cc
   undecided_why limit b (finding.Stuck order) e is = cc
   undecided_why limit b (finding.Fails order) e is = cc
+  undecided_why limit b (finding.Refused order) e is = cc
   undecided_why limit b finding.Undecided e is = is
 
   -- a search over choices after which none over all turns follows

@@ -10,7 +10,6 @@ use Rattle.sc_request.specs.Logs.{Center, pick_for}
 use Rattle.sc_orders.specs.declared.edges.Edge.{Edge}
 use Rattle.sc_orders.specs.Edges.{HasEdge}
 use Rattle.sc_world.specs.Kept.{PlainKept, kept}
-use Rattle.sc_world.specs.Reports.{statuses}
 use Rattle.sc_world.specs.Turning.{IsTurn, Runs, TurnsUnder}
 use Rattle.sc_world.specs.Worlds.{PlainWorld, opened}
 use Rattle.sc_world.proofs.Runs.{runs-more}
@@ -53,7 +52,7 @@ module _ (p : Image) (v : Version) (a : Aim) where
   grows_stay w ks ls (inl same) i k at = subst (λ (ms : List PlainKept). slice_get ms i ≡ Some k) (sym same) at
   grows_stay w ks ls (inr more) i k at = subst (λ (ms : List PlainKept). slice_get ms i ≡ Some k) (sym more) (get_before ks (kept w) i k at)
 
-  grows_unmet : (hs : List ℕ) (w : PlainWorld) (ks ls : List PlainKept) → Runs hs (opened p v) w → (IsMet a (statuses w) → ⊥) →
+  grows_unmet : (hs : List ℕ) (w : PlainWorld) (ks ls : List PlainKept) → Runs hs (opened p v) w → (IsMet a w → ⊥) →
       (ls ≡ ks) ⊎ (ls ≡ ks ++ kept w ∷ []) → AreUnmet p v a ks → AreUnmet p v a ls
   grows_unmet hs w ks ls runs unmet (inl same) all = subst (AreUnmet p v a) (sym same) all
   grows_unmet hs w ks ls runs unmet (inr more) all = subst (AreUnmet p v a) (sym more) (λ i k at. one i k (get_either ks (kept w) i k at))

@@ -222,15 +222,17 @@ ended_waits p v a w played stuck =
       },
     )
 
-pub met_sought : (p : Image) (v : Version) (a : Aim) (w : PlainWorld) → IsPlayed p v w → IsMet a (statuses w) → IsSought p v a w
+pub met_sought : (p : Image) (v : Version) (a : Aim) (w : PlainWorld) → IsPlayed p v w → IsMet a w → IsSought p v a w
 met_sought p v aim.Stuck w played met = ended_waits p v aim.Stuck w played met
 met_sought p v aim.Fails w played met = met
+met_sought p v aim.Refused w played met = met
 met_sought p v aim.Any w played (inl stuck) = inl (ended_waits p v aim.Any w played stuck)
-met_sought p v aim.Any w played (inr failed) = inr failed
+met_sought p v aim.Any w played (inr other) = inr other
 
 pub waits_sought : (p : Image) (v : Version) (a : Aim) (w : PlainWorld) → seeks_stuck a ≡ true → SomeWaits p v w → IsSought p v a w
 waits_sought p v aim.Stuck w seeks waits = waits
 waits_sought p v aim.Fails w seeks waits = let no : false ≡ true = seeks in cc
+waits_sought p v aim.Refused w seeks waits = let no : false ≡ true = seeks in cc
 waits_sought p v aim.Any w seeks waits = inl waits
 
 -- ---- what is computed

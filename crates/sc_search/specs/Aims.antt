@@ -1,8 +1,11 @@
--- What is looked for, by the handlers' statuses.
-use Rattle.std.specs.Prelude.{◌≡◌, ◌⊎◌, Bool, true, false, List}
+-- What is looked for, by the handlers' statuses and the requests that they have refused.
+use Rattle.std.specs.Prelude.{◌≡◌, ◌⊎◌, ◌<◌, ℕ, Bool, true, false, List}
 use Rattle.std.specs.List.{list_any}
+use Rattle.sc_handler.specs.Handlers.{State}
 use Rattle.sc_model.specs.declared.status.Status.{Status}
 use Rattle.sc_model.specs.declared.status.Status.TheVariants.{Failed, Busy, Waiting, Free}
+use Rattle.sc_world.specs.Reports.{statuses}
+use Rattle.sc_world.specs.Worlds.{PlainWorld}
 use Rattle.sc_search.specs.declared.aims.Aim.{Aim}
 use Rattle.sc_search.specs.declared.aims.Aim.TheVariants as aim
 use Rattle.sc_search.specs.declared.judging.Kind.{Kind}
@@ -36,14 +39,41 @@ pub record AreStuck (statuses : List Status) : Type 0 where
 abbrev pub HasFailed : List Status → Type 0
 HasFailed statuses = some_is kind.HasFailed statuses ≡ true
 
--- The statuses show what is looked for: by themselves they show that handlers are stuck only if none has a turn.
-abbrev pub IsMet : Aim → List Status → Type 0
-IsMet aim.Stuck statuses = AreStuck statuses
-IsMet aim.Fails statuses = HasFailed statuses
-IsMet aim.Any statuses = AreStuck statuses ⊎ HasFailed statuses
+-- One of the first `count` handlers has refused a request for which no handler waited, if `refused` says how many each
+-- has refused.
+pub record SomeRefuses (count : ℕ) (refused : ℕ → ℕ) : Type 0 where
+  pub handler : ℕ
+  pub there : handler < count
+  pub some : 0 < refused handler
 
--- A failure is reported if they are; else it is that they are stuck.
+-- One of the handlers has refused such a request.
+abbrev pub HasRefused : State → Type 0
+HasRefused s = SomeRefuses s.count (λ h. (s.handlers h).refused)
+
+-- Statuses and the state of the core show what is looked for: statuses by themselves show that handlers are stuck only
+-- if none has a turn.
+abbrev pub IsMetBy : Aim → List Status → State → Type 0
+IsMetBy aim.Stuck statuses s = AreStuck statuses
+IsMetBy aim.Fails statuses s = HasFailed statuses
+IsMetBy aim.Refused statuses s = HasRefused s
+IsMetBy aim.Any statuses s = AreStuck statuses ⊎ HasFailed statuses ⊎ HasRefused s
+
+-- The world shows what is looked for.
+abbrev pub IsMet : Aim → PlainWorld → Type 0
+IsMet a w = IsMetBy a (statuses w) w.center.state
+
+-- ---- which of them is reported: a failure if there is one, else a refusal, else that handlers are stuck
+
+-- A failure is reported.
 abbrev pub tells_failure : Aim → List Status → Bool
 tells_failure aim.Stuck statuses = false
 tells_failure aim.Fails statuses = some_is kind.HasFailed statuses
+tells_failure aim.Refused statuses = false
 tells_failure aim.Any statuses = some_is kind.HasFailed statuses
+
+-- A refusal is reported if no failure is.
+abbrev pub TellsRefusal : Aim → State → Type 0
+TellsRefusal aim.Stuck s = ⊥
+TellsRefusal aim.Fails s = ⊥
+TellsRefusal aim.Refused s = HasRefused s
+TellsRefusal aim.Any s = HasRefused s

@@ -3,7 +3,6 @@ use Rattle.std.specs.Prelude.{◌≡◌, ℕ, List, Some, slice_get}
 use Rattle.sc_lockpass.specs.declared.version.Version.{Version}
 use Rattle.sc_code.specs.declared.program.Image.{Image}
 use Rattle.sc_world.specs.Kept.{PlainKept, kept}
-use Rattle.sc_world.specs.Reports.{statuses}
 use Rattle.sc_world.specs.Turning.{IsTurn, Runs}
 use Rattle.sc_world.specs.Worlds.{PlainWorld, opened}
 use Rattle.sc_search.specs.declared.aims.Aim.{Aim}
@@ -30,14 +29,14 @@ pub record IsTried (p : Image) (v : Version) (ks : List PlainKept) (k : PlainKep
   pub turn : IsTurn h before after
   pub among : IsAmong ks (kept after)
 
--- A world is in the state, and its statuses don't show what is looked for.
+-- A world is in the state, and doesn't show what is looked for.
 pub record IsUnmet (p : Image) (v : Version) (a : Aim) (k : PlainKept) : Type 0 where
   pub world : PlainWorld
   pub stands_in : IsIn p v k world
-  pub unmet : IsMet a (statuses world) → ⊥
+  pub unmet : IsMet a world → ⊥
 
--- The opening of the program is in one of the states. In none of them the statuses show what is looked for, and each
--- turn of each handler leads from each of them to one of them.
+-- The opening of the program is in one of the states. None of them shows what is looked for, and each turn of each
+-- handler leads from each of them to one of them.
 pub record IsClosed (p : Image) (v : Version) (a : Aim) (ks : List PlainKept) : Type 0 where
   pub opens : IsAmong ks (kept (opened p v))
   pub unmet : (i : ℕ) (k : PlainKept) → slice_get ks i ≡ Some k → IsUnmet p v a k

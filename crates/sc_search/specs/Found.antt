@@ -11,7 +11,7 @@ use Rattle.sc_world.specs.Worlds.{PlainWorld, opened}
 use Rattle.sc_search.specs.declared.verdict.Finding.{Finding}
 use Rattle.sc_search.specs.declared.verdict.Finding.TheVariants as finding
 use Rattle.sc_search.specs.declared.aims.Aim.{Aim}
-use Rattle.sc_search.specs.Aims.{HasFailed, IsMet}
+use Rattle.sc_search.specs.Aims.{HasFailed, HasRefused, IsMet}
 use Rattle.sc_search.specs.Waiting.{IsSought, SomeWaits}
 
 abbrev pub line_turns : RecordLine → List ℕ
@@ -32,25 +32,29 @@ pub record LeadsTo (p : Image) (v : Version) (lines : List RecordLine) (Holds : 
 abbrev pub HasFailedIn : PlainWorld → Type 0
 HasFailedIn w = HasFailed (told.statuses w)
 
+-- in it, one of the handlers has refused a request for which no handler waited
+abbrev pub HasRefusedIn : PlainWorld → Type 0
+HasRefusedIn w = HasRefused w.center.state
+
 -- What is said to be found is so.
 abbrev pub IsFound : Image → Version → Finding → Type 0
 IsFound p v finding.Nothing = Unit {0}
 IsFound p v (finding.Stuck order) = LeadsTo p v order.lines.items (SomeWaits p v)
 IsFound p v (finding.Fails order) = LeadsTo p v order.lines.items HasFailedIn
+IsFound p v (finding.Refused order) = LeadsTo p v order.lines.items HasRefusedIn
 IsFound p v finding.Undecided = Unit {0}
 
 -- ---- where an order ends
 
 -- The turns of these handlers, one after the other, lead from the first world to the second. Each of them has a job,
--- and before its turn the statuses don't show what is looked for.
+-- and the world before its turn doesn't show what is looked for.
 abbrev pub RunsUnmet : Aim → List ℕ → PlainWorld → PlainWorld → Type 0
 RunsUnmet a [] x y = y ≡ x
 RunsUnmet a (h ∷ hs) x y =
-    (IsMet a (told.statuses x) → ⊥) × (is_some (pick_for h x.center) ≡ true)
+    (IsMet a x → ⊥) × (is_some (pick_for h x.center) ≡ true)
     × (z : PlainWorld) × IsTurn h x z × RunsUnmet a hs z y
 
--- The order leads from the opening of the program to a world with what is looked for. In no world on the way the
--- statuses alone show it.
+-- The order leads from the opening of the program to a world with what is looked for. No world on the way shows it.
 pub record EndsFirst (p : Image) (v : Version) (a : Aim) (lines : List RecordLine) : Type 0 where
   pub world : PlainWorld
   pub runs : RunsUnmet a (turns_of lines) (opened p v) world
@@ -61,4 +65,5 @@ abbrev pub IsFirst : Image → Version → Aim → Finding → Type 0
 IsFirst p v a finding.Nothing = Unit {0}
 IsFirst p v a (finding.Stuck order) = EndsFirst p v a order.lines.items
 IsFirst p v a (finding.Fails order) = EndsFirst p v a order.lines.items
+IsFirst p v a (finding.Refused order) = EndsFirst p v a order.lines.items
 IsFirst p v a finding.Undecided = Unit {0}

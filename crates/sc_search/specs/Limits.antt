@@ -11,8 +11,7 @@ use Rattle.sc_search.specs.declared.verdict.Finding.{Finding}
 use Rattle.sc_search.specs.declared.verdict.Finding.TheVariants as finding
 use Rattle.sc_search.specs.Closed.{IsUnmet}
 
--- At least this number of states were met. Turns lead to each of them, and in none of them the statuses are what is
--- looked for.
+-- At least this number of states were met. Turns lead to each of them, and none of them shows what is looked for.
 pub record AreMet (p : Image) (v : Version) (a : Aim) (count : ℕ) : Type 0 where
   pub states : List PlainKept
   pub many : count ≤ length states
@@ -59,6 +58,7 @@ abbrev pub SaysWhy : Image → Version → Aim → ℕ → Bool → Finding → 
 SaysWhy p v a limit is_whole finding.Nothing = NothingSays p v a limit is_whole
 SaysWhy p v a limit is_whole (finding.Stuck order) = Unit {0}
 SaysWhy p v a limit is_whole (finding.Fails order) = Unit {0}
+SaysWhy p v a limit is_whole (finding.Refused order) = Unit {0}
 SaysWhy p v a limit is_whole finding.Undecided = GivesUp p v a limit
 
 -- the reason, for what is searched

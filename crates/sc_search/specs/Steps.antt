@@ -3,7 +3,6 @@ use Rattle.std.specs.Prelude.{◌≡◌, ◌⊎◌, ◌<◌, ◌^◌, ◌++◌, 
 use Rattle.sc_lockpass.specs.declared.version.Version.{Version}
 use Rattle.sc_code.specs.declared.program.Image.{Image}
 use Rattle.sc_world.specs.Kept.{PlainKept, kept}
-use Rattle.sc_world.specs.Reports.{statuses}
 use Rattle.sc_orders.specs.declared.edges.Edge.{Edge}
 use Rattle.sc_orders.specs.Edges.{HasEdge}
 use Rattle.sc_world.specs.Turning.{IsTurn, Runs}
@@ -19,18 +18,18 @@ abbrev pub AddsEdge : Option ℕ → ℕ → List Edge → List Edge → Type 0
 AddsEdge None to es fs = fs ≡ es
 AddsEdge (Some from) to es fs = (e : Edge) × (e.from ≡ from) × (e.to ≡ to) × (fs ≡ es ++ e ∷ [])
 
--- The state of the world was met, or is met now, and an edge leads to it. Its statuses don't show what is looked for.
+-- The state of the world was met, or is met now, and an edge leads to it. It doesn't show what is looked for.
 pub record Keeps (a : Aim) (w : PlainWorld) (from : Option ℕ) (x y : Met) : Type 0 where
   pub among : IsAmong y.states (kept w)
   pub grows : (y.states ≡ x.states) ⊎ (y.states ≡ x.states ++ kept w ∷ [])
   pub edge : AddsEdge from among.number x.edges y.edges
-  pub unmet : IsMet a (statuses w) → ⊥
+  pub unmet : IsMet a w → ⊥
 
--- In none of the states the statuses show what is looked for.
+-- None of the states shows what is looked for.
 abbrev pub AreUnmet : Image → Version → Aim → List PlainKept → Type 0
 AreUnmet p v a ks = (i : ℕ) (k : PlainKept) → slice_get ks i ≡ Some k → IsUnmet p v a k
 
--- The opening of the program is in one of the states, and in none of them the statuses show what is looked for.
+-- The opening of the program is in one of the states, and none of them shows what is looked for.
 pub record Opens (p : Image) (v : Version) (a : Aim) (ks : List PlainKept) : Type 0 where
   pub opens : IsAmong ks (kept (opened p v))
   pub unmet : AreUnmet p v a ks
@@ -63,7 +62,7 @@ pub record IsEdge (p : Image) (v : Version) (ks : List PlainKept) (e : Edge) : T
 abbrev pub AreTurns : Image → Version → Met → Type 0
 AreTurns p v x = (place : ℕ) (e : Edge) → slice_get x.edges place ≡ Some e → IsEdge p v x.states e
 
--- States are met after these, and in none of them the statuses show what is looked for. Edges are added, each a turn.
+-- States are met after these, and none of them shows what is looked for. Edges are added, each a turn.
 pub record Extends (p : Image) (v : Version) (a : Aim) (x y : Met) : Type 0 where
   pub stay : (i : ℕ) (k : PlainKept) → slice_get x.states i ≡ Some k → slice_get y.states i ≡ Some k
   pub unmet : AreUnmet p v a x.states → AreUnmet p v a y.states

@@ -23,7 +23,7 @@ use Rattle.sc_search.specs.Limits.{ArePlayed, GivesUp, SaysWhyFor}
 use Rattle.sc_search.specs.Stored.{IsAlikeAfter, IsStored}
 use Rattle.sc_search.specs.Views.{orders_of, states_of, statuses_of}
 
--- The order of the number leads to a world in the state, whose statuses are those that are kept and don't show what
+-- The order of the number leads to a world in the state, whose statuses are those that are kept. It doesn't show what
 -- is looked for.
 pub record IsReached (p : Image) (v : Version) (a : Aim) (orders : List (List ℕ)) (told : List (List Status))
     (number : ℕ) (k : PlainKept) : Type 0 where
@@ -33,7 +33,7 @@ pub record IsReached (p : Image) (v : Version) (a : Aim) (orders : List (List �
   pub runs : Runs order (opened p v) world
   pub kept_is : kept world ≡ k
   pub told_is : slice_get told number ≡ Some (statuses world)
-  pub unmet : IsMet a (statuses world) → ⊥
+  pub unmet : IsMet a world → ⊥
 
 -- Each state is reached so, and this number of turns were played.
 pub record AreReached (p : Image) (v : Version) (a : Aim) (ks : List PlainKept) (orders : List (List ℕ))
@@ -51,17 +51,17 @@ pub record HasReached (p : Image) (v : Version) (a : Aim) (x : Progress) : Type 
 
 -- ---- why a search stops
 
--- These turns lead from the opening to a world whose statuses are what is looked for,
+-- These turns lead from the opening to a world that shows what is looked for,
 pub record MeetsAfter (p : Image) (v : Version) (a : Aim) (turns : List ℕ) : Type 0 where
   pub world : PlainWorld
   pub runs : Runs turns (opened p v) world
-  pub met : IsMet a (statuses world)
+  pub met : IsMet a world
 
--- or to one whose handlers don't.
+-- or to one that doesn't.
 pub record MissesAfter (p : Image) (v : Version) (a : Aim) (turns : List ℕ) : Type 0 where
   pub world : PlainWorld
   pub runs : Runs turns (opened p v) world
-  pub unmet : IsMet a (statuses world) → ⊥
+  pub unmet : IsMet a world → ⊥
 
 -- a search over all turns
 abbrev pub StopsFor : Image → Version → Aim → ℕ → Stop → Type 0
@@ -96,6 +96,7 @@ abbrev pub is_undecided : Finding → Bool
 is_undecided finding.Nothing = false
 is_undecided (finding.Stuck order) = false
 is_undecided (finding.Fails order) = false
+is_undecided (finding.Refused order) = false
 is_undecided finding.Undecided = true
 
 -- an order
@@ -103,6 +104,7 @@ abbrev pub IsOrdered : Finding → Type 0
 IsOrdered finding.Nothing = ⊥
 IsOrdered (finding.Stuck order) = Unit {0}
 IsOrdered (finding.Fails order) = Unit {0}
+IsOrdered (finding.Refused order) = Unit {0}
 IsOrdered finding.Undecided = ⊥
 
 -- ---- movers

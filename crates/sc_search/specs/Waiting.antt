@@ -15,7 +15,7 @@ use Rattle.sc_search.specs.declared.aims.Aim.{Aim}
 use Rattle.sc_search.specs.declared.aims.Aim.TheVariants as aim
 use Rattle.sc_search.specs.declared.judging.Kind.{Kind}
 use Rattle.sc_search.specs.declared.judging.Kind.TheVariants as kind
-use Rattle.sc_search.specs.Aims.{HasFailed, is_of}
+use Rattle.sc_search.specs.Aims.{HasFailed, HasRefused, is_of}
 
 -- Turns of some handlers lead to the world, from the opening of the program.
 abbrev pub IsPlayed : Image → Version → PlainWorld → Type 0
@@ -49,13 +49,15 @@ SomeWaits p v w = (h : ℕ) × WaitsForGood p v h w
 abbrev pub IsSought : Image → Version → Aim → PlainWorld → Type 0
 IsSought p v aim.Stuck w = SomeWaits p v w
 IsSought p v aim.Fails w = HasFailed (statuses w)
-IsSought p v aim.Any w = SomeWaits p v w ⊎ HasFailed (statuses w)
+IsSought p v aim.Refused w = HasRefused w.center.state
+IsSought p v aim.Any w = SomeWaits p v w ⊎ HasFailed (statuses w) ⊎ HasRefused w.center.state
 
 -- ---- no handler waits for good
 
 abbrev pub seeks_stuck : Aim → Bool
 seeks_stuck aim.Stuck = true
 seeks_stuck aim.Fails = false
+seeks_stuck aim.Refused = false
 seeks_stuck aim.Any = true
 
 -- A world is in the state, and each handler that waits in it may move.

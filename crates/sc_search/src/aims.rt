@@ -7,6 +7,8 @@ pub enum Aim {
     Stuck,
     /// Some handler has failed.
     Fails,
-    /// Either of them.
+    /// Some handler has refused a request for which no handler waited.
+    Refused,
+    /// One of them.
     Any,
 }

@@ -1,13 +1,16 @@
-//! Whether the statuses of a state show what is looked for.
+//! Whether a world shows what is looked for.
 ghost use Rattle.std.specs.Prelude.{◌≡◌, ◌↔◌, IfOk, IsTrue, get_or};
+ghost use Rattle.sc_request.specs.Cores.{state_of};
 ghost use Rattle.sc_world.specs.Reports.{statuses};
 ghost use Rattle.sc_world.specs.Views.{world_of};
 ghost use Rattle.sc_model.specs.declared.status.Status.TheVariants.{Free};
-ghost use Rattle.sc_search.specs.Aims.{AreStuck, HasFailed, IsMet, is_of, some_is, tells_failure};
+ghost use Rattle.sc_search.specs.Aims.{AreStuck, HasFailed, HasRefused, IsMetBy, TellsRefusal, is_of, some_is, tells_failure};
 ghost use Rattle.sc_search.specs.Waiting.{seeks_stuck};
 
 use crate::aims::Aim;
+use sc_lockpass::HandlerNumber;
 use sc_model::Status;
+use sc_request::Core;
 use sc_world::World;
 use std::alloc::AllocError;
 
@@ -25,18 +28,20 @@ pub(crate) fn seeks_stuck(aim: Aim) -> bool
 {
     match aim {
         Aim::Stuck | Aim::Any => true,
-        Aim::Fails => false,
+        Aim::Fails | Aim::Refused => false,
     }
 }
 
-/// Whether these statuses show what is looked for. They show that handlers are stuck if none has a turn.
-pub(crate) fn is_met(aim: Aim, statuses: &[Status]) -> bool
-    ensures { IsTrue result ↔ IsMet aim statuses.now }
+/// Whether a world with these statuses and this core shows what is looked for. The statuses show that handlers are
+/// stuck if none has a turn.
+pub(crate) fn is_met(aim: Aim, statuses: &[Status], core: &Core) -> bool
+    ensures { IsTrue result ↔ IsMetBy aim statuses.now (state_of core.now) }
 {
     match aim {
         Aim::Stuck => are_stuck(statuses),
         Aim::Fails => has_failed(statuses),
-        Aim::Any => are_stuck(statuses) || has_failed(statuses),
+        Aim::Refused => has_refused(core),
+        Aim::Any => are_stuck(statuses) || has_failed(statuses) || has_refused(core),
     }
 }
 
@@ -54,13 +59,35 @@ pub(crate) fn has_failed(statuses: &[Status]) -> bool
     some_is(Kind::HasFailed, statuses)
 }
 
-/// Whether a failure is reported if what is looked for is met; else the handlers are stuck.
+/// Whether one of the handlers has refused a request for which no handler waited.
+pub(crate) fn has_refused(core: &Core) -> bool
+    ensures { IsTrue result ↔ HasRefused (state_of core.now) }
+{
+    for handler in 0..core.handler_count() {
+        if core.refused(handler as HandlerNumber).unwrap_or(0) > 0 {
+            return true;
+        }
+    }
+    false
+}
+
+/// Whether a failure is reported if what is looked for is met.
 pub(crate) fn tells_failure(aim: Aim, statuses: &[Status]) -> bool
     ensures { result ≡ tells_failure aim statuses.now }
 {
     match aim {
-        Aim::Stuck => false,
+        Aim::Stuck | Aim::Refused => false,
         Aim::Fails | Aim::Any => has_failed(statuses),
+    }
+}
+
+/// Whether a refusal is reported if what is looked for is met and no failure is reported; else handlers are stuck.
+pub(crate) fn tells_refusal(aim: Aim, core: &Core) -> bool
+    ensures { IsTrue result ↔ TellsRefusal aim (state_of core.now) }
+{
+    match aim {
+        Aim::Stuck | Aim::Fails => false,
+        Aim::Refused | Aim::Any => has_refused(core),
     }
 }
 

@@ -1,7 +1,7 @@
 //! The search of all orders in which the handlers of a program may make their turns.
 //!
-//! [`search`] looks for an order that leaves handlers stuck, or in which one fails. `specs/Found` says what a found order is,
-//! and `specs/Closed` why there is none where every order was played.
+//! [`search`] looks for an order that leaves handlers stuck, or in which one fails or refuses a request. `specs/Found` says what
+//! a found order is, and `specs/Closed` why there is none where every order was played.
 #![tactic(auto)]
 
 mod aims;

@@ -90,7 +90,7 @@ pub(crate) fn play_movers<'p>(
     for _ in 0..MOST_MOVERS {
         progress.go(subject, Way { parent, turns })?;
         let statuses = progress.world.statuses()?;
-        if is_met(subject.aim, &statuses) {
+        if is_met(subject.aim, &statuses, progress.world.core()) {
             return Ok(Rest::Met);
         }
         match move_on(&mut progress.world, turns, &mut peeks)? {

@@ -203,7 +203,7 @@ impl<'p> Progress<'p> {
         openings_are_of_their_program();
         runs_stay_of_their_program();
         let statuses = self.world.statuses()?;
-        if is_met(subject.aim, &statuses) {
+        if is_met(subject.aim, &statuses, self.world.core()) {
             return Ok(Some(Stop::Met(self.order_of(way)?)));
         }
         self.count_turns(subject, way);
@@ -265,7 +265,7 @@ impl<'p> Progress<'p> {
         requires kept { IsTupleOf self.old.store self.old.tuple.items (world_in self.old.world) }
         requires new { (number : ℕ) → slice_get (tuples_in self.old.store) number ≡ Some self.old.tuple.items → ⊥ }
         requires told { statuses.now ≡ told.statuses (world_in self.old.world) }
-        requires unmet { IsMet subject.aim statuses.now → ⊥ }
+        requires unmet { IsMet subject.aim (world_in self.old.world) → ⊥ }
         ensures keeps { IfOk result (λ stop. IfNone stop
             (Keeps subject.entry.aim (world_in self.old.world) way.entry.parent (met_of self.old) (met_of self.new))) }
         ensures reached { IfOk result (λ stop. IfNone stop (HasReached subject.entry.program.now.image subject.entry.version subject.entry.aim self.new)) }

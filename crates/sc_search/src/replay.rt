@@ -3,7 +3,6 @@ ghost use Rattle.std.specs.Prelude.{◌≡◌, ℕ, IfNone, IfOk, IfSome, false,
 ghost use Rattle.sc_world.specs.Turning.{Runs};
 ghost use Rattle.sc_world.specs.Views.{world_of};
 ghost use Rattle.sc_world.specs.Worlds.{opened};
-ghost use Rattle.sc_world.specs.Reports.{statuses};
 ghost use Rattle.sc_search.specs.Aims.{IsMet};
 ghost use Rattle.sc_search.specs.Found.{IsFirst, IsFound, RunsUnmet, turns_of};
 ghost use Rattle.sc_search.specs.Limits.{SaysWhyFor};
@@ -12,7 +11,7 @@ ghost use Rattle.sc_search.specs.Views.{states_of};
 ghost use Rattle.sc_search.specs.Waiting.{HasStuck, seeks_stuck};
 
 use crate::aims::Aim;
-use crate::judging::{is_met, tells_failure};
+use crate::judging::{is_met, tells_failure, tells_refusal};
 use crate::lines::lines_of;
 use crate::progress::Progress;
 use crate::verdict::{Finding, Order};
@@ -105,7 +104,7 @@ pub(crate) fn finding_after(
     finding_in(subject, &world, &made)
 }
 
-/// What the statuses of the world show that these turns led to, if it is looked for.
+/// What the world shows that these turns led to, if it is looked for.
 fn finding_in(
     subject: Subject<'_>,
     world: &World<'_>,
@@ -115,15 +114,19 @@ fn finding_in(
     ensures found { IfOk result (λ found. IfSome found (IsFound subject.entry.program.now.image subject.entry.version)) }
     ensures first { IfOk result (λ found. IfSome found (IsFirst subject.entry.program.now.image subject.entry.version subject.entry.aim)) }
     ensures ordered { IfOk result (λ found. IfSome found IsOrdered) }
-    ensures none { IfOk result (λ found. IfNone found (IsMet subject.entry.aim (statuses (world_of world.now)) → ⊥)) }
+    ensures none { IfOk result (λ found. IfNone found (IsMet subject.entry.aim (world_of world.now) → ⊥)) }
 {
     let statuses = world.statuses()?;
-    if !is_met(subject.aim, &statuses) {
+    let core = world.core();
+    if !is_met(subject.aim, &statuses, core) {
         return Ok(None);
     }
     let lines = lines_of(subject.alloc, made)?;
     if tells_failure(subject.aim, &statuses) {
         return Ok(Some(Finding::Fails(Order { lines })));
+    }
+    if tells_refusal(subject.aim, core) {
+        return Ok(Some(Finding::Refused(Order { lines })));
     }
     Ok(Some(Finding::Stuck(Order { lines })))
 }
@@ -136,13 +139,13 @@ fn play_until_met<'p>(
 ) -> Result<(World<'p>, Vec<HandlerNumber>), AllocError>
     ensures runs { IfOk result (λ reached. RunsUnmet subject.entry.aim reached.1.items
         (opened subject.entry.program.now.image subject.entry.version) (world_of reached.0)) }
-    ensures all { IfOk result (λ reached. (IsMet subject.entry.aim (statuses (world_of reached.0)) → ⊥) →
+    ensures all { IfOk result (λ reached. (IsMet subject.entry.aim (world_of reached.0) → ⊥) →
         Runs turns.now (opened subject.entry.program.now.image subject.entry.version) (world_of reached.0)) }
 {
     let mut world = World::open(subject.alloc, subject.program, subject.version)?;
     let mut made = Vec::new(subject.alloc);
     for handler in turns {
-        if is_met(subject.aim, &world.statuses()?) {
+        if is_met(subject.aim, &world.statuses()?, world.core()) {
             return Ok((world, made));
         }
         match world.turn(*handler)? {

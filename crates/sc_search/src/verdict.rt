@@ -18,6 +18,8 @@ pub enum Finding {
     Stuck(Order),
     /// After these turns some handler has failed.
     Fails(Order),
+    /// After these turns some handler has refused a request for which no handler waited.
+    Refused(Order),
     /// The limit was reached before all was played.
     Undecided,
 }

@@ -33,6 +33,7 @@ use Rattle.sc_source.specs.Source.{File, joined}
 abbrev pub aim_of : Sought → Aim
 aim_of sought.Stuck = aim.Stuck
 aim_of sought.Fails = aim.Fails
+aim_of sought.Refused = aim.Refused
 aim_of sought.Any = aim.Any
 
 -- the program's exit if nothing was found: only if every order was played there is nothing
@@ -45,6 +46,7 @@ abbrev pub exit_for : Bool → Finding → Exit
 exit_for is_whole finding.Nothing = exit_for_nothing is_whole
 exit_for is_whole (finding.Stuck order) = Unfinished
 exit_for is_whole (finding.Fails order) = Failed
+exit_for is_whole (finding.Refused order) = Failed
 exit_for is_whole finding.Undecided = Undecided
 
 -- ---- the lines of a verdict
@@ -53,7 +55,8 @@ exit_for is_whole finding.Undecided = Undecided
 abbrev pub none_line : Sought → List ℕ
 none_line sought.Fails = codes "none fails (proved)\n"
 none_line sought.Stuck = codes "none stuck (proved)\n"
-none_line sought.Any = codes "none stuck, none fails (proved)\n"
+none_line sought.Refused = codes "none refused (proved)\n"
+none_line sought.Any = codes "none stuck, none fails, none refused (proved)\n"
 
 -- the number of turns of these lines, or the largest number of 64 bits if that is smaller
 abbrev pub told_turns : List RecordLine → ℕ
@@ -72,6 +75,7 @@ abbrev pub finding_line : Sought → Bool → Finding → List ℕ
 finding_line what is_whole finding.Nothing = nothing_line what is_whole
 finding_line what is_whole (finding.Stuck order) = found_line (codes "stuck") order
 finding_line what is_whole (finding.Fails order) = found_line (codes "fails") order
+finding_line what is_whole (finding.Refused order) = found_line (codes "refused") order
 finding_line what is_whole finding.Undecided = codes "undecided\n"
 
 -- the line that says whether orders end; nothing if that isn't known
@@ -85,6 +89,7 @@ abbrev pub outcomes_line : Finding → ℕ → List ℕ
 outcomes_line finding.Nothing count = codes "outcomes " ++ (decimal count ++ codes "\n")
 outcomes_line (finding.Stuck order) count = []
 outcomes_line (finding.Fails order) count = []
+outcomes_line (finding.Refused order) count = []
 outcomes_line finding.Undecided count = []
 
 -- how many states were kept
@@ -108,6 +113,7 @@ IsTold what true verdict output = (outcomes : List ℕ) × (output ≡ verdict_l
 abbrev pub found_for : Option (List ℕ) → Finding → Option (List ℕ × List RecordLine)
 found_for name (finding.Stuck order) = asked_of name order.lines.items
 found_for name (finding.Fails order) = asked_of name order.lines.items
+found_for name (finding.Refused order) = asked_of name order.lines.items
 found_for name finding.Nothing = None
 found_for name finding.Undecided = None
 

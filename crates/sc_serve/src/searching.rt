@@ -98,6 +98,7 @@ fn aim_of(sought: Sought) -> Aim
     match sought {
         Sought::Stuck => Aim::Stuck,
         Sought::Fails => Aim::Fails,
+        Sought::Refused => Aim::Refused,
         Sought::Any => Aim::Any,
     }
 }
@@ -108,7 +109,7 @@ fn exit_of(verdict: &Verdict) -> Exit
 {
     match verdict.finding {
         Finding::Nothing => exit_of_nothing(verdict.is_whole),
-        Finding::Fails(_) => Exit::Failed,
+        Finding::Fails(_) | Finding::Refused(_) => Exit::Failed,
         Finding::Stuck(_) => Exit::Unfinished,
         Finding::Undecided => Exit::Undecided,
     }
@@ -188,14 +189,18 @@ fn note_of(
 fn limit_of(finding: &Finding) -> Limit {
     match finding {
         Finding::Stuck(_) => Limit::Stuck,
-        Finding::Nothing | Finding::Fails(_) | Finding::Undecided => Limit::Record,
+        Finding::Nothing | Finding::Fails(_) | Finding::Refused(_) | Finding::Undecided => {
+            Limit::Record
+        }
     }
 }
 
 /// The lines of the order that was found, if one was.
 pub fn lines_of(finding: &Finding) -> Option<&[RecordLine]> {
     match finding {
-        Finding::Stuck(order) | Finding::Fails(order) => Some(order.lines.as_slice()),
+        Finding::Stuck(order) | Finding::Fails(order) | Finding::Refused(order) => {
+            Some(order.lines.as_slice())
+        }
         Finding::Nothing | Finding::Undecided => None,
     }
 }
@@ -205,10 +210,11 @@ fn recording_of<'a>(name: Option<&'a str>, finding: Finding) -> Option<Recording
     ensures { kept_of result ≡ spec.found_for (option_map (λ n. n.now) name.entry) finding }
 {
     match (name, finding) {
-        (Some(name), Finding::Stuck(order) | Finding::Fails(order)) => Some(Recording {
-            name,
-            lines: order.lines,
-        }),
+        (Some(name), Finding::Stuck(order) | Finding::Fails(order) | Finding::Refused(order)) =>
+            Some(Recording {
+                name,
+                lines: order.lines,
+            }),
         _ => None,
     }
 }

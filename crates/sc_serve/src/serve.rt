@@ -48,7 +48,7 @@ pub enum Exit {
     Usage = 2,
     /// The system is refused.
     Refused = 1,
-    /// A handler has failed.
+    /// A handler has failed; of a search also: it refuses a request in some order.
     Failed = 3,
     /// A handler is waiting or busy.
     Unfinished = 4,

@@ -43,6 +43,7 @@ fn push_finding(
         }
         Finding::Stuck(order) => push_found(alloc, lines, "stuck", order),
         Finding::Fails(order) => push_found(alloc, lines, "fails", order),
+        Finding::Refused(order) => push_found(alloc, lines, "refused", order),
         Finding::Undecided => lines.extend_from_slice(b"undecided\n"),
     }
 }
@@ -65,7 +66,8 @@ fn none_of(sought: Sought) -> &'static str
     match sought {
         Sought::Fails => "none fails (proved)\n",
         Sought::Stuck => "none stuck (proved)\n",
-        Sought::Any => "none stuck, none fails (proved)\n",
+        Sought::Refused => "none refused (proved)\n",
+        Sought::Any => "none stuck, none fails, none refused (proved)\n",
     }
 }
 
@@ -111,7 +113,7 @@ fn push_outcomes(
             let told = format!(in alloc; "outcomes {count}\n")?;
             lines.extend_from_slice(told.as_bytes())
         }
-        Finding::Stuck(_) | Finding::Fails(_) | Finding::Undecided => Ok(()),
+        Finding::Stuck(_) | Finding::Fails(_) | Finding::Refused(_) | Finding::Undecided => Ok(()),
     }
 }
 

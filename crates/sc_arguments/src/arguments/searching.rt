@@ -41,7 +41,9 @@ pub enum Sought {
     Stuck,
     /// One in which a handler fails.
     Fails,
-    /// One of either kind.
+    /// One in which a handler refuses a request for which no handler waits.
+    Refused,
+    /// One of any kind.
     Any,
 }
 
@@ -49,41 +51,46 @@ const DEFAULT_SOUGHT: &str = "any";
 
 const DEFAULT_STATES: &str = "100000";
 
-const SOUGHT: [&str; 3] = ["stuck", "fails", "any"];
+const SOUGHT: [&str; 4] = ["stuck", "fails", "refused", "any"];
 
-const SEARCH_ABOUT: &str = "Looks for an order of turns in which handlers are stuck, or one fails";
+const SEARCH_ABOUT: &str =
+    "Looks for an order of turns in which handlers are stuck, or one fails or refuses a request";
 
 const SEARCH_LONG_ABOUT: &str = "\
-Looks for an order of turns in which handlers are stuck, or one fails.
+Looks for an order of turns in which handlers are stuck, or one fails or refuses a
+request.
 
 The system is checked first, as by `scoop check`. Then it is played in every order
 of turns, first in those that differ where handlers touch each other. The answer is
 one of the lines
 
-  none stuck, none fails (proved)  no order of turns makes a handler fail, or leads to where
-                                   one waits for good: every order was played
-  none found                       no order was found that does, and some were left
-                                   out that should come to the same
-  stuck after N turns              an order leaves handlers waiting for good
-  fails after N turns              a handler fails in an order
-  undecided                        the states were used up before all was played
+  none stuck, none fails, none refused (proved)
+                         no order of turns makes a handler fail or refuse a request,
+                         or leads to where one waits for good: every order was played
+  none found             no order was found that does, and some were left out that
+                         should come to the same
+  stuck after N turns    an order leaves handlers waiting for good
+  fails after N turns    a handler fails in an order
+  refused after N turns  a handler refuses a request in an order
+  undecided              the states were used up before all was played
 
 and below it how many outcomes and states there are. A handler is stuck, and waits
 for good, if no order gives it a turn any more, whatever others do. Beside others that
-go on it is found only once every order is played. By `--for stuck` an order may be
-left out in which a handler fails, and with it how that ends, unless the answer is
-`proved`. An order that is found is a record for `scoop replay`, which plays to the
-same.";
+go on it is found only once every order is played. A request counts as refused if no
+handler waits for it: else the one that waits fails. By `--for stuck` or `--for refused`
+an order may be left out in which a handler fails, and with it how that ends, unless
+the answer is `proved`. An order that is found is a record for `scoop replay`, which
+plays to the same.";
 
 const SEARCH_AFTER_HELP: &str = "\
 Limits:
   those of `scoop run`
 
 Exit status:
-  0  it is proved that no handler is stuck or fails in any order
+  0  it is proved that no handler is stuck, fails or refuses a request in any order
   1  the system is refused
   2  an argument, a file or the output is at fault
-  3  an order makes a handler fail
+  3  an order makes a handler fail, or refuse a request
   4  an order leaves a handler waiting for good
   5  memory ran out
   6  none found, or undecided: the states were used up";
@@ -169,6 +176,7 @@ fn read_sought<S: AsStr>(words: &[S]) -> Sought
     match value_or(words, "--for", DEFAULT_SOUGHT) {
         "stuck" => Sought::Stuck,
         "fails" => Sought::Fails,
+        "refused" => Sought::Refused,
         _ => Sought::Any,
     }
 }

@@ -36,12 +36,12 @@ pub fn search_object(
     json.finish()
 }
 
-/// Whether the outcomes that were met are all that there are. A search for stuck orders alone that isn't whole may leave out
-/// some in which a handler fails.
+/// Whether the outcomes that were met are all that there are. A search that goes on after failures and isn't whole may leave
+/// out some in which a handler fails.
 fn has_all_outcomes(sought: Sought, verdict: &Verdict) -> bool {
     match verdict.finding {
-        Finding::Nothing => verdict.is_whole || !matches!(sought, Sought::Stuck),
-        Finding::Stuck(_) | Finding::Fails(_) | Finding::Undecided => false,
+        Finding::Nothing => verdict.is_whole || !matches!(sought, Sought::Stuck | Sought::Refused),
+        Finding::Stuck(_) | Finding::Fails(_) | Finding::Refused(_) | Finding::Undecided => false,
     }
 }
 
@@ -50,6 +50,7 @@ fn answer_of(finding: &Finding) -> &'static str {
         Finding::Nothing => "none",
         Finding::Stuck(_) => "stuck",
         Finding::Fails(_) => "fails",
+        Finding::Refused(_) => "refused",
         Finding::Undecided => "undecided",
     }
 }
@@ -59,7 +60,7 @@ fn answer_of(finding: &Finding) -> &'static str {
 fn is_proved(verdict: &Verdict) -> bool {
     match verdict.finding {
         Finding::Nothing => verdict.is_whole,
-        Finding::Stuck(_) | Finding::Fails(_) => true,
+        Finding::Stuck(_) | Finding::Fails(_) | Finding::Refused(_) => true,
         Finding::Undecided => false,
     }
 }

@@ -1,5 +1,6 @@
 use Rattle.std.proofs.Common.{◌∙◌, ℕ, List, subst}
 use Rattle.sc_lockpass.specs.Versions.{most_handlers}
+use Rattle.sc_request.specs.Cores.{center_of}
 use Rattle.sc_world.specs.Views.{world_in}
 use Rattle.sc_search.specs.declared.store.Store.{Store}
 use Rattle.sc_search.specs.Stored.{IsAlikeAfter, order_after}
@@ -19,7 +20,9 @@ returns-then-is_met-clause-rests c =
     let after =
     subst (λ (hs : List ℕ). IsAlikeAfter p v (order_after (orders_of x) c.args.parent hs) w) c.deref.ensures.value
     (subst (λ (s : Store). IsAlikeAfter p v (order_after (orders_in s) c.args.parent c.deref.result.now) w) c.loop.invariant.store c.in_ok-go.ensures.after) in
-    let met = met_by a c.is_met.result c.deref-in-loop.result.now w c.is_met.ensures c.if-is_met.true (c.deref-in-loop.ensures.value ∙ c.in_ok-statuses.ensures) in
+    let met =
+    met_by a c.is_met.result c.deref-in-loop.result.now (center_of c.core.result.now) w c.is_met.ensures c.if-is_met.true
+    (c.deref-in-loop.ensures.value ∙ c.in_ok-statuses.ensures) c.core.ensures.center in
     meets_after c.openings_are_of_their_program.ensures c.runs_stay_of_their_program.ensures p v c.kept_alike_read_alike.ensures a
     (order_after (orders_of x) c.args.parent c.loop.turns.items) w c.in_ok-go.ensures.reached.of after met
 

@@ -1,5 +1,6 @@
 use Rattle.std.proofs.Common.{◌+◌, ◌∙◌, ℕ, List, get_or, take, ap, subst}
 use Rattle.std.proofs.lemmas.List.{take_all, take_more}
+use Rattle.sc_request.specs.Cores.{center_of}
 use Rattle.sc_world.specs.Turning.{Runs}
 use Rattle.sc_world.specs.Views.{world_of}
 use Rattle.sc_world.specs.Worlds.{opened}
@@ -17,7 +18,8 @@ loop-handler-preserved c =
     let hs = c.args.turns.now in
     let i = c.loop-handler.handler-index in
     let unmet =
-    unmet_by a c.is_met.result c.deref.result.now before c.is_met.ensures c.if-is_met.false (c.deref.ensures.value ∙ c.in_ok-statuses.ensures) in
+    unmet_by a c.is_met.result c.deref.result.now (center_of c.core.result.now) before c.is_met.ensures c.if-is_met.false
+    (c.deref.ensures.value ∙ c.in_ok-statuses.ensures) c.core.ensures.center in
     record {
       made = elim c.match-branch-4.branch [
         | in-Moved+in_ok-push-in-Moved w ↦
@@ -35,8 +37,8 @@ loop-handler-preserved c =
 
 pub returns-then-is_met-clause-all : goal.returns-then-is_met-clause-all
 returns-then-is_met-clause-all c = λ unmet.
-    absurd (unmet (met_by c.args.subject.aim c.is_met.result c.deref.result.now (world_of c.loop-handler.world) c.is_met.ensures c.if-is_met.true
-    (c.deref.ensures.value ∙ c.in_ok-statuses.ensures)))
+    absurd (unmet (met_by c.args.subject.aim c.is_met.result c.deref.result.now (center_of c.core.result.now) (world_of c.loop-handler.world) c.is_met.ensures
+    c.if-is_met.true (c.deref.ensures.value ∙ c.in_ok-statuses.ensures) c.core.ensures.center))
 
 pub returns-clause-all : goal.returns-clause-all
 returns-clause-all c = λ unmet.

@@ -6,7 +6,6 @@ use Rattle.sc_world.specs.Views.{world_in}
 use Rattle.sc_world.specs.Kept.{IsOf}
 use Rattle.sc_world.specs.Reports.{statuses}
 use Rattle.sc_search.specs.declared.store.Store.{Store}
-use Rattle.sc_search.specs.Aims.{IsMet}
 use Rattle.sc_search.specs.Steps.{AddsEdge}
 use Rattle.sc_search.specs.Stops.{AreReached}
 use Rattle.sc_search.specs.Stored.{order_after}
@@ -38,11 +37,10 @@ returns-clause-keeps c =
     let w = world_in x.world in
     let before : c.push_edge.new.self.store ≡ x.store = c.push_edge.ensures.store ∙ c.push_end.ensures.store in
     let tuple : c.deref.result.now ≡ x.tuple.items = c.deref.ensures.value ∙ ap (λ v. v.items) (c.push_edge.ensures.tuple ∙ c.push_end.ensures.tuple) in
-    let unmet = subst (λ (ss : List Status). IsMet a ss → ⊥) c.requires.told c.requires.unmet in
     let edge : AddsEdge c.args.way.parent c.len-number.result x.edges.items c.push_edge.new.self.edges.items =
     subst (λ es. AddsEdge c.args.way.parent c.len-number.result es.items c.push_edge.new.self.edges.items) c.push_end.ensures.edges c.in_ok-push_edge.ensures.edge in
     keeps_pushed a w c.args.way.parent (met_of x) (record { states = states_in c.push.new.self; edges = c.push_edge.new.self.edges.items })
-    (state_by (contents_in x.store) (parts_in x.store) x.tuple.items) c.len-number.result unmet
+    (state_by (contents_in x.store) (parts_in x.store) x.tuple.items) c.len-number.result c.requires.unmet
     (c.in_ok-push.ensures.states
     ∙ ap (λ (s : Store). states_in s ++ state_by (contents_in s) (parts_in s) c.deref.result.now ∷ []) before
     ∙ ap (λ (t : List ℕ). states_in x.store ++ state_by (contents_in x.store) (parts_in x.store) t ∷ []) tuple)
@@ -57,7 +55,6 @@ returns-clause-reached c =
     let w = world_in x.world in
     let before : c.push_edge.new.self.store ≡ x.store = c.push_edge.ensures.store ∙ c.push_end.ensures.store in
     let tuple : c.deref.result.now ≡ x.tuple.items = c.deref.ensures.value ∙ ap (λ v. v.items) (c.push_edge.ensures.tuple ∙ c.push_end.ensures.tuple) in
-    let unmet = subst (λ (ss : List Status). IsMet a ss → ⊥) c.requires.told c.requires.unmet in
     let states =
     c.in_ok-push.ensures.states
     ∙ ap (λ (s : Store). states_in s ++ state_by (contents_in s) (parts_in s) c.deref.result.now ∷ []) before
@@ -73,7 +70,7 @@ returns-clause-reached c =
       reached = subst (λ (n : ℕ). AreReached p v a (states_in c.push.new.self) (orders_in c.push.new.self) (statuses_in c.push.new.self) n) (sym turns)
           (reached_kept p v a c.openings_are_of_their_program.ensures c.runs_stay_of_their_program.ensures c.kept_alike_read_alike.ensures (states_of x)
           (states_in c.push.new.self) (orders_of x) (orders_in c.push.new.self) (statuses_of x) (statuses_in c.push.new.self) x.turns
-          (order_after (orders_of x) c.args.way.parent c.args.way.turns.now) w c.requires.reached.of c.requires.leads unmet states orders told c.requires.reached.reached);
+          (order_after (orders_of x) c.args.way.parent c.args.way.turns.now) w c.requires.reached.of c.requires.leads c.requires.unmet states orders told c.requires.reached.reached);
       stored = c.in_ok-push.ensures.stored;
       of = subst (λ (u : Configuration). IsOf p (most_handlers v) (world_in u)) (sym world) c.requires.reached.of;
     }
