@@ -1,5 +1,6 @@
 //! Worlds that are played anew.
-ghost use Rattle.std.specs.Prelude.{◌≡◌, ℕ, IfNone, IfOk, IfSome, false, true};
+ghost use Rattle.std.specs.Prelude.{◌≡◌, ◌<◌, ℕ, IfNone, IfOk, IfSome, Some, false, length, slice_get, true};
+ghost use Rattle.sc_world.specs.Kept.{kept_of};
 ghost use Rattle.sc_world.specs.Turning.{Runs};
 ghost use Rattle.sc_world.specs.Views.{world_of};
 ghost use Rattle.sc_world.specs.Worlds.{opened};
@@ -18,7 +19,7 @@ use crate::verdict::{Finding, Order};
 use sc_audit::RecordLine;
 use sc_code::Program;
 use sc_lockpass::{HandlerNumber, Version};
-use sc_world::{Turned, World};
+use sc_world::{KeptWorld, Turned, World};
 use std::alloc::{AllocError, Global};
 
 /// What is searched: a program, with the version's limit on handlers, and the aim.
@@ -64,7 +65,7 @@ fn world_after_lines<'p>(
 /// Memory ran out.
 pub(crate) fn stuck_after<'p>(
     subject: Subject<'p>,
-    mut progress: Progress<'p>,
+    progress: Progress<'p>,
     number: u32,
 ) -> Result<Finding, AllocError>
     requires stuck { HasStuck subject.program.now.image subject.version (states_of progress) number }
@@ -75,16 +76,33 @@ pub(crate) fn stuck_after<'p>(
     ensures why { IfOk result (λ found. (limit : ℕ) → SaysWhyFor subject.entry limit false found) }
 {
     let turns = progress.store.order(number)?;
+    let state = state_at(subject, progress, number)?;
     let (world, made) = play_until_met(subject, &turns)?;
     if let Some(finding) = finding_in(subject, &world, &made)? {
         return Ok(finding);
     }
-    progress.load(subject, number)?;
-    if !progress.world.keep()?.is_same(&world) {
+    if !state.is_same(&world) {
         return Ok(Finding::Undecided);
     }
     let lines = lines_of(subject.alloc, &made)?;
     Ok(Finding::Stuck(Order { lines }))
+}
+
+/// The state with the number. Nothing else of what was met is left.
+///
+/// # Errors
+/// Memory ran out.
+fn state_at<'p>(
+    subject: Subject<'p>,
+    mut progress: Progress<'p>,
+    number: u32,
+) -> Result<KeptWorld<'p>, AllocError>
+    requires there { number < length (states_of progress) }
+    requires reached { HasReached subject.program.now.image subject.version subject.aim progress }
+    ensures { IfOk result (λ world. slice_get (states_of progress.entry) number ≡ Some (kept_of world)) }
+{
+    progress.load(subject, number)?;
+    progress.world.keep()
 }
 
 /// The finding of these turns, if they meet what is looked for. The order that is reported ends there.

@@ -1,8 +1,7 @@
 use Rattle.std.proofs.Common.{◌≡◌, ◌∙◌, [], IsTrue, Some, false, sym, ap, arith, rules}
 use Rattle.std.proofs.lemmas.Grind.{common_steps}
 use Rattle.std.proofs.lemmas.Option.{get_or_from_slice_get}
-use Rattle.sc_world.specs.Views.{world_in}
-use Rattle.sc_world.specs.Kept.{PlainKept, kept}
+use Rattle.sc_world.specs.Kept.{PlainKept, kept, kept_of}
 use Rattle.sc_world.specs.Views.{world_of}
 use Rattle.sc_world.specs.Worlds.{opened}
 use Rattle.sc_search.specs.Views.{orders_of, states_of, statuses_of}
@@ -22,7 +21,7 @@ returns-clause-found c =
     let w = world_of c.in_ok-world.world in
     let made = c.in_ok-world.made.items in
     let there : IsTrue c.is_same.result = first_of (search rules, grind (arith, common_steps)) in
-    let at = c.in_ok-load.ensures.stands ∙ ap (λ (k : PlainKept). Some k) (sym c.in_ok-keep.ensures ∙ c.is_same.ensures.0 there) in
+    let at = c.in_ok-state.ensures ∙ ap (λ (k : PlainKept). Some k) (c.is_same.ensures.0 there) in
     leads p v a c.in_ok-lines.lines.items made w (SomeWaits p v) (c.in_ok-lines.ensures ∙ c.deref-3.ensures.value) c.in_ok-world.ensures.runs
     (c.requires.stuck.waits w (made, unmet_runs a made (opened p v) w c.in_ok-world.ensures.runs) at)
 
@@ -34,7 +33,7 @@ returns-clause-first c =
     let w = world_of c.in_ok-world.world in
     let made = c.in_ok-world.made.items in
     let there : IsTrue c.is_same.result = first_of (search rules, grind (arith, common_steps)) in
-    let at = c.in_ok-load.ensures.stands ∙ ap (λ (k : PlainKept). Some k) (sym c.in_ok-keep.ensures ∙ c.is_same.ensures.0 there) in
+    let at = c.in_ok-state.ensures ∙ ap (λ (k : PlainKept). Some k) (c.is_same.ensures.0 there) in
     ends_first p v a c.in_ok-lines.lines.items made w (c.in_ok-lines.ensures ∙ c.deref-3.ensures.value) c.in_ok-world.ensures.runs
     (waits_sought p v a w c.requires.seeks
     (c.requires.stuck.waits w (made, unmet_runs a made (opened p v) w c.in_ok-world.ensures.runs) at))
@@ -53,4 +52,4 @@ returns-then-not-is_same-clause-why c = λ limit.
     (λ order at. c.deref.ensures.value ∙ c.in_ok-turns.ensures ∙ get_or_from_slice_get (orders_of x) c.args.number order [] at))
     (c.in_ok-world.ensures.all unmet)
     (λ e. unmet_not c.is_same.result _ no c.is_same.ensures
-    (c.in_ok-keep.ensures ∙ same_some (kept (world_in c.load.new.self.world)) (kept w) (sym c.in_ok-load.ensures.stands ∙ e)))
+    (same_some (kept_of c.in_ok-state.state) (kept w) (sym c.in_ok-state.ensures ∙ e)))
