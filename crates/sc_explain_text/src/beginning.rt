@@ -43,7 +43,7 @@ impl Beginning {
             return shorter;
         }
         let mut whole = Self::new(alloc);
-        whole.push_word(up_to_end(text, before));
+        whole.push_word(first_bytes(text, end_of(before, 0)));
         whole
     }
 
@@ -98,25 +98,14 @@ impl Beginning {
 
     /// Whether a system begins with it and these two texts. The lines are incomplete if memory runs out.
     pub fn goes_on(&self, lines: &mut Lines, behind: &str, last: &str) -> bool {
-        if self.is_lacking {
+        let mut longer = Self::new(self.alloc);
+        longer.push_word(&self.text);
+        longer.push_word(behind);
+        longer.push_word(last);
+        if self.is_lacking || longer.is_lacking {
             lines.lack();
         }
-        let before = self.text.as_str();
-        match format!(in self.alloc; "{before} {behind} {last}") {
-            Ok(text) => is_begun(self.alloc, lines, &text),
-            Err(_) => {
-                lines.lack();
-                false
-            }
-        }
-    }
-}
-
-/// The text up to the end of the last of these tokens.
-fn up_to_end<'t>(text: &'t str, tokens: &[Token]) -> &'t str {
-    match tokens.last() {
-        None => "",
-        Some(token) => first_bytes(text, token.span.end as usize),
+        is_begun(self.alloc, lines, &longer.text)
     }
 }
 
@@ -144,10 +133,10 @@ fn are_begun(alloc: Global, lines: &mut Lines, tokens: &[Token], length: usize) 
     }
 }
 
-/// Where the last token ends, or where the text of this length does, if it has none.
-fn end_of(tokens: &[Token], length: usize) -> usize {
+/// Where the last token ends, or this place if there is none.
+fn end_of(tokens: &[Token], without: usize) -> usize {
     match tokens.last() {
-        None => length,
+        None => without,
         Some(token) => token.span.end as usize,
     }
 }

@@ -10,11 +10,12 @@ use sc_text::Span;
 pub fn explain_character(lines: &mut Lines, text: &str, span: Span) {
     let from = text.get(span.start as usize..).unwrap_or("");
     let character = first_character(from);
-    if character.is_empty() || is_control(character) {
-        lines.push("this begins no token\n");
+    let template = if is_control(character) {
+        "this begins no token\n"
     } else {
-        lines.push_all(&["`", character, "` begins no token\n"]);
-    }
+        "`~` begins no token\n"
+    };
+    lines.fill_name(template, character);
     if !push_instead_at(lines, from, 1) && !character.is_ascii() {
         lines.push("help: outside of texts and comments there are ASCII characters alone\n")
     }
@@ -31,10 +32,10 @@ fn first_character(text: &str) -> &str {
     ""
 }
 
-/// Whether a terminal shows no sign for the text, which is one character.
+/// Whether a terminal shows no sign for the text, which is one character or empty.
 fn is_control(character: &str) -> bool {
     match character.as_bytes().first() {
         None => true,
-        Some(byte) => matches!(byte, 0x00..=0x1f | 0x7f),
+        Some(byte) => byte.is_ascii_control(),
     }
 }

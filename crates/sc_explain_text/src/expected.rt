@@ -82,14 +82,15 @@ pub fn push_expected(lines: &mut Lines, beginning: &Beginning) {
 fn push_all_expected(lines: &mut Lines, beginning: &Beginning, tokens: &str) {
     let mut is_first = true;
     for row in tokens.lines() {
-        let (name, token) = row.split_once('\t').unwrap_or((row, row));
-        if beginning.goes_on(lines, token, "") {
-            lines.push(if is_first {
-                "help: here may stand "
+        if let Some((name, token)) = row.split_once('\t')
+            && beginning.goes_on(lines, token, "")
+        {
+            let template = if is_first {
+                "help: here may stand ~"
             } else {
-                ", "
-            });
-            lines.push(name);
+                ", ~"
+            };
+            lines.fill_name(template, name);
             is_first = false;
         }
     }

@@ -7,68 +7,40 @@ use crate::reading::first_bytes;
 /// Adds a line with what is written in place of the construct that this unknown name shows. Returns whether there is
 /// one.
 pub fn push_instead_of(lines: &mut Lines, name: &str) -> bool {
-    push_instead_of_word(lines, name) || push_among(lines, NAMES, name)
+    push_instead_of_word(lines, name) || push_instead(lines, NAMES, name, name.len())
 }
 
 /// Adds a line that says what is written in place of a construct that has this word, and whether there is one.
 pub fn push_instead_of_word(lines: &mut Lines, word: &str) -> bool {
-    push_among(lines, WORDS, word)
-}
-
-fn push_among(lines: &mut Lines, known: &str, word: &str) -> bool {
-    for row in known.lines() {
-        if let Some((spelt, instead)) = row.rsplit_once('\t')
-            && is_among(spelt, word)
-        {
-            return push_instead(lines, instead);
-        }
-    }
-    false
+    push_instead(lines, WORDS, word, word.len())
 }
 
 /// Adds a line with what is written in place of signs that a text begins with, of at least this number of bytes.
 /// Returns whether there is one.
 pub fn push_instead_at(lines: &mut Lines, text: &str, least: usize) -> bool {
-    match sign_among(SIGNS, text, least) {
-        None => false,
-        Some(instead) => push_instead(lines, instead),
-    }
+    push_instead(lines, SIGNS, text, least)
 }
 
-/// What is written in place of the construct among these that a text begins with, by signs of at least this number of
-/// bytes.
-fn sign_among<'f>(known: &'f str, text: &str, least: usize) -> Option<&'f str> {
-    for row in known.lines() {
-        if let Some((spelt, instead)) = row.rsplit_once('\t')
-            && begins_with(spelt, text, least)
+/// Adds a line with what is written in place of the first of these constructs that a text begins with, in a spelling of
+/// at least this number of bytes. Returns whether there is one.
+fn push_instead(lines: &mut Lines, constructs: &str, text: &str, least: usize) -> bool {
+    for row in constructs.lines() {
+        if let Some((spellings, instead)) = row.rsplit_once('\t')
+            && begins_with(text, spellings, least)
         {
-            return Some(instead);
-        }
-    }
-    None
-}
-
-fn push_instead(lines: &mut Lines, instead: &str) -> bool {
-    lines.push_all(&["help: ", instead, "\n"]);
-    true
-}
-
-/// Whether the word is one of these, which have tabs between, in any letter case.
-fn is_among(words: &str, word: &str) -> bool {
-    for known in words.split('\t') {
-        if known.eq_ignore_ascii_case(word) {
+            lines.fill_name("help: ~\n", instead);
             return true;
         }
     }
     false
 }
 
-/// Whether the text begins with one of these signs, separated by tabs, of at least this number of bytes, in any
-/// letter case.
-fn begins_with(signs: &str, text: &str, least: usize) -> bool {
-    for sign in signs.split('\t') {
-        let beginning = first_bytes(text, sign.len());
-        if sign.len() >= least && beginning.eq_ignore_ascii_case(sign) {
+/// Whether the text begins with one of these spellings, which have tabs between, of at least this number of bytes, in
+/// any letter case.
+fn begins_with(text: &str, spellings: &str, least: usize) -> bool {
+    for spelling in spellings.split('\t') {
+        let length = spelling.len();
+        if length >= least && first_bytes(text, length).eq_ignore_ascii_case(spelling) {
             return true;
         }
     }

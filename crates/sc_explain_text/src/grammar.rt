@@ -56,9 +56,11 @@ fn number_of(tokens: &[Token], span: Span) -> usize {
 impl<'t> Stop<'t> {
     fn explain(self, alloc: Global, lines: &mut Lines) -> Option<Related> {
         self.push_place(lines);
-        let is_told = self.push_foreign_word(lines)
+        let is_told = push_instead_of_word(lines, self.word(0))
+            || self.push_word_in_line(lines)
             || self.push_meant(alloc, lines)
-            || self.push_foreign_sign(lines);
+            || self.push_real(lines)
+            || self.push_sign(lines);
         if is_told {
             return None;
         }
@@ -111,29 +113,22 @@ impl<'t> Stop<'t> {
     /// Adds which token is at fault.
     fn push_place(self, lines: &mut Lines) {
         let word = self.word(0);
-        if word.is_empty() {
-            return lines.push("the text ends before its last class does\n");
-        }
-        lines.push_all(&["no system begins with the text up to `", word, "`\n"])
+        let template = if word.is_empty() {
+            "the text ends before its last class does\n"
+        } else {
+            "no system begins with the text up to `~`\n"
+        };
+        lines.fill_name(template, word)
     }
 
-    /// Adds what is written in place of a construct that a word shows, and whether there is something.
-    fn push_foreign_word(self, lines: &mut Lines) -> bool {
-        push_instead_of_word(lines, self.word(0)) || self.push_word_in_line(lines)
-    }
-
-    /// Adds what is written in place of a construct that signs show, and whether there is something.
-    fn push_foreign_sign(self, lines: &mut Lines) -> bool {
-        self.push_real(lines) || self.push_sign(lines)
-    }
-
-    /// Adds what is written in place of a number with a point.
+    /// Adds what is written in place of a number with a point, and whether there is one.
     fn push_real(self, lines: &mut Lines) -> bool {
-        match (self.kind(1), self.kind(0)) {
-            (Some(TokenKind::Integer(_)), Some(TokenKind::Terminal(Terminal::Dot))) => {
-                push_instead_of(lines, "real")
-            }
-            _ => false,
+        if let Some(TokenKind::Integer(_)) = self.kind(1)
+            && let Some(TokenKind::Terminal(Terminal::Dot)) = self.kind(0)
+        {
+            push_instead_of(lines, "real")
+        } else {
+            false
         }
     }
 
@@ -164,18 +159,26 @@ impl<'t> Stop<'t> {
 
     /// The kind of the token `back` tokens before the one at fault.
     fn kind(self, back: usize) -> Option<&'t TokenKind> {
-        let token = self.tokens.get(self.number.checked_sub(back)?)?;
-        Some(&token.kind)
+        if let Some(number) = self.number.checked_sub(back)
+            && let Some(token) = self.tokens.get(number)
+        {
+            Some(&token.kind)
+        } else {
+            None
+        }
     }
 
-    /// Adds a line with what is written in place of a construct that is shown by a word in the line before the fault,
-    /// if that word is declared nowhere.
+    /// Adds a line with what is written in place of a construct that is shown by one of the eight words before the
+    /// fault, if that is in its line and declared nowhere.
     fn push_word_in_line(self, lines: &mut Lines) -> bool {
-        for token in self.tokens_in_line() {
-            if let TokenKind::Name(name) = &token.kind {
-                if !self.is_declared(name) && push_instead_of_word(lines, name) {
-                    return true;
-                }
+        let first = self.number.saturating_sub(8);
+        for token in self.tokens.get(first..self.number).unwrap_or(&[]) {
+            if let TokenKind::Name(name) = &token.kind
+                && self.is_in_line(token.span)
+                && !self.is_declared(name)
+                && push_instead_of_word(lines, name)
+            {
+                return true;
             }
         }
         false
@@ -185,37 +188,23 @@ impl<'t> Stop<'t> {
     fn is_declared(self, name: &str) -> bool {
         let mut is_name = false;
         for token in self.tokens {
-            if is_name && is_behind_declared(&token.kind) {
-                return true;
-            }
-            is_name = is_named(&token.kind, name);
+            is_name = match &token.kind {
+                TokenKind::Name(known) => known.as_str() == name,
+                TokenKind::Terminal(Terminal::Colon | Terminal::Comma | Terminal::Becomes)
+                    if is_name => {
+                    return true;
+                }
+                _ => false,
+            };
         }
         false
     }
 
-    /// The tokens in the line of the fault before it, at most eight.
-    fn tokens_in_line(self) -> &'t [Token] {
-        let mut first = self.number;
-        for number in (self.number.saturating_sub(8)..self.number).rev() {
-            if !self.is_in_line(number) {
-                break;
-            }
-            first = number;
-        }
-        self.tokens.get(first..self.number).unwrap_or(&[])
-    }
-
-    /// Whether the token of this number is in the line of the fault.
-    fn is_in_line(self, number: usize) -> bool {
-        match self.tokens.get(number) {
+    /// Whether this part begins in the line of the fault before it.
+    fn is_in_line(self, part: Span) -> bool {
+        match self.text.get(part.start as usize..self.span.start as usize) {
             None => false,
-            Some(token) => match self
-                .text
-                .get(token.span.start as usize..self.span.start as usize)
-            {
-                None => false,
-                Some(between) => !has_line_feed(between),
-            },
+            Some(between) => !between.as_bytes().contains(&b'\n'),
         }
     }
 
@@ -223,11 +212,11 @@ impl<'t> Stop<'t> {
     /// there is one.
     fn push_meant(self, alloc: Global, lines: &mut Lines) -> bool {
         for back in 0..4_usize {
-            if let Some(word) = self.near(back) {
-                if self.is_better(alloc, lines, back, word) {
-                    push_meant(lines, word);
-                    return true;
-                }
+            if let Some(word) = self.near(back)
+                && self.is_better(alloc, lines, back, word)
+            {
+                push_meant(lines, word);
+                return true;
             }
         }
         false
@@ -235,9 +224,8 @@ impl<'t> Stop<'t> {
 
     /// The word that is similar to the name `back` tokens before the one at fault, if that is a token.
     fn near(self, back: usize) -> Option<&'static str> {
-        self.kind(0)?;
         match self.kind(back) {
-            Some(TokenKind::Name(name)) => near_word(name),
+            Some(TokenKind::Name(name)) if self.number < self.tokens.len() => near_word(name),
             _ => None,
         }
     }
@@ -257,29 +245,5 @@ impl<'t> Stop<'t> {
                 self.text_between(back, end)
             }
         }
-    }
-}
-
-fn has_line_feed(text: &str) -> bool {
-    for byte in text.as_bytes() {
-        if *byte == b'\n' {
-            return true;
-        }
-    }
-    false
-}
-
-fn is_named(kind: &TokenKind, name: &str) -> bool {
-    match kind {
-        TokenKind::Name(known) => known.as_str() == name,
-        _ => false,
-    }
-}
-
-/// Whether this comes after a name that is declared or assigned.
-fn is_behind_declared(kind: &TokenKind) -> bool {
-    match kind {
-        TokenKind::Terminal(Terminal::Colon | Terminal::Comma | Terminal::Becomes) => true,
-        _ => false,
     }
 }

@@ -62,17 +62,7 @@ pub fn open_construct(
     if layout.is_lacking {
         lines.lack();
     }
-    let opening = layout.open.last()?;
-    Some(match layout.early {
-        Some(span) => Related {
-            what: "what begins here has no `end` of its own, as the lines stand",
-            span,
-        },
-        None => Related {
-            what: "what begins here hasn't ended",
-            span: opening.span,
-        },
-    })
+    layout.still_open()
 }
 
 impl Layout {
@@ -107,6 +97,21 @@ impl Layout {
         layout
     }
 
+    /// The construct that hasn't ended.
+    fn still_open(&self) -> Option<Related> {
+        match (self.open.last(), self.early) {
+            (None, _) => None,
+            (Some(_), Some(span)) => Some(Related {
+                what: "what begins here has no `end` of its own, as the lines stand",
+                span,
+            }),
+            (Some(opening), None) => Some(Related {
+                what: "what begins here hasn't ended",
+                span: opening.span,
+            }),
+        }
+    }
+
     /// The instructions of the innermost construct are whole up to the token of this number, if it is in some.
     fn reach(&mut self, number: usize) {
         if let Some(opening) = self.open.last_mut()
@@ -136,19 +141,22 @@ impl Layout {
 
     /// The instructions of the innermost construct begin with the token of this number.
     fn begin(&mut self, number: usize) {
-        if let Some(opening) = self.open.last_mut() {
-            opening.whole = Some(Part {
-                start: number,
-                end: number,
-            });
-        }
+        self.set_whole(Some(Part {
+            start: number,
+            end: number,
+        }))
     }
 
     /// The innermost construct is in no instructions from here on.
     fn close(&mut self) {
         self.note_whole();
+        self.set_whole(None)
+    }
+
+    /// These are the whole ones of the instructions that the innermost construct is in.
+    fn set_whole(&mut self, whole: Option<Part>) {
         if let Some(opening) = self.open.last_mut() {
-            opening.whole = None;
+            opening.whole = whole;
         }
     }
 
@@ -167,15 +175,13 @@ impl Layout {
 
     /// Forgets the instructions from the token of this number on.
     fn forget_from(&mut self, start: usize) {
-        for _part in 0..self.whole.len() {
-            let Some(part) = self.whole.last() else {
-                return;
-            };
+        let mut kept = 0_usize;
+        for part in self.whole.iter() {
             if part.start < start {
-                return;
+                kept = kept.saturating_add(1);
             }
-            self.whole.pop();
         }
+        self.whole.truncate(kept)
     }
 
     /// Takes the token of this number, at this place.

@@ -18,9 +18,7 @@ pub fn left_out(alloc: Global, text: &str) -> Result<Vec<u8>, AllocError> {
 fn push_left_out(lines: &mut Lines, text: &str, tokens: &[Token]) {
     let comments = comment_count(text.as_bytes(), tokens);
     if comments > 0 {
-        lines.push("comments left out: ");
-        lines.push_number(comments as u64);
-        lines.push("\n");
+        lines.fill_number("comments left out: ~\n", comments as u64);
     }
     if have_note(tokens) {
         lines.push("notes left out\n");
@@ -30,18 +28,11 @@ fn push_left_out(lines: &mut Lines, text: &str, tokens: &[Token]) {
 /// Whether a note begins with one of these tokens.
 fn have_note(tokens: &[Token]) -> bool {
     for token in tokens {
-        if begins_note(token) {
+        if let TokenKind::Terminal(Terminal::Note | Terminal::Indexing) = token.kind {
             return true;
         }
     }
     false
-}
-
-fn begins_note(token: &Token) -> bool {
-    matches!(
-        token.kind,
-        TokenKind::Terminal(Terminal::Note | Terminal::Indexing)
-    )
 }
 
 /// The number of comments between the tokens of a text.
