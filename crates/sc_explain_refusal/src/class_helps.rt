@@ -11,16 +11,11 @@ pub fn push_left_out(lines: &mut Lines, text: &str, system: &System, span: Span)
         return;
     };
     match &class.mark {
-        Some(mark) if class.name.span == span => {
-            push_instead_of(lines, word_at(text, span_of(mark)));
+        Some(ClassMark::Deferred(mark) | ClassMark::Expanded(mark) | ClassMark::Frozen(mark))
+            if class.name.span == span => {
+            push_instead_of(lines, word_at(text, *mark));
         }
         _ => lines.push(help_of_left_out(class, span)),
-    }
-}
-
-fn span_of(mark: &ClassMark) -> Span {
-    match mark {
-        ClassMark::Deferred(span) | ClassMark::Expanded(span) | ClassMark::Frozen(span) => *span,
     }
 }
 

@@ -1,49 +1,25 @@
 //! The names that a system declares.
 
-use sc_explain_text::Related;
 use sc_text::Span;
 use sc_tree::{Class, Declaration, Feature, FeatureKind, Name, Routine, System};
 
-/// The other declaration of the name at fault: a class's where `is_class`, else that of a feature of the class or of an
-/// ancestor, or of a formal or a local of the routine.
-pub fn other_declaration(
-    system: &System,
-    is_class: bool,
-    name: &str,
-    span: Span,
-) -> Option<Related> {
-    let other = if is_class {
-        other_class(system, name, span)
-    } else {
-        other_entity(system, name, span)
-    };
-    match other {
-        None => None,
-        Some(span) => Some(Related {
-            what: "the name stands here too",
-            span,
-        }),
-    }
-}
-
-fn other_class(system: &System, name: &str, span: Span) -> Option<Span> {
+/// The place of another class of the name at fault.
+pub fn other_class(system: &System, name: &str, span: Span) -> Option<Span> {
     for class in system.classes.iter() {
-        if let Some(found) = other(&class.name, name, span) {
-            return Some(found);
+        if is_other(&class.name, name, span) {
+            return Some(class.name.span);
         }
     }
     None
 }
 
-fn other_entity(system: &System, name: &str, span: Span) -> Option<Span> {
-    match class_around(&system.classes, span) {
-        None => None,
-        Some((_, class)) => other_in_class(system, class, name, span),
-    }
-}
-
-fn other_in_class(system: &System, class: &Class, name: &str, span: Span) -> Option<Span> {
-    let inherited = other_inherited(system, class, name, span);
+/// The place of another declaration of the name at fault: that of a feature of the class, an ancestor or an heir, or
+/// of a formal or a local of the routine, or of any routine of these classes if the fault is at a feature.
+pub fn other_entity(system: &System, name: &str, span: Span) -> Option<Span> {
+    let Some((_, class)) = class_around(&system.classes, span) else {
+        return None;
+    };
+    let inherited = other_feature(system, class, name, span);
     if inherited.is_some() {
         return inherited;
     }
@@ -58,31 +34,25 @@ fn other_in_class(system: &System, class: &Class, name: &str, span: Span) -> Opt
 fn other_in_heirs(system: &System, class: &Class, name: &str, span: Span) -> Option<Span> {
     for heir in system.classes.iter() {
         if inherits(system, heir, class) {
-            let found = other_in_routines(heir, name, span);
-            if found.is_some() {
-                return found;
+            for feature in heir.features.iter() {
+                let found = other_in_routine(feature, name, span);
+                if found.is_some() {
+                    return found;
+                }
             }
         }
     }
     None
 }
 
-fn other_in_routines(class: &Class, name: &str, span: Span) -> Option<Span> {
-    for feature in class.features.iter() {
-        if let Some(found) = other_in_routine(feature, name, span) {
-            return Some(found);
-        }
-    }
-    None
-}
-
 /// The place of another feature of the name, of the class, an ancestor or an heir.
-fn other_inherited(system: &System, class: &Class, name: &str, span: Span) -> Option<Span> {
+fn other_feature(system: &System, class: &Class, name: &str, span: Span) -> Option<Span> {
     for other in system.classes.iter() {
         if inherits(system, class, other) || inherits(system, other, class) {
-            let found = other_feature(other, name, span);
-            if found.is_some() {
-                return found;
+            for feature in other.features.iter() {
+                if is_other(&feature.name, name, span) {
+                    return Some(feature.name.span);
+                }
             }
         }
     }
@@ -104,15 +74,6 @@ pub fn inherits(system: &System, heir: &Class, ancestor: &Class) -> bool {
     false
 }
 
-fn other_feature(class: &Class, name: &str, span: Span) -> Option<Span> {
-    for feature in class.features.iter() {
-        if let Some(found) = other(&feature.name, name, span) {
-            return Some(found);
-        }
-    }
-    None
-}
-
 /// The last feature that begins no later than the span.
 pub fn feature_around(class: &Class, span: Span) -> Option<&Feature> {
     let mut around = None;
@@ -122,6 +83,14 @@ pub fn feature_around(class: &Class, span: Span) -> Option<&Feature> {
         }
     }
     around
+}
+
+/// The routine that this feature is, if it is one.
+pub fn routine_around(class: &Class, span: Span) -> Option<&Routine> {
+    match feature_around(class, span) {
+        None => None,
+        Some(feature) => routine_of(feature),
+    }
 }
 
 /// The routine that a feature is, if it is one.
@@ -134,7 +103,9 @@ pub fn routine_of(feature: &Feature) -> Option<&Routine> {
 
 /// The place of another formal or local of the name.
 fn other_in_routine(feature: &Feature, name: &str, span: Span) -> Option<Span> {
-    let routine = routine_of(feature)?;
+    let Some(routine) = routine_of(feature) else {
+        return None;
+    };
     let found = other_declared(&routine.formals, name, span);
     if found.is_some() {
         return found;
@@ -144,20 +115,16 @@ fn other_in_routine(feature: &Feature, name: &str, span: Span) -> Option<Span> {
 
 fn other_declared(declarations: &[Declaration], name: &str, span: Span) -> Option<Span> {
     for declaration in declarations {
-        if let Some(found) = other(&declaration.name, name, span) {
-            return Some(found);
+        if is_other(&declaration.name, name, span) {
+            return Some(declaration.name.span);
         }
     }
     None
 }
 
-/// The place of the name, if it equals this one and is another place.
-fn other(declared: &Name, name: &str, span: Span) -> Option<Span> {
-    if declared.text.eq_ignore_ascii_case(name) && declared.span != span {
-        Some(declared.span)
-    } else {
-        None
-    }
+/// Whether a name equals the one at fault and has another place.
+fn is_other(declared: &Name, name: &str, span: Span) -> bool {
+    declared.span != span && declared.text.eq_ignore_ascii_case(name)
 }
 
 /// The class that contains a part of the text, with its number.
@@ -172,7 +139,9 @@ pub fn class_around(classes: &[Class], span: Span) -> Option<(usize, &Class)> {
 
 /// The class that a class names as its first parent, if the system has it.
 pub fn parent_of<'s>(system: &'s System, class: &Class) -> Option<&'s Class> {
-    let parent = class.parents.first()?;
+    let Some(parent) = class.parents.first() else {
+        return None;
+    };
     for other in system.classes.iter() {
         if other.name.text == parent.name.text {
             return Some(other);
@@ -199,7 +168,10 @@ pub fn feature_named<'s>(system: &'s System, class: &'s Class, name: &str) -> Op
         if declared.is_some() {
             return declared;
         }
-        class = parent_of(system, class)?;
+        let Some(parent) = parent_of(system, class) else {
+            return None;
+        };
+        class = parent;
     }
     None
 }

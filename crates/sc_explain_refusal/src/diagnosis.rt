@@ -1,12 +1,12 @@
 //! What is said of one refusal.
 
 use crate::class_helps::{push_left_out, push_near_class};
-use crate::declared::other_declaration;
+use crate::declared::{other_class, other_entity};
 use crate::redefinition::{push_redefine, push_unfit};
 use crate::root::explain_root;
-use crate::scope::part_of;
-use crate::sentences::{help_of, text_of};
-use crate::told::{RuleFault, aim_of};
+use crate::sentences::text_of;
+use crate::told::RuleFault;
+use crate::words::{fill_part, part_of};
 use sc_class::Root;
 use sc_explain_text::{
     Lines, Related, explain_character, explain_grammar, let_go, system_of, word_at,
@@ -83,9 +83,10 @@ impl<'s> Refusal<'s> {
                 None
             }
             Ok(Some(system)) => {
-                let related = self.tell_of_system(alloc, lines, &system);
+                self.tell_of_system(alloc, lines, &system);
+                let other = self.other_declaration(&system);
                 let_go(system);
-                related
+                other
             }
             Err(_) => {
                 lines.lack();
@@ -95,16 +96,10 @@ impl<'s> Refusal<'s> {
     }
 
     /// Adds what can be said if the text spells this system.
-    fn tell_of_system(&self, alloc: Global, lines: &mut Lines, system: &System) -> Option<Related> {
+    fn tell_of_system(&self, alloc: Global, lines: &mut Lines, system: &System) {
         match self.code {
-            RefusalCode::NoRoot => {
-                explain_root(lines, self.text, system, self.root);
-                None
-            }
-            RefusalCode::Rule(rule) => {
-                self.tell_of_rule(alloc, lines, system, rule);
-                None
-            }
+            RefusalCode::NoRoot => explain_root(lines, self.text, system, self.root),
+            RefusalCode::Rule(rule) => self.tell_of_rule(alloc, lines, system, rule),
             code => {
                 self.push_sentence(lines);
                 self.push_class_helps(lines, system, code)
@@ -112,83 +107,65 @@ impl<'s> Refusal<'s> {
         }
     }
 
-    /// Adds what the classes tell of the part at which a rule fails, or else the sentence.
+    /// Adds what the classes tell of the part at which a rule fails, or else the sentence. (Every class has `print`,
+    /// so if that isn't known, its place is one that no class gives it.)
     fn tell_of_rule(&self, alloc: Global, lines: &mut Lines, system: &System, rule: Rule) {
-        if let Some(aim) = aim_of(self.text, rule, self.span) {
-            let fault = RuleFault {
-                text: self.text,
-                rule,
-                aim,
-            };
-            if fault.push_told(alloc, lines, system, self.root) {
-                return;
-            }
+        let Refusal { text, span, .. } = *self;
+        let name = word_at(text, span);
+        let is_unknown = matches!(rule, Rule::UnknownName);
+        if !(is_unknown && name.eq_ignore_ascii_case("print")) {
+            RuleFault { text, rule, span }.push_told(alloc, lines, system, self.root)
         }
-        self.push_sentence(lines);
-        if let Rule::UnknownName = rule {
-            push_near_class(lines, self.text, system, word_at(self.text, self.span));
+        if lines.is_empty() {
+            self.push_sentence(lines);
+            if is_unknown {
+                push_near_class(lines, text, system, name)
+            }
         }
     }
 
-    /// Adds what helps in these classes. The other declaration of the name at fault.
-    fn push_class_helps(
-        &self,
-        lines: &mut Lines,
-        system: &System,
-        code: RefusalCode,
-    ) -> Option<Related> {
-        let (text, span) = (self.text, self.span);
-        let name = word_at(text, span);
+    /// Adds what helps in these classes.
+    fn push_class_helps(&self, lines: &mut Lines, system: &System, code: RefusalCode) {
+        let Refusal { text, span, .. } = *self;
         match code {
-            RefusalCode::DuplicateClass => other_declaration(system, true, name, span),
             RefusalCode::UnknownParent => {
-                push_near_class(lines, text, system, name);
-                None
+                push_near_class(lines, text, system, word_at(text, span))
             }
-            RefusalCode::DuplicateFeature => {
-                push_redefine(lines, text, system, span);
-                other_declaration(system, false, name, span)
-            }
-            RefusalCode::BadRedefinition => {
-                push_unfit(lines, system, span);
-                other_declaration(system, false, name, span)
-            }
-            RefusalCode::LeftOut => {
-                push_left_out(lines, text, system, span);
-                None
+            RefusalCode::DuplicateFeature => push_redefine(lines, text, system, span),
+            RefusalCode::BadRedefinition => push_unfit(lines, system, span),
+            RefusalCode::LeftOut => push_left_out(lines, text, system, span),
+            _ => {}
+        }
+    }
+
+    /// The other declaration of the name at fault, if that is what is at fault.
+    fn other_declaration(&self, system: &System) -> Option<Related> {
+        let name = word_at(self.text, self.span);
+        let other = match self.code {
+            RefusalCode::DuplicateClass => other_class(system, name, self.span),
+            RefusalCode::DuplicateFeature | RefusalCode::BadRedefinition => {
+                other_entity(system, name, self.span)
             }
             _ => None,
+        };
+        match other {
+            None => None,
+            Some(span) => Some(Related {
+                what: "the name stands here too",
+                span,
+            }),
         }
     }
 
     /// Adds the sentence, and what helps where something does in general.
     fn push_sentence(&self, lines: &mut Lines) {
         let part = part_of(self.text, self.span);
-        let is_of_result = matches!(self.code, RefusalCode::Rule(Rule::ResultType))
-            && part.eq_ignore_ascii_case("result");
-        let text = if is_of_result {
-            "# stands in a function alone"
-        } else {
-            text_of(self.code)
+        let template = match self.code {
+            RefusalCode::Rule(Rule::ResultType) if part.eq_ignore_ascii_case("result") => {
+                "`~` stands in a function alone\n"
+            }
+            code => text_of(code),
         };
-        let (mark, shown, named) = if part.is_empty() {
-            ("", "this", "..")
-        } else {
-            ("`", part, part)
-        };
-        push_with(lines, text, mark, shown);
-        let help = help_of(self.code);
-        if !help.is_empty() {
-            lines.push("help: ");
-            push_with(lines, help, "", named)
-        }
-    }
-}
-
-/// Adds a line of text with a part between two marks at its `#`.
-fn push_with(lines: &mut Lines, text: &str, mark: &str, part: &str) {
-    match text.split_once('#') {
-        None => lines.push_all(&[text, "\n"]),
-        Some((before, after)) => lines.push_all(&[before, mark, part, mark, after, "\n"]),
+        fill_part(lines, template, part)
     }
 }

@@ -1,16 +1,16 @@
 //! What helps with a fault, with the types and names that are found there.
 
 use crate::fresh::fresh_name;
-use crate::scope::{Scope, part_of, push_quoted};
 use crate::site::Place;
-use crate::types::{Compared, Passed};
+use crate::types::{Compared, Mismatch};
+use crate::walk::Walk;
+use crate::words::{fill_part, part_of};
 use sc_class::{ClassId, FeatureEntry};
 use sc_explain_text::{Lines, is_slip, push_instead_of, push_meant, push_near_word, word_at};
 use sc_rules::entity_types::{EntityType, Tag, conforms};
 use sc_rules::{Context, Role};
-use sc_text::Span;
 
-impl<'s> Scope<'s> {
+impl<'s> Walk<'s> {
     /// The part of the text at fault, or a word in its place.
     fn part(&self) -> &str {
         let part = part_of(self.text, self.span);
@@ -20,36 +20,28 @@ impl<'s> Scope<'s> {
     /// Adds that what is assigned isn't assignable, by what it means, and what helps.
     pub(crate) fn push_fixed(&self, lines: &mut Lines, role: Option<Role>) {
         let said = match role {
-            Some(Role::Formal) => " is a formal, and nothing is assigned to one\n",
-            Some(_) => " names an object here, and nothing is assigned to it\n",
-            None => " is a routine, and nothing is assigned to one\n",
+            Some(Role::Formal) => "`~` is a formal, and nothing is assigned to one\n",
+            Some(_) => "`~` names an object here, and nothing is assigned to it\n",
+            None => {
+                "`~` is a routine, and nothing is assigned to one\n\
+                 help: `Result` is what a function gives, and an attribute or a local keeps a value\n"
+            }
         };
-        self.push_said(lines, said);
-        if role.is_none() {
-            return lines.push(
-                "help: `Result` is what a function gives, and an attribute or a local keeps a value\n",
-            );
+        self.say(lines, said);
+        if role.is_some() {
+            let local = fresh_name(self.text, 0);
+            lines.fill(
+                "help: use a local: declare `~` under `local`, and begin with `~ := ~`\n",
+                &[local, local, word_at(self.text, self.span)],
+            )
         }
-        let local = fresh_name(self.text, 0);
-        lines.push_all(&[
-            "help: use a local: declare `",
-            local,
-            "` under `local`, and begin with `",
-        ]);
-        lines.push_all(&[local, " := "]);
-        lines.push_all(&[word_at(self.text, self.span), "`\n"])
     }
 
     /// Adds that the class has no feature of the name, and which was meant.
     pub(crate) fn push_lacking(&self, lines: &mut Lines, class: ClassId) {
+        lines.fill_name("the class `~` has no feature ", self.class_name(class));
+        self.say(lines, "`~`\n");
         let name = word_at(self.text, self.span);
-        lines.push_all(&["the class `", self.class_name(class)]);
-        push_quoted(
-            lines,
-            "` has no feature ",
-            part_of(self.text, self.span),
-            "\n",
-        );
         if !push_instead_of(lines, name) {
             self.push_near_feature(lines, class, name);
         }
@@ -58,8 +50,7 @@ impl<'s> Scope<'s> {
     /// Adds that nothing is known of the name, and a name that is known there and near to it, or what is written in place of
     /// what it shows.
     pub(crate) fn push_unknown(&self, lines: &mut Lines) {
-        let before = "nothing that is known here has the name ";
-        push_quoted(lines, before, part_of(self.text, self.span), "\n");
+        self.say(lines, "nothing that is known here has the name `~`\n");
         let name = word_at(self.text, self.span);
         let class = ClassId::Declared(self.routine.class);
         let is_told = push_instead_of(lines, name)
@@ -82,7 +73,7 @@ impl<'s> Scope<'s> {
 
     /// Adds a feature of the class whose name is near to one that isn't known, and whether there is one.
     fn push_near_feature(&self, lines: &mut Lines, class: ClassId, name: &str) -> bool {
-        let routine = self.routine;
+        let routine = &self.routine;
         match routine.tables.features(routine.alloc, class) {
             Ok(features) => push_near_among(lines, &features, name),
             Err(_) => {
@@ -92,41 +83,32 @@ impl<'s> Scope<'s> {
         }
     }
 
-    /// Adds what helps where a value of one type doesn't fit the other, by what alone is between them.
-    pub(crate) fn push_fitting(&self, lines: &mut Lines, types: &Compared, taker: Span) {
-        let taker = part_of(self.text, taker);
-        match self.between(types.given, types.taken) {
-            Between::More => {}
-            Between::Void => {
-                let behind = "` is declared `detachable`\n";
-                lines.push_all(&["help: Void is taken where `", taker, behind])
-            }
-            Between::Mark => self.push_question(lines, types.given, true),
-            Between::Tag => self.push_wider(lines, types.taken, taker),
-        }
-    }
-
-    /// Adds that an actual doesn't fit its formal, and what helps. Where the handler alone is between them, that may be the one
-    /// of an actual that is missing.
-    pub(crate) fn push_passed(&self, lines: &mut Lines, passed: &Passed) {
-        let types = &passed.compared;
-        self.push_compared(lines, types, ", and here the formal ", passed.formal);
-        match (passed.missing, self.between(types.given, types.taken)) {
-            (Some(missing), Between::Tag) => lines.push_all(&[
-                "help: there is no actual for `",
-                part_of(self.text, missing),
-                "`, on whose handler `",
-                part_of(self.text, passed.formal),
-                "` lies\n",
-            ]),
-            _ => self.push_fitting(lines, types, passed.formal),
+    /// Adds which types don't fit, with this text on what would be taken, and what helps by what alone is between them.
+    pub(crate) fn push_mismatch(&self, lines: &mut Lines, mismatch: &Mismatch, taking: &str) {
+        let Compared { given, taken } = mismatch.types;
+        let taker = part_of(self.text, mismatch.taker);
+        self.push_given(lines, given, "");
+        fill_part(lines, taking, taker);
+        self.push_type(lines, taken, "\n");
+        match (self.between(given, taken), mismatch.missing) {
+            (Between::More, _) => {}
+            (Between::Void, _) => lines.fill_name(
+                "help: Void is taken where `~` is declared `detachable`\n",
+                taker,
+            ),
+            (Between::Mark, _) => self.push_question(lines, given, true),
+            (Between::Tag, Some(missing)) => lines.fill(
+                "help: there is no actual for `~`, on whose handler `~` lies\n",
+                &[part_of(self.text, missing), taker],
+            ),
+            (Between::Tag, None) => self.push_wider(lines, taken, taker),
         }
     }
 
     /// Adds how an entity of this type is declared to take objects of other handlers.
     fn push_wider(&self, lines: &mut Lines, taken: EntityType, taker: &str) {
-        let before = "help: objects of other handlers are taken where `";
-        lines.push_all(&[before, taker, "` is declared "]);
+        let template = "help: objects of other handlers are taken where `~` is declared ";
+        lines.fill_name(template, taker);
         let wider = EntityType {
             tag: Tag::Any,
             ..taken
@@ -144,11 +126,11 @@ impl<'s> Scope<'s> {
             tag: taken.tag,
             ..given
         };
-        if given.class == ClassId::None && !taken.is_expanded() {
+        if matches!(given.class, ClassId::None) && !taken.is_expanded() {
             Between::Void
         } else if !given.attached && conforms(self.routine.tables, attached, taken) {
             Between::Mark
-        } else if taken.tag != Tag::Any && conforms(self.routine.tables, tagged, taken) {
+        } else if !matches!(taken.tag, Tag::Any) && conforms(self.routine.tables, tagged, taken) {
             Between::Tag
         } else {
             Between::More
@@ -159,48 +141,29 @@ impl<'s> Scope<'s> {
     /// reserved too.
     pub(crate) fn push_question(&self, lines: &mut Lines, given: EntityType, is_enough: bool) {
         let is_own = matches!(given.tag, Tag::Own);
-        match self.context {
-            Context::Invariant => {
-                lines.push("help: an invariant is a formula over attributes of its own object\n")
+        let template = match (self.context, self.place) {
+            (Context::Invariant, _) => {
+                "help: an invariant is a formula over attributes of its own object\n"
             }
-            Context::Body | Context::Check => self.push_question_in_body(lines, is_own, is_enough),
+            (Context::Body | Context::Check, Place::Until) if is_own => {
+                "help: let a function ask: `if attached ~ as ~ then Result := .. end`\n"
+            }
+            (Context::Body | Context::Check, Place::Condition) if is_enough => {
+                "help: ask first: `attached ~ as ~ and then ..`\n"
+            }
+            (Context::Body | Context::Check, _) if is_enough => {
+                "help: ask first: `if attached ~ as ~ then .. end`\n"
+            }
+            (Context::Body | Context::Check, _) => {
+                "help: ask first, and reserve it: `if attached ~ as ~ then separate ~ as ~ do .. end end`\n"
+            }
             _ if is_own => {
-                let before = "help: let a function of the class ask: `if attached ";
-                self.push_named(lines, before, " then Result := .. end`\n")
+                "help: let a function of the class ask: `if attached ~ as ~ then Result := .. end`\n"
             }
-            _ => self.push_formal(lines, given),
-        }
-    }
-
-    /// Adds this question in a body, for the own handler or another one.
-    fn push_question_in_body(&self, lines: &mut Lines, is_own: bool, is_enough: bool) {
-        let (before, behind) = match self.place {
-            Place::Until if is_own => (
-                "help: let a function ask: `if attached ",
-                " then Result := .. end`\n",
-            ),
-            Place::Condition if is_enough => ("help: ask first: `attached ", " and then ..`\n"),
-            _ if is_enough => ("help: ask first: `if attached ", " then .. end`\n"),
-            _ => return self.push_question_and_block(lines),
+            _ => return self.push_formal(lines, given),
         };
-        self.push_named(lines, before, behind)
-    }
-
-    /// Adds the part at fault under a name that isn't known, between other texts.
-    fn push_named(&self, lines: &mut Lines, before: &str, behind: &str) {
-        lines.push_all(&[before, self.part(), " as "]);
-        lines.push(fresh_name(self.text, 0));
-        lines.push(behind)
-    }
-
-    /// Adds how it is asked whether the part at fault is Void, and how its handler is reserved then.
-    fn push_question_and_block(&self, lines: &mut Lines) {
-        let before = "help: ask first, and reserve it: `if attached ";
-        self.push_named(lines, before, " then separate ");
-        lines.push(fresh_name(self.text, 0));
-        lines.push(" as ");
-        lines.push(fresh_name(self.text, 1));
-        lines.push(" do .. end end`\n")
+        let (name, other) = (fresh_name(self.text, 0), fresh_name(self.text, 1));
+        lines.fill(template, &[self.part(), name, name, other])
     }
 
     /// Adds how the handler of the part at fault is reserved, where that is of this type.
@@ -208,20 +171,21 @@ impl<'s> Scope<'s> {
         if !matches!(self.context, Context::Body | Context::Check) {
             return self.push_formal(lines, given);
         }
-        let before = match self.place {
-            Place::Until => return self.push_reserving_function(lines, given.class),
-            Place::Condition => "help: reserve it, and ask inside: `separate ",
-            Place::Instruction => "help: reserve it: `separate ",
-        };
-        self.push_named(lines, before, " do .. end`\n")
-    }
-
-    /// Adds which function reserves an object of this class each time that it is called.
-    fn push_reserving_function(&self, lines: &mut Lines, class: ClassId) {
-        lines.push("help: let a function reserve it each time: `f (");
-        lines.push(fresh_name(self.text, 0));
-        let behind = "): BOOLEAN do Result := .. end`\n";
-        lines.push_all(&[": separate ", self.class_name(class), behind])
+        let name = fresh_name(self.text, 0);
+        match self.place {
+            Place::Until => lines.fill(
+                "help: let a function reserve it each time: `f (~: separate ~): BOOLEAN do Result := .. end`\n",
+                &[name, self.class_name(given.class)],
+            ),
+            Place::Condition => lines.fill(
+                "help: reserve it, and ask inside: `separate ~ as ~ do .. end`\n",
+                &[self.part(), name],
+            ),
+            Place::Instruction => lines.fill(
+                "help: reserve it: `separate ~ as ~ do .. end`\n",
+                &[self.part(), name],
+            ),
+        }
     }
 
     /// Adds that a contract calls what is reserved for a formal.
@@ -231,54 +195,54 @@ impl<'s> Scope<'s> {
                 "help: leave the clause out: in a contract the handlers of formals alone are reserved\n",
             );
         }
+        lines.fill_name(
+            "help: take it as an attached formal, which is reserved: `~` of type ",
+            fresh_name(self.text, 0),
+        );
         let attached = EntityType {
             attached: true,
             ..given
         };
-        lines.push("help: take it as an attached formal, which is reserved: `");
-        lines.push(fresh_name(self.text, 0));
-        lines.push("` of type ");
         self.push_type(lines, attached, "\n")
     }
 
     /// Adds that no object of this class is made without a procedure, and how one is made.
     pub(crate) fn push_unmade(&self, lines: &mut Lines, class: ClassId) {
         let said = match class {
-            ClassId::Declared(_) => "` has a `create` list\n",
-            _ => "` is no class of which objects are created\n",
+            ClassId::Declared(_) => "the class `~` has a `create` list\n",
+            _ => "the class `~` is no class of which objects are created\n",
         };
-        lines.push_all(&["the class `", self.class_name(class), said]);
+        lines.fill_name(said, self.class_name(class));
         match self.first_creator(class) {
             None => self.push_no_creator(lines, class),
-            Some(first) => {
-                lines.push("help: name a procedure that it lists: `create ");
-                lines.push_all(&[word_at(self.text, self.span), "."]);
-                lines.push_all(&[first, "`\n"])
-            }
+            Some(first) => lines.fill(
+                "help: name a procedure that it lists: `create ~.~`\n",
+                &[word_at(self.text, self.span), first],
+            ),
         }
     }
 
     /// Adds that no object of this class is made by what is named, and how one is made.
     pub(crate) fn push_unlisted(&self, lines: &mut Lines, class: ClassId) {
-        self.push_said(lines, " isn't in the `create` list of the class `");
-        lines.push_all(&[self.class_name(class), "`\n"]);
+        self.say(lines, "`~` isn't in the `create` list of the class ");
+        lines.fill_name("`~`\n", self.class_name(class));
         match self.first_creator(class) {
             None => self.push_no_creator(lines, class),
-            Some(first) => {
-                lines.push_all(&["help: it lists `", first, "`, and takes `"]);
-                lines.push_all(&[word_at(self.text, self.span), "` once that is listed too\n"])
-            }
+            Some(first) => lines.fill(
+                "help: it lists `~`, and takes `~` once that is listed too\n",
+                &[first, word_at(self.text, self.span)],
+            ),
         }
     }
 
     /// The first procedure that the class lists under `create`, if it does so.
     fn first_creator(&self, class: ClassId) -> Option<&str> {
-        match class {
-            ClassId::Declared(number) => {
-                let first = self.routine.tables.creators(number).first()?;
-                Some(first.as_str())
-            }
-            _ => None,
+        if let ClassId::Declared(number) = class
+            && let Some(first) = self.routine.tables.creators(number).first()
+        {
+            Some(first.as_str())
+        } else {
+            None
         }
     }
 
@@ -286,15 +250,13 @@ impl<'s> Scope<'s> {
     fn push_no_creator(&self, lines: &mut Lines, class: ClassId) {
         let help = match class {
             ClassId::Declared(_) => {
-                let before =
-                    "help: `create` takes the variable alone, or the class lists it: `create ";
-                return lines.push_all(&[before, word_at(self.text, self.span), "`\n"]);
+                "help: `create` takes the variable alone, or the class lists it: `create ~`\n"
             }
             ClassId::Integer => "help: an INTEGER begins as 0, and is assigned\n",
             ClassId::Boolean => "help: a BOOLEAN begins as False, and is assigned\n",
             _ => "help: make an object of a class of your own, and assign it\n",
         };
-        lines.push(help)
+        lines.fill_name(help, word_at(self.text, self.span))
     }
 }
 

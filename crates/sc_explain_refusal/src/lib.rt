@@ -9,20 +9,19 @@
 #![tactic(auto)]
 
 mod class_helps;
-mod class_tables;
 mod declared;
 mod diagnosis;
 mod fresh;
 mod helps;
 mod redefinition;
 mod root;
-mod scope;
 mod sentences;
 mod site;
 mod telling;
 mod told;
 mod types;
 mod walk;
+mod words;
 
 pub use diagnosis::{Diagnosis, diagnose};
 pub use sc_explain_text::Related;

@@ -9,14 +9,11 @@ use sc_tree::{Class, Feature, Name, System};
 
 /// Adds how a feature that has the name of an inherited one is declared, where the one at fault has or is inherited.
 pub fn push_redefine(lines: &mut Lines, text: &str, system: &System, span: Span) {
-    let Some((_, class)) = class_around(&system.classes, span) else {
-        return;
-    };
-    match feature_around(class, span) {
-        Some(feature) if feature.name.span == span => {
-            push_for_relatives(lines, text, system, class, feature)
-        }
-        _ => {}
+    if let Some((_, class)) = class_around(&system.classes, span)
+        && let Some(feature) = feature_around(class, span)
+        && feature.name.span == span
+    {
+        push_for_relatives(lines, text, system, class, feature)
     }
 }
 
@@ -50,16 +47,14 @@ fn push_for_heir(lines: &mut Lines, text: &str, heir: &Class, inherited: &Featur
         );
     }
     if let Some(parent) = heir.parents.first() {
-        let class = word_at(text, heir.name.span);
-        let parent = word_at(text, parent.name.span);
-        let name = word_at(text, own.name.span);
-        lines.push_all(&[
-            "help: to redefine it, ",
-            class,
-            " says so: `inherit ",
-            parent,
-        ]);
-        lines.push_all(&[" redefine ", name, " end`\n"])
+        lines.fill(
+            "help: to redefine it, ~ says so: `inherit ~ redefine ~ end`\n",
+            &[
+                word_at(text, heir.name.span),
+                word_at(text, parent.name.span),
+                word_at(text, own.name.span),
+            ],
+        )
     }
 }
 
@@ -68,43 +63,40 @@ pub fn push_unfit(lines: &mut Lines, system: &System, span: Span) {
     let Some((_, class)) = class_around(&system.classes, span) else {
         return;
     };
-    let lacking = match feature_around(class, span) {
-        Some(feature) if feature.name.span == span => lacking_in_feature(system, class, feature),
-        _ => lacking_in_list(system, class, span),
-    };
-    lines.push_all(&["help: ", lacking, "\n"])
+    lines.push(match feature_around(class, span) {
+        Some(feature) if feature.name.span == span => help_for_feature(system, class, feature),
+        _ => help_for_listed(system, class, span),
+    })
 }
 
-/// What is wrong with a name under `redefine`.
-fn lacking_in_list(system: &System, class: &Class, span: Span) -> &'static str {
-    match listed_at(class, span) {
-        None => "a name under `redefine` is one of the parent's routines",
-        Some(name) => {
-            if inherited(system, class, name).is_none() {
-                "the parent has no such feature: leave it out under `redefine`"
-            } else if declared_in(class, name.as_str()).is_none() {
-                "the class declares no feature of this name: declare one, or leave it out under `redefine`"
-            } else {
-                "a name stands once under `redefine`"
-            }
-        }
+/// What helps with a name under `redefine`.
+fn help_for_listed(system: &System, class: &Class, span: Span) -> &'static str {
+    let Some(name) = listed_at(class, span) else {
+        return "help: a name under `redefine` is one of the parent's routines\n";
+    };
+    if inherited(system, class, name).is_none() {
+        "help: the parent has no such feature: leave it out under `redefine`\n"
+    } else if declared_in(class, name.as_str()).is_none() {
+        "help: the class declares no feature of this name: declare one, or leave it out under `redefine`\n"
+    } else {
+        "help: a name stands once under `redefine`\n"
     }
 }
 
-/// What is wrong with a feature that redefines another.
-fn lacking_in_feature(system: &System, class: &Class, feature: &Feature) -> &'static str {
+/// What helps with a feature that redefines another.
+fn help_for_feature(system: &System, class: &Class, feature: &Feature) -> &'static str {
     let Some(routine) = routine_of(feature) else {
-        return "an attribute redefines nothing: give it another name";
+        return "help: an attribute redefines nothing: give it another name\n";
     };
     if let Some(known) = inherited(system, class, &feature.name)
         && routine_of(known).is_none()
     {
-        return "an attribute isn't redefined: give the routine another name";
+        return "help: an attribute isn't redefined: give the routine another name\n";
     }
     if routine.precondition.is_empty() && routine.postcondition.is_empty() {
-        "a redefinition has formals of the same names and types, and a result that conforms, or none as well"
+        "help: a redefinition has formals of the same names and types, and a result that conforms, or none as well\n"
     } else {
-        "a redefinition keeps the contract that it inherits: leave `require` and `ensure` out"
+        "help: a redefinition keeps the contract that it inherits: leave `require` and `ensure` out\n"
     }
 }
 
@@ -122,5 +114,8 @@ fn listed_at(class: &Class, span: Span) -> Option<&Name> {
 
 /// The feature of this name that a class inherits.
 fn inherited<'s>(system: &'s System, class: &Class, name: &Name) -> Option<&'s Feature> {
-    feature_named(system, parent_of(system, class)?, name.as_str())
+    match parent_of(system, class) {
+        None => None,
+        Some(parent) => feature_named(system, parent, name.as_str()),
+    }
 }

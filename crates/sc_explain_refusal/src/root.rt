@@ -1,9 +1,9 @@
 //! Why a system can't be run from a root, and from which it can.
 
-use crate::declared::{feature_named, routine_of};
+use crate::declared::feature_named;
 use sc_class::Root;
 use sc_explain_text::{Lines, word_at};
-use sc_tree::{Class, Feature, Routine, System};
+use sc_tree::{Class, Feature, FeatureKind, System};
 
 /// Adds why the system of a text isn't run from this root, and what helps.
 pub fn explain_root(lines: &mut Lines, text: &str, system: &System, root: &Root) {
@@ -12,12 +12,38 @@ pub fn explain_root(lines: &mut Lines, text: &str, system: &System, root: &Root)
             return push_unfit(lines, text, system, class, root);
         }
     }
-    lines.push_all(&[
-        "no class is called `",
-        root.class.as_str(),
-        "`, in any letter case\n",
-    ]);
+    let template = "no class is called `~`, in any letter case\n";
+    lines.fill_name(template, root.class.as_str());
     push_other_root(lines, text, system, root)
+}
+
+/// How a name that a class may have stands to the root of a run.
+#[derive(Clone, Copy)]
+enum Standing {
+    /// No feature has it.
+    Missing,
+    /// The feature gives a value.
+    Value,
+    /// The procedure has formals.
+    Formals,
+    /// It is a procedure without formals.
+    Procedure,
+}
+
+fn standing_of(feature: Option<&Feature>) -> Standing {
+    let Some(feature) = feature else {
+        return Standing::Missing;
+    };
+    match &feature.kind {
+        FeatureKind::Routine(routine) if routine.result_type.is_none() => {
+            if routine.formals.is_empty() {
+                Standing::Procedure
+            } else {
+                Standing::Formals
+            }
+        }
+        _ => Standing::Value,
+    }
 }
 
 /// Adds why this class isn't run from the root's procedure, and what helps.
@@ -29,46 +55,33 @@ fn push_unfit<'s>(
     root: &Root,
 ) {
     let procedure = root.procedure.as_str();
-    let (said, help) = words_of(feature_named(system, class, procedure));
-    lines.push_all(&["`", procedure, "` of the class `"]);
-    lines.push_all(&[word_at(text, class.name.span), "`"]);
-    lines.push(said);
+    let standing = standing_of(feature_named(system, class, procedure));
+    let names = [procedure, word_at(text, class.name.span)];
+    lines.fill(text_of(standing), &names);
     if !push_other_procedure(lines, text, system, class) {
-        lines.push(help)
+        lines.push(help_of(standing))
     }
 }
 
-/// What is said of a feature that is no root, or of one that is missing, and what helps where its class has no other.
-fn words_of(feature: Option<&Feature>) -> (&'static str, &'static str) {
-    let Some(feature) = feature else {
-        return (
-            " isn't there\n",
-            "help: declare it, as `make do .. end`, and list it under `create`\n",
-        );
-    };
-    match procedure_of(feature) {
-        None => (
-            " gives a value, and a run begins with a procedure\n",
-            "help: declare a procedure without formals, and list it under `create`\n",
-        ),
-        Some(procedure) if procedure.formals.is_empty() => (
-            " isn't listed under `create`\n",
-            "help: list it before the first `feature`, as `create make`\n",
-        ),
-        Some(_) => (
-            " has formals, and a run begins without actuals\n",
-            "help: declare a procedure without formals, and list it under `create`\n",
-        ),
+/// What is said of a feature that is no root, or of one that is missing.
+fn text_of(standing: Standing) -> &'static str {
+    match standing {
+        Standing::Missing => "`~` of the class `~` isn't there\n",
+        Standing::Value =>
+            "`~` of the class `~` gives a value, and a run begins with a procedure\n",
+        Standing::Formals => "`~` of the class `~` has formals, and a run begins without actuals\n",
+        Standing::Procedure => "`~` of the class `~` isn't listed under `create`\n",
     }
 }
 
-/// The routine that a feature is, if it gives no value.
-fn procedure_of(feature: &Feature) -> Option<&Routine> {
-    let routine = routine_of(feature)?;
-    if routine.result_type.is_none() {
-        Some(routine)
-    } else {
-        None
+/// What helps with it where its class has no other.
+fn help_of(standing: Standing) -> &'static str {
+    match standing {
+        Standing::Missing => "help: declare it, as `make do .. end`, and list it under `create`\n",
+        Standing::Value | Standing::Formals => {
+            "help: declare a procedure without formals, and list it under `create`\n"
+        }
+        Standing::Procedure => "help: list it before the first `feature`, as `create make`\n",
     }
 }
 
@@ -80,16 +93,10 @@ fn push_other_procedure<'s>(
     class: &'s Class,
 ) -> bool {
     for creator in class.creators.iter() {
-        if is_root(system, class, &creator.text) {
-            let name = word_at(text, class.name.span);
-            let procedure = word_at(text, creator.span);
-            lines.push_all(&[
-                "help: `--root ",
-                name,
-                ".",
-                procedure,
-                "` runs it from there\n",
-            ]);
+        let feature = feature_named(system, class, creator.as_str());
+        if let Standing::Procedure = standing_of(feature) {
+            let names = [word_at(text, class.name.span), word_at(text, creator.span)];
+            lines.fill("help: `--root ~.~` runs it from there\n", &names);
             return true;
         }
     }
@@ -104,24 +111,8 @@ fn push_other_root(lines: &mut Lines, text: &str, system: &System, root: &Root) 
         }
     }
     let procedure = root.procedure.as_str();
-    lines.push_all(&[
-        "help: declare it: `class ",
-        root.class.as_str(),
-        " create ",
-        procedure,
-        " feature ",
-        procedure,
-        " do .. end end`\n",
-    ])
-}
-
-/// Whether a class has a procedure of this name without formals.
-fn is_root<'s>(system: &'s System, class: &'s Class, name: &str) -> bool {
-    match feature_named(system, class, name) {
-        None => false,
-        Some(feature) => match procedure_of(feature) {
-            None => false,
-            Some(procedure) => procedure.formals.is_empty(),
-        },
-    }
+    lines.fill(
+        "help: declare it: `class ~ create ~ feature ~ do .. end end`\n",
+        &[root.class.as_str(), procedure, procedure],
+    )
 }

@@ -5,14 +5,16 @@ ghost use Rattle.sc_rules.specs.Positions.{is_condition};
 ghost use Rattle.sc_class.specs.SystemIn.{system_in};
 ghost use Rattle.sc_explain_refusal.specs.Mismatch.{IsMismatch};
 
-use crate::scope::Scope;
+use crate::walk::Walk;
 use sc_class::{ClassId, Tables};
 use sc_explain_text::Lines;
 use sc_rules::entity_types::{EntityType, Known, Reserved, Tag, combine_argument, conforms};
 use sc_rules::{Context, Fault, Position};
 use sc_text::Span;
 use sc_tree::{Call, Declaration, Expr, Variable};
-use sc_typing::{Assignee, CheckFault, JudgedActual, Typing, declared_type, judged_type};
+use sc_typing::{
+    Assignee, CheckFault, JudgedActual, Typing, declared_type, judged_type, variable_span,
+};
 use std::alloc::{AllocError, Global};
 
 /// What is given, and what would be taken.
@@ -22,17 +24,17 @@ pub struct Compared {
     pub taken: EntityType,
 }
 
-/// An actual's type, and the type that it has to conform to, with the place of the formal's name that has this type.
+/// Types that don't fit, and the name of what takes the one and is given the other.
 #[derive(Clone, Copy)]
-pub(crate) struct Passed {
-    pub compared: Compared,
-    pub formal: Span,
-    /// The place of the name of the formal that its tag names, if there is no actual for that one.
+pub(crate) struct Mismatch {
+    pub types: Compared,
+    pub taker: Span,
+    /// The place of the name of the formal that the tag of the taker names, if there is no actual for that one.
     pub missing: Option<Span>,
 }
 
 /// The types, where the one doesn't conform to the other.
-fn mismatch(tables: &Tables, given: EntityType, taken: EntityType) -> Option<Compared>
+fn compare(tables: &Tables, given: EntityType, taken: EntityType) -> Option<Compared>
     ensures { IfSome result (IsMismatch (system_in tables.now)) }
 {
     let is_taken = conforms(tables, given, taken);
@@ -66,11 +68,13 @@ fn type_taken(
 
 /// The place of the name of the formal that the tag of this type names, if it is none of the first `actuals` ones.
 fn missing_formal(formals: &[Declaration], declared: EntityType, actuals: usize) -> Option<Span> {
-    match declared.tag {
-        Tag::With(Reserved::Formal(number)) if number >= actuals => {
-            Some(formals.get(number)?.name.span)
-        }
-        _ => None,
+    if let Tag::With(Reserved::Formal(number)) = declared.tag
+        && number >= actuals
+        && let Some(formal) = formals.get(number)
+    {
+        Some(formal.name.span)
+    } else {
+        None
     }
 }
 
@@ -100,38 +104,52 @@ pub fn type_judged(
 
 /// The type of the actual at a number, if it has one.
 pub fn type_of_actual(found: &[JudgedActual], number: usize) -> Option<EntityType> {
-    judged_type(found.get(number)?.judged)
+    match found.get(number) {
+        None => None,
+        Some(actual) => judged_type(actual.judged),
+    }
 }
 
-impl<'s> Scope<'s> {
+impl<'s> Walk<'s> {
     /// The types of the right side of an assignment and of its left side, if they don't conform.
     pub(crate) fn assigned_types(
         &self,
         lines: &mut Lines,
         variable: &Variable,
         value: &Expr,
-    ) -> Option<Compared>
-        ensures { IfSome result (IsMismatch (system_in self.now.routine.now.tables.now)) }
+    ) -> Option<Mismatch>
+        ensures { IfSome result (λ it. IsMismatch (system_in self.now.routine.tables.now) it.types) }
     {
-        let taken = self.type_of_variable(variable)?;
-        let given = self.type_of(lines, Context::Body, Position::Source, value)?;
-        mismatch(self.routine.tables, given, taken)
+        if let Some(taken) = self.type_of_variable(variable)
+            && let Some(given) = self.type_of(lines, Context::Body, Position::Source, value)
+            && let Some(types) = compare(self.routine.tables, given, taken)
+        {
+            Some(Mismatch {
+                types,
+                taker: variable_span(variable),
+                missing: None,
+            })
+        } else {
+            None
+        }
     }
 
     /// The types of the head of a separate block and of what a block takes, if they don't conform.
     pub(crate) fn head_types(&self, lines: &mut Lines, value: &Expr) -> Option<Compared>
-        ensures { IfSome result (IsMismatch (system_in self.now.routine.now.tables.now)) }
+        ensures { IfSome result (IsMismatch (system_in self.now.routine.tables.now)) }
     {
-        let given = self.type_of(lines, Context::Body, Position::Plain, value)?;
         let taken = EntityType {
             attached: true,
             tag: Tag::Any,
             class: ClassId::Any,
         };
-        mismatch(self.routine.tables, given, taken)
+        match self.type_of(lines, Context::Body, Position::Plain, value) {
+            None => None,
+            Some(given) => compare(self.routine.tables, given, taken),
+        }
     }
 
-    /// The types of the actual at a number and of its formal, if they don't conform.
+    /// The types of an actual that has this type and this number and of its formal, if they don't conform.
     pub(crate) fn passed_types(
         &self,
         lines: &mut Lines,
@@ -139,19 +157,26 @@ impl<'s> Scope<'s> {
         target: EntityType,
         formals: &[Declaration],
         number: usize,
-    ) -> Option<Passed>
-        ensures { IfSome result (λ it. IsMismatch (system_in self.now.routine.now.tables.now) it.compared) }
+        given: EntityType,
+    ) -> Option<Mismatch>
+        ensures { IfSome result (λ it. IsMismatch (system_in self.now.routine.tables.now) it.types) }
     {
-        let given = type_of_actual(found, number)?;
-        let formal = formals.get(number)?;
         let tables = self.routine.tables;
-        let declared = declared_type(tables, formals, &formal.declared_type)?;
+        let Some(formal) = formals.get(number) else {
+            return None;
+        };
+        let Some(declared) = declared_type(tables, formals, &formal.declared_type) else {
+            return None;
+        };
         let taken = type_taken(self.routine.alloc, lines, found, target, declared);
-        Some(Passed {
-            compared: mismatch(tables, given, taken)?,
-            formal: formal.name.span,
-            missing: missing_formal(formals, declared, found.len()),
-        })
+        match compare(tables, given, taken) {
+            None => None,
+            Some(types) => Some(Mismatch {
+                types,
+                taker: formal.name.span,
+                missing: missing_formal(formals, declared, found.len()),
+            }),
+        }
     }
 
     /// The type of an expression at this position, which is no condition's, if it has one.

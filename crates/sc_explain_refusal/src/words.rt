@@ -1,41 +1,30 @@
-//! Types and names in words, as they are seen at a part of a routine.
+//! Parts of a text and types in words, as they are seen at a part of a routine.
 
-use crate::site::Place;
+use crate::walk::Walk;
 use sc_class::ClassId;
 use sc_explain_text::Lines;
+use sc_rules::Role;
 use sc_rules::entity_types::{EntityType, Reserved, Tag};
-use sc_rules::{Context, Role, Rule};
 use sc_text::Span;
-use sc_typing::{Entity, RoutineContext};
+use sc_typing::Entity;
 
-/// A part of a routine at which a rule fails: the text of the system, the routine, and the names that are
-/// known there.
-#[derive(Drop)]
-pub(crate) struct Scope<'s> {
-    pub text: &'s str,
-    pub rule: Rule,
-    pub span: Span,
-    pub routine: &'s RoutineContext<'s, 's>,
-    pub names: Vec<Entity<'s>>,
-    /// The part of the class's text that it belongs to, and the position in that.
-    pub context: Context,
-    pub place: Place,
-}
-
-impl<'s> Scope<'s> {
-    /// Adds the part of the text at fault, in quotes, and the words after it.
-    pub(crate) fn push_said(&self, lines: &mut Lines, behind: &str) {
-        push_quoted(lines, "", part_of(self.text, self.span), behind)
+impl<'s> Walk<'s> {
+    /// Adds a text on the part at fault, which takes the place of `~`.
+    pub(crate) fn say(&self, lines: &mut Lines, template: &str) {
+        fill_part(lines, template, part_of(self.text, self.span))
     }
 
     /// Adds a type in quotes, as it is declared, with the name of the formal or the block whose handler it names, and
     /// the words after it.
-    pub(crate) fn push_type(&self, lines: &mut Lines, given: EntityType, behind: &'static str) {
-        let (mark, unknown) = marks_of(given);
-        lines.push_all(&["`", mark]);
-        self.push_handler(lines, given.tag);
-        lines.push(self.class_name(given.class));
-        lines.push_all(&["`", unknown, behind])
+    pub(crate) fn push_type(&self, lines: &mut Lines, given: EntityType, behind: &str) {
+        let class = self.class_name(given.class);
+        match given.tag {
+            Tag::With(reserved) => {
+                lines.fill(template_of(given), &[self.name_of(reserved), class])
+            }
+            _ => lines.fill_name(template_of(given), class),
+        }
+        lines.push(behind)
     }
 
     /// The name of a class, as its text has it.
@@ -52,17 +41,6 @@ impl<'s> Scope<'s> {
         }
     }
 
-    /// Adds the words of a type before its class: whose handler it names, which may have a name.
-    fn push_handler(&self, lines: &mut Lines, tag: Tag) {
-        match tag {
-            Tag::Own | Tag::None => {}
-            Tag::Any => lines.push("separate "),
-            Tag::With(reserved) => {
-                lines.push_all(&["separate <", self.name_of(reserved), ".handler> "])
-            }
-        }
-    }
-
     /// The name of the formal or the block that something is reserved for.
     fn name_of(&self, reserved: Reserved) -> &str {
         match reserved {
@@ -75,15 +53,19 @@ impl<'s> Scope<'s> {
     }
 }
 
-/// The first words of a type, and the words after it if its handler isn't known.
-fn marks_of(given: EntityType) -> (&'static str, &'static str) {
-    if given.class == ClassId::None {
-        return ("", "");
-    }
-    let mark = if given.attached { "" } else { "detachable " };
-    match given.tag {
-        Tag::None => (mark, " of a handler that isn't known here"),
-        _ => (mark, ""),
+/// How a type is declared, with `~` for its class, and before that for the name whose handler it names, if it does.
+fn template_of(given: EntityType) -> &'static str {
+    let is_of_void = matches!(given.class, ClassId::None);
+    match (given.tag, given.attached || is_of_void) {
+        (Tag::Own, true) => "`~`",
+        (Tag::Own, false) => "`detachable ~`",
+        (Tag::Any, true) => "`separate ~`",
+        (Tag::Any, false) => "`detachable separate ~`",
+        (Tag::With(_), true) => "`separate <~.handler> ~`",
+        (Tag::With(_), false) => "`detachable separate <~.handler> ~`",
+        (Tag::None, _) if is_of_void => "`~`",
+        (Tag::None, true) => "`~` of a handler that isn't known here",
+        (Tag::None, false) => "`detachable ~` of a handler that isn't known here",
     }
 }
 
@@ -91,7 +73,7 @@ fn marks_of(given: EntityType) -> (&'static str, &'static str) {
 fn name_of_block<'n>(names: &[Entity<'n>], number: usize) -> &'n str {
     let mut left = number;
     for known in names {
-        if known.role == Role::Block {
+        if matches!(known.role, Role::Block) {
             if left == 0 {
                 return known.name;
             }
@@ -129,10 +111,18 @@ fn is_closed(part: &str) -> bool {
     depth == 0
 }
 
-/// Adds a part of the text in quotes, or `this` if there is none, between words.
-pub fn push_quoted(lines: &mut Lines, before: &str, part: &str, behind: &str) {
-    if part.is_empty() {
-        return lines.push_all(&[before, "this", behind]);
+/// Adds a text in which this part of another takes the place of each `~`. If there is no part to show, `this` takes
+/// that of "`~`", and `..` that of another `~`.
+pub fn fill_part(lines: &mut Lines, template: &str, part: &str) {
+    if !part.is_empty() {
+        return lines.fill(template, &[part, part]);
     }
-    lines.push_all(&[before, "`", part, "`", behind])
+    match template.split_once("`~`") {
+        None => lines.push(template),
+        Some((before, behind)) => {
+            lines.push(before);
+            lines.push("this");
+            lines.fill_name(behind, "..")
+        }
+    }
 }
