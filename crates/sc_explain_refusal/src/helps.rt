@@ -17,6 +17,16 @@ impl<'s> Walk<'s> {
         if part.is_empty() { ".." } else { part }
     }
 
+    /// The name at fault.
+    fn name(&self) -> &str {
+        word_at(self.text, self.span)
+    }
+
+    /// The first name that isn't known in the text, or the next one after `but` others.
+    fn fresh(&self, but: usize) -> &str {
+        fresh_name(self.text, but)
+    }
+
     /// Adds that what is assigned isn't assignable, by what it means, and what helps.
     pub(crate) fn push_fixed(&self, lines: &mut Lines, role: Option<Role>) {
         let said = match role {
@@ -29,10 +39,10 @@ impl<'s> Walk<'s> {
         };
         self.say(lines, said);
         if role.is_some() {
-            let local = fresh_name(self.text, 0);
+            let local = self.fresh(0);
             lines.fill(
                 "help: use a local: declare `~` under `local`, and begin with `~ := ~`\n",
-                &[local, local, word_at(self.text, self.span)],
+                &[local, local, self.name()],
             )
         }
     }
@@ -41,7 +51,7 @@ impl<'s> Walk<'s> {
     pub(crate) fn push_lacking(&self, lines: &mut Lines, class: ClassId) {
         lines.fill_name("the class `~` has no feature ", self.class_name(class));
         self.say(lines, "`~`\n");
-        let name = word_at(self.text, self.span);
+        let name = self.name();
         if !push_instead_of(lines, name) {
             self.push_near_feature(lines, class, name);
         }
@@ -51,7 +61,7 @@ impl<'s> Walk<'s> {
     /// what it shows.
     pub(crate) fn push_unknown(&self, lines: &mut Lines) {
         self.say(lines, "nothing that is known here has the name `~`\n");
-        let name = word_at(self.text, self.span);
+        let name = self.name();
         let class = ClassId::Declared(self.routine.class);
         let is_told = push_instead_of(lines, name)
             || self.push_near_entity(lines, name)
@@ -162,8 +172,8 @@ impl<'s> Walk<'s> {
             }
             _ => return self.push_formal(lines, given),
         };
-        let (name, other) = (fresh_name(self.text, 0), fresh_name(self.text, 1));
-        lines.fill(template, &[self.part(), name, name, other])
+        let name = self.fresh(0);
+        lines.fill(template, &[self.part(), name, name, self.fresh(1)])
     }
 
     /// Adds how the handler of the part at fault is reserved, where that is of this type.
@@ -171,7 +181,7 @@ impl<'s> Walk<'s> {
         if !matches!(self.context, Context::Body | Context::Check) {
             return self.push_formal(lines, given);
         }
-        let name = fresh_name(self.text, 0);
+        let name = self.fresh(0);
         match self.place {
             Place::Until => lines.fill(
                 "help: let a function reserve it each time: `f (~: separate ~): BOOLEAN do Result := .. end`\n",
@@ -197,7 +207,7 @@ impl<'s> Walk<'s> {
         }
         lines.fill_name(
             "help: take it as an attached formal, which is reserved: `~` of type ",
-            fresh_name(self.text, 0),
+            self.fresh(0),
         );
         let attached = EntityType {
             attached: true,
@@ -217,7 +227,7 @@ impl<'s> Walk<'s> {
             None => self.push_no_creator(lines, class),
             Some(first) => lines.fill(
                 "help: name a procedure that it lists: `create ~.~`\n",
-                &[word_at(self.text, self.span), first],
+                &[self.name(), first],
             ),
         }
     }
@@ -230,7 +240,7 @@ impl<'s> Walk<'s> {
             None => self.push_no_creator(lines, class),
             Some(first) => lines.fill(
                 "help: it lists `~`, and takes `~` once that is listed too\n",
-                &[first, word_at(self.text, self.span)],
+                &[first, self.name()],
             ),
         }
     }
@@ -256,7 +266,7 @@ impl<'s> Walk<'s> {
             ClassId::Boolean => "help: a BOOLEAN begins as False, and is assigned\n",
             _ => "help: make an object of a class of your own, and assign it\n",
         };
-        lines.fill_name(help, word_at(self.text, self.span))
+        lines.fill_name(help, self.name())
     }
 }
 

@@ -7,24 +7,17 @@ use sc_explain_text::{Lines, word_at};
 use sc_text::Span;
 use sc_tree::{Class, Feature, Name, System};
 
-/// Adds how a feature that has the name of an inherited one is declared, where the one at fault has or is inherited.
+/// Adds how a feature is declared that has the name of one of an ancestor or an heir, if the one at fault does.
 pub fn push_redefine(lines: &mut Lines, text: &str, system: &System, span: Span) {
-    if let Some((_, class)) = class_around(&system.classes, span)
-        && let Some(feature) = feature_around(class, span)
-        && feature.name.span == span
-    {
-        push_for_relatives(lines, text, system, class, feature)
+    let Some((_, class)) = class_around(&system.classes, span) else {
+        return;
+    };
+    let Some(feature) = feature_around(class, span) else {
+        return;
+    };
+    if feature.name.span != span {
+        return;
     }
-}
-
-/// Adds this for a feature of the class that an ancestor or an heir declares, too.
-fn push_for_relatives(
-    lines: &mut Lines,
-    text: &str,
-    system: &System,
-    class: &Class,
-    feature: &Feature,
-) {
     for other in system.classes.iter() {
         if other.span != class.span
             && let Some(known) = declared_in(other, feature.name.as_str())

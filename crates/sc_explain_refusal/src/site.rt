@@ -47,8 +47,8 @@ pub(crate) enum Part<'s> {
 pub(crate) enum Found<'s> {
     /// Nothing as yet.
     Nothing,
-    /// This part is the one at fault.
-    At(Part<'s>),
+    /// This part is the one at fault, at this position in a body.
+    At(Part<'s>, Place),
     /// A part in front of it is faulty, so what is known at it isn't found.
     Faulty,
     /// Memory ran out.
@@ -81,9 +81,12 @@ fn fails_at(rule: Rule, part: Part<'_>) -> bool {
 impl<'s> Walk<'s> {
     /// Passes a part: it is the one at fault if it has the place of the fault, and the rule may fail at it.
     pub(crate) fn pass(&mut self, context: Context, span: Span, part: Part<'s>) {
-        if self.is_open() && self.span == span && fails_at(self.rule, part) {
+        if let Found::Nothing = self.found
+            && self.span == span
+            && fails_at(self.rule, part)
+        {
             self.context = context;
-            self.found = Found::At(part);
+            self.found = Found::At(part, self.place);
         }
     }
 
@@ -154,10 +157,11 @@ impl<'s> Walk<'s> {
                 self.pass_expression(Context::Body, value)
             }
             Instr::Call(call) => self.pass_call(Context::Body, call),
-            Instr::Create(_, variable, None) => self.pass_variable(variable),
-            Instr::Create(_, variable, Some(call)) => {
+            Instr::Create(_, variable, call) => {
                 self.pass_variable(variable);
-                self.pass_creation(variable, call)
+                if let Some(call) = call {
+                    self.pass_creation(variable, call)
+                }
             }
             Instr::Check(_, clauses) => self.pass_clauses(Context::Check, clauses),
             _ => {}

@@ -124,7 +124,10 @@ impl<'s> Walk<'s> {
     fn push_found(&mut self, lines: &mut Lines) {
         match self.found {
             Found::Nothing | Found::Faulty => {}
-            Found::At(part) => self.tell(lines, part),
+            Found::At(part, place) => {
+                self.place = place;
+                self.tell(lines, part)
+            }
             Found::OutOfMemory => lines.lack(),
         }
     }

@@ -5,11 +5,8 @@ use crate::types::type_judged;
 use sc_rules::entity_types::EntityType;
 use sc_rules::{Context, Position, Role, Rule};
 use sc_text::Span;
-use sc_tree::{Branch, Declaration, Expr, Head, Instr, Routine};
-use sc_typing::{
-    CheckFault, Entity, RoutineContext, Typing, add_formals, add_locals, block_type, blocks,
-};
-use std::alloc::AllocError;
+use sc_tree::{Declaration, Expr, Head, Instr, Routine};
+use sc_typing::{Entity, RoutineContext, add_formals, add_locals, block_type, blocks};
 
 /// A walk through a routine, or through an invariant, to the part of the text at which a rule fails.
 #[derive(Drop)]
@@ -28,34 +25,13 @@ pub(crate) struct Walk<'s> {
 }
 
 impl<'s> Walk<'s> {
-    /// Whether nothing is found as yet.
-    pub(crate) fn is_open(&self) -> bool {
-        matches!(self.found, Found::Nothing)
-    }
-
-    /// Keeps that memory ran out, if it did.
-    fn keep(&mut self, added: Result<(), AllocError>) {
-        if added.is_err() {
-            self.found = Found::OutOfMemory;
-        }
-    }
-
-    /// The type of what was judged in front of what is looked for, if it isn't faulty. Keeps that it is, or that
-    /// memory ran out.
-    fn type_passed(&mut self, judged: Result<Typing, CheckFault>) -> Option<Option<EntityType>> {
-        match type_judged(judged) {
-            Ok(Ok(given)) => return Some(given),
-            Ok(Err(_)) => self.found = Found::Faulty,
-            Err(_) => self.found = Found::OutOfMemory,
-        }
-        None
-    }
-
     /// Passes a routine: its precondition, its body and its postcondition.
     pub(crate) fn pass_routine(&mut self, text: &'s Routine) {
         let routine = &self.routine;
         let added = add_formals(routine.tables, routine.formals, &mut self.names);
-        self.keep(added);
+        if added.is_err() {
+            self.found = Found::OutOfMemory;
+        }
         self.pass_clauses(Context::Require, &text.precondition);
         let known = self.names.len();
         self.add_locals(&text.locals);
@@ -65,25 +41,20 @@ impl<'s> Walk<'s> {
     }
 
     fn add_locals(&mut self, locals: &'s [Declaration]) {
-        if self.is_open() {
+        if let Found::Nothing = self.found {
             let routine = &self.routine;
             let added = add_locals(routine.tables, routine.formals, locals, &mut self.names);
-            self.keep(added)
+            if added.is_err() {
+                self.found = Found::OutOfMemory;
+            }
         }
     }
 
     /// Takes names out of scope after their part, down to this number, unless the part that is looked for was found
     /// there.
     fn forget(&mut self, known: usize) {
-        if self.is_open() {
+        if let Found::Nothing = self.found {
             self.names.truncate(known);
-        }
-    }
-
-    /// The parts that are passed next have this position in a body.
-    fn enter(&mut self, place: Place) {
-        if self.is_open() {
-            self.place = place;
         }
     }
 
@@ -100,12 +71,16 @@ impl<'s> Walk<'s> {
         match instruction {
             Instr::If(_, condition, body, branches, other) => {
                 self.pass_branch(body, condition);
-                self.pass_branches(branches);
+                for branch in branches.iter() {
+                    self.pass_branch(&branch.body, &branch.condition);
+                }
                 self.pass_instructions(other)
             }
             Instr::Loop(_, initial, until, body) => {
                 self.pass_instructions(initial);
-                self.pass_until(until);
+                self.place = Place::Until;
+                self.pass_condition(Context::Body, until);
+                self.place = Place::Instruction;
                 self.pass_instructions(body)
             }
             Instr::Block(_, heads, body) => self.pass_block(heads, body),
@@ -113,28 +88,16 @@ impl<'s> Walk<'s> {
         }
     }
 
-    /// Passes the condition that a loop ends by.
-    fn pass_until(&mut self, until: &'s Expr) {
-        self.enter(Place::Until);
-        self.pass_condition(Context::Body, until);
-        self.enter(Place::Instruction)
-    }
-
-    /// Passes a separate block. After it its names are out of scope.
+    /// Passes a separate block, none of whose names is in scope in its heads. After it they are out of scope.
     #[cycle(instructions)]
     fn pass_block(&mut self, heads: &'s [Head], body: &'s [Instr]) {
         let known = self.names.len();
         self.pass_heads(heads);
-        self.add_block_names(heads);
+        for head in heads {
+            self.add_block_name(known, head);
+        }
         self.pass_instructions(body);
         self.forget(known)
-    }
-
-    #[cycle(instructions)]
-    fn pass_branches(&mut self, branches: &'s [Branch]) {
-        for branch in branches {
-            self.pass_branch(&branch.body, &branch.condition);
-        }
     }
 
     /// Passes a condition and the instructions under it, with the names that the condition binds.
@@ -142,31 +105,25 @@ impl<'s> Walk<'s> {
     fn pass_branch(&mut self, body: &'s [Instr], condition: &'s Expr) {
         let known = self.names.len();
         self.pass(Context::Body, condition.span(), Part::Condition(condition));
-        self.enter(Place::Condition);
+        self.place = Place::Condition;
         self.pass_operands(condition);
-        self.enter(Place::Instruction);
+        self.place = Place::Instruction;
         self.pass_instructions(body);
         self.forget(known)
-    }
-
-    /// Makes the names of a separate block known.
-    fn add_block_names(&mut self, heads: &'s [Head]) {
-        let known = self.names.len();
-        for head in heads {
-            self.add_block_name(known, head);
-        }
     }
 
     /// Brings a name of a separate block into scope, with the type of its head and this number of names in scope
     /// around it.
     fn add_block_name(&mut self, known: usize, head: &'s Head) {
-        if self.is_open() {
+        if let Found::Nothing = self.found {
             let outer = self.names.get(..known).unwrap_or(&[]);
             let judged = self
                 .routine
                 .expression(Context::Body, Position::Plain, outer, &head.value);
-            if let Some(given) = self.type_passed(judged) {
-                self.push_block_name(head, given)
+            match type_judged(judged) {
+                Ok(Ok(given)) => self.push_block_name(head, given),
+                Ok(Err(_)) => self.found = Found::Faulty,
+                Err(_) => self.found = Found::OutOfMemory,
             }
         }
     }
@@ -202,9 +159,13 @@ impl<'s> Walk<'s> {
 
     /// Makes the name known that an object test gives.
     fn learn(&mut self, e: &'s Expr) {
-        if self.is_open() {
+        if let Found::Nothing = self.found {
             let judged = self.routine.condition(Context::Body, &mut self.names, e);
-            self.type_passed(judged);
+            match type_judged(judged) {
+                Ok(Ok(_)) => {}
+                Ok(Err(_)) => self.found = Found::Faulty,
+                Err(_) => self.found = Found::OutOfMemory,
+            }
         }
     }
 }
