@@ -119,9 +119,12 @@ found_for name finding.Undecided = None
 
 -- The answer to a search of the program: a verdict on its orders of turns, and the exit for it. An order that was
 -- found leads to what the verdict says, and no beginning of it does. If every order was played, nothing was found and
--- there is nothing to find. If nothing was found and some orders weren't played, the search has used up its states or
--- turns. Each outcome is that of an order that ends. The order that was found is to be written as a record if a file
--- is named for it.
+-- there is nothing to find. If nothing was found and some orders weren't played, or if the search is undecided, one of
+-- three things is true. There is a list of as many states as may be kept: turns lead to each, and none of them is what
+-- was looked for. Or there is a list of orders, each of which can be played from the opening on, with 2,000 turns
+-- together for each state that may be kept. Or an order leads to two worlds. The states of the list need not differ,
+-- and the orders need not either. Each outcome is that of an order that ends. The order that was found is to be
+-- written as a record if a file is named for it.
 pub record IsSearchOf (program : Image) (options : SearchOptions) (output : List ℕ) (exit : Exit)
     (recording : Option Recording) : Type 0 where
   pub verdict : Verdict
