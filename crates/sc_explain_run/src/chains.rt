@@ -1,11 +1,10 @@
 //! Which handler waits for which: cycles, and the chains that lead to them or to one that waits for something else.
 
-use crate::waits::{MOST_NEEDED, Wait, count_of, keeper_of, needed_at, wait_of};
+use crate::scene::Scene;
+use crate::waits::{Wait, keeper_of, wait_of};
 use sc_explain_text::Lines;
 use sc_lockpass::HandlerNumber;
 use sc_request::Core;
-use sc_world::World;
-use std::alloc::Global;
 
 /// A handler among those that wait for each other.
 #[derive(Clone, Copy)]
@@ -37,64 +36,65 @@ enum Pass {
     Frees,
 }
 
-/// Handlers that each wait for the next, and the last for the first; none if there is no such cycle.
+/// Handlers that each wait for the next: up to one that waits for the first of them, or that waits for one that was
+/// reported, which is counted too, or for no handler that waits.
 #[derive(Clone, Copy)]
-pub struct Cycle {
+pub struct Path {
     pub length: usize,
     /// How many of them wait for an answer.
     pub answers: usize,
+    /// Whether the last waits for the first.
+    pub is_cycle: bool,
 }
 
 /// The handlers of a world, in order of number.
 #[derive(Drop)]
 pub struct Chains {
+    count: HandlerNumber,
     members: Vec<Member>,
-    /// Whether a handler is busy.
-    pub is_any_busy: bool,
 }
 
 impl Chains {
     /// The chains of a world, none of them reported. If memory is refused, the lines are incomplete.
-    pub fn of(alloc: Global, lines: &mut Lines, world: &World<'_>) -> Chains {
+    pub fn of(scene: &Scene<'_>, lines: &mut Lines) -> Chains {
         let mut chains = Chains {
-            members: Vec::new(alloc),
-            is_any_busy: false,
+            count: scene.handlers,
+            members: Vec::new(scene.alloc),
         };
-        for handler in 0..count_of(world) {
-            let wait = wait_of(world, handler);
+        for handler in 0..chains.count {
+            let wait = wait_of(scene, handler);
             let member = Member {
                 wait,
                 next: None,
                 is_stuck: wait.is_waiting(),
                 is_told: false,
             };
-            if chains.members.push(member).is_err() {
+            if let Err(_) = chains.members.push(member) {
                 lines.lack()
             }
-            chains.is_any_busy = chains.is_any_busy || matches!(wait, Wait::Busy);
         }
-        chains.link(world.core());
+        chains.link(scene.core);
         chains
     }
 
     /// Sets for each handler the one that keeps it waiting.
     fn link(&mut self, core: &Core) {
-        let _is_changed = self.go_through(core, Pass::Links);
+        self.go_through(core, Pass::Links);
         // Those are left that lead to a cycle.
-        for _round in 0..self.members.len() {
+        for _round in 0..self.count {
             if !self.go_through(core, Pass::Frees) {
                 break;
             }
         }
-        let _is_changed = self.go_through(core, Pass::Links);
+        self.go_through(core, Pass::Links);
     }
 
     /// Does this with each handler: whether there was one to be freed.
     fn go_through(&mut self, core: &Core, pass: Pass) -> bool {
         let mut is_changed = false;
-        for index in 0..self.members.len().min(HandlerNumber::MAX as usize) {
-            let keeper = self.keeper_in(core, index as HandlerNumber);
-            if let Some(member) = self.members.get_mut(index) {
+        for handler in 0..self.count {
+            let keeper = self.keeper_in(core, handler);
+            if let Some(member) = self.members.get_mut(handler as usize) {
                 match (pass, keeper) {
                     (Pass::Links, Some(_)) => member.next = keeper,
                     (Pass::Frees, None) if member.is_stuck => {
@@ -119,9 +119,9 @@ impl Chains {
 
     /// The first that may be stuck of those that keep a handler from what it is to reserve.
     fn holder_in(&self, core: &Core, handler: HandlerNumber) -> Option<HandlerNumber> {
-        for place in 0..MOST_NEEDED {
-            if let Some(one) = needed_at(core, handler, place)
-                && let Some(keeper) = keeper_of(core, one)
+        let needed = core.needed_by(handler);
+        for one in needed.as_slice() {
+            if let Some(keeper) = keeper_of(core, *one)
                 && self.at(keeper).is_stuck
             {
                 return Some(keeper);
@@ -147,54 +147,41 @@ impl Chains {
 
     /// Whether a waiting handler waits for this one.
     pub fn is_waited_for(&self, handler: HandlerNumber) -> bool {
-        for index in 0..self.members.len().min(HandlerNumber::MAX as usize) {
-            if self.at(index as HandlerNumber).next == Some(handler) {
-                return true;
+        for member in self.members.iter() {
+            match member.next {
+                Some(next) if next == handler => return true,
+                _ => {}
             }
         }
         false
     }
 
-    /// The cycle in which a handler waits for itself.
-    pub fn cycle_of(&self, handler: HandlerNumber) -> Cycle {
-        let mut cycle = Cycle {
-            length: 0,
+    /// The handlers from this one on that each wait for the next.
+    pub fn path_from(&self, first: HandlerNumber) -> Path {
+        let mut path = Path {
+            length: 1,
             answers: 0,
+            is_cycle: false,
         };
-        let mut at = handler;
-        for _step in 0..self.members.len() {
+        let mut at = first;
+        for _step in 0..self.count {
             let member = self.at(at);
-            cycle.length = cycle.length.saturating_add(1);
             if let Wait::Answer(_) = member.wait {
-                cycle.answers = cycle.answers.saturating_add(1);
+                path.answers = path.answers.saturating_add(1);
             }
-            match member.next {
-                Some(next) if next == handler => return cycle,
-                Some(next) => at = next,
-                None => break,
-            }
-        }
-        Cycle {
-            length: 0,
-            answers: 0,
-        }
-    }
-
-    /// The number of handlers from this one on that each wait for the next: up to one that was reported, or that
-    /// waits for no handler that waits.
-    pub fn chain_length(&self, handler: HandlerNumber) -> usize {
-        let mut at = handler;
-        let mut length = 1_usize;
-        for _step in 0..self.members.len() {
-            let Some(next) = self.at(at).next else {
+            let Some(next) = member.next else {
                 break;
             };
-            length = length.saturating_add(1);
+            if next == first {
+                path.is_cycle = true;
+                break;
+            }
+            path.length = path.length.saturating_add(1);
             if self.at(next).is_told {
                 break;
             }
             at = next;
         }
-        length
+        path
     }
 }

@@ -1,13 +1,12 @@
 //! The code of a routine, evaluated once more from its present place: without any effect, on the objects as they
 //! are.
 
-use crate::frame::{Frame, Values};
-use crate::origin::RunSource;
-use sc_code::{FeatureCode, NameNumber, Operation, Program};
+use crate::scene::Scene;
+use sc_code::{FeatureCode, NameNumber, Operation, RoutineText};
 use sc_explain_text::Lines;
 use sc_lockpass::HandlerNumber;
-use sc_region::{Reference, Value};
-use sc_world::World;
+use sc_region::{Activation, Reference, Value};
+use sc_text::Span;
 
 /// How many operations are gone through at most.
 const MOST_OPERATIONS: usize = 100_000;
@@ -31,116 +30,151 @@ pub enum Start {
     Place(usize),
 }
 
-/// How far a routine is gone through.
+/// How far a routine is gone through, and what is said of it there.
 #[derive(Clone, Copy)]
 pub enum Goal {
-    /// To the first clause of a precondition that is false.
+    /// To the first clause of a precondition that is false: which one it is, and the values of what it names.
     FalseClause,
-    /// To the operation at this place.
-    Place(usize),
+    /// To the operation at this place: the values of what this part of the text names.
+    Place(usize, Span),
+}
+
+/// A routine in the middle of its run. Its slots and then its operands are some of the values of all routines.
+#[derive(Clone, Copy)]
+pub struct Frame {
+    pub routine: usize,
+    pub current: Reference,
+    /// The place of its next operation.
+    pub place: usize,
+    /// How many values are left after its end.
+    pub floor: usize,
+    /// Where its slots begin.
+    pub slots: usize,
+    /// Where the values of before begin that its postcondition keeps.
+    pub olds: usize,
+    pub result: Option<Value>,
 }
 
 /// An attribute that got a value on the way.
 #[derive(Clone, Copy)]
-struct Write {
-    object: Reference,
-    attribute: usize,
-    value: Value,
+pub struct Write {
+    pub object: Reference,
+    pub name: NameNumber,
+    pub value: Value,
 }
 
 /// What is evaluated: a routine of the program of a world, on the objects of that.
 #[derive(Drop)]
 pub struct Evaluation<'r> {
-    world: &'r World<'r>,
-    program: &'r Program,
+    pub scene: &'r Scene<'r>,
+    /// The text of the outermost routine.
+    pub text: &'r RoutineText,
     /// The routine that runs.
     pub frame: Frame,
     /// Those that wait for it to end, the outermost first.
-    callers: Vec<Frame>,
-    pub values: Values,
-    /// What the outermost routine has read and called.
+    pub callers: Vec<Frame>,
+    /// The values of all routines, those of the outermost first.
+    pub values: Vec<Value>,
+    /// Those that routines keep for their postconditions.
+    pub olds: Vec<Value>,
+    /// What the outermost routine has read and called, as far as it is no object.
     pub seen: Vec<Seen>,
-    writes: Vec<Write>,
-    /// Whether it was gone through so far.
-    pub is_reached: bool,
+    pub writes: Vec<Write>,
     /// Whether memory was refused on the way.
-    is_lacking: bool,
+    pub is_lacking: bool,
+}
+
+/// Evaluates the topmost routine of a handler from its start to a goal, and adds what is said of it there: nothing if
+/// the handler has no routine, or the routine doesn't get there without asking other handlers. If memory is refused on
+/// the way, the lines are incomplete.
+pub fn push_evaluated(
+    scene: &Scene<'_>,
+    lines: &mut Lines,
+    handler: HandlerNumber,
+    start: Start,
+    goal: Goal,
+) {
+    let Some(store) = scene.store(handler) else {
+        return;
+    };
+    let (Some(top), Some(current)) = (store.top(), store.current()) else {
+        return;
+    };
+    let Some(text) = scene.text_of(top.routine) else {
+        return;
+    };
+    let mut evaluation = Evaluation {
+        scene,
+        text,
+        frame: Frame {
+            routine: top.routine,
+            current,
+            place: top.place,
+            floor: 0,
+            slots: 0,
+            olds: 0,
+            result: top.result,
+        },
+        callers: Vec::new(scene.alloc),
+        values: Vec::new(scene.alloc),
+        olds: Vec::new(scene.alloc),
+        seen: Vec::new(scene.alloc),
+        writes: Vec::new(scene.alloc),
+        is_lacking: false,
+    };
+    evaluation.begin(top, start);
+    if evaluation.reaches(goal) {
+        evaluation.tell(lines, goal)
+    }
+    if evaluation.is_lacking {
+        lines.lack()
+    }
 }
 
 impl<'r> Evaluation<'r> {
-    /// Evaluates the topmost routine of a handler from one of its places to another, if it gets there without asking
-    /// other handlers. None if the handler has no routine. If memory is refused on the way, the lines are incomplete.
-    pub fn of(
-        origin: &RunSource<'_>,
-        lines: &mut Lines,
-        world: &'r World<'r>,
-        handler: HandlerNumber,
-        start: Start,
-        goal: Goal,
-    ) -> Option<Evaluation<'r>> {
-        let Some(region) = world.region(handler) else {
-            return None;
-        };
-        let store = region.store();
-        let (Some(top), Some(current)) = (store.top(), store.current()) else {
-            return None;
-        };
-        let alloc = origin.alloc;
-        let mut evaluation = Evaluation {
-            world,
-            program: store.program(),
-            frame: Frame {
-                routine: top.routine,
-                current,
-                place: top.place,
-                floor: 0,
-                slots: 0,
-                operands: top.slots.len(),
-                olds: 0,
-                result: top.result,
-            },
-            callers: Vec::new(alloc),
-            values: Values::of(alloc, top),
-            seen: Vec::new(alloc),
-            writes: Vec::new(alloc),
-            is_reached: false,
-            is_lacking: false,
-        };
-        evaluation.begin(start);
-        evaluation.is_reached = evaluation.reaches(goal);
-        if evaluation.is_lacking || evaluation.values.is_lacking {
-            lines.lack()
+    /// Puts the outermost routine at its start, with its values.
+    fn begin(&mut self, top: &Activation, start: Start) {
+        for slot in top.slots.iter() {
+            self.push(*slot);
         }
-        Some(evaluation)
+        for number in 0..HandlerNumber::MAX {
+            match top.olds.get(number as usize) {
+                Some(value) => self.keep(value),
+                None => break,
+            };
+        }
+        match start {
+            Start::Place(place) => self.frame.place = place,
+            Start::Here(answer) => self.take_operands(top, answer),
+        }
     }
 
-    /// Puts the outermost routine at its start. If that is after a call, the last operand is the call's result.
-    fn begin(&mut self, start: Start) {
-        match start {
-            Start::Here(None) => {}
-            Start::Here(Some(value)) => self.values.push(value),
-            Start::Place(place) => {
-                self.frame.place = place;
-                let operands = self.frame.operands;
-                self.values.cut(operands)
-            }
+    /// The outermost routine gets its operands, and an answer that has come. If it is after a call, the last of them is
+    /// the call's result.
+    fn take_operands(&mut self, top: &Activation, answer: Option<Value>) {
+        let mut last = None;
+        for below in (0..top.operands.len()).rev() {
+            last = top.operands.under(below);
+            self.give(last);
         }
-        let place = self.frame.place.saturating_sub(1);
-        let is_behind_call = matches!(
-            self.operation_at(place),
-            Some(Operation::CallFeature(_) | Operation::CallRoutine(_))
-        );
-        if let Some(value) = self.values.last(&self.frame)
-            && is_behind_call
+        if let Some(value) = answer {
+            last = answer;
+            self.push(value);
+        }
+        if let Some(value) = last
+            && top.place > 0
+            && let Some(Operation::CallFeature(_) | Operation::CallRoutine(_)) = self.operation_at(
+                top.place - 1,
+            )
         {
-            self.note(place, value)
+            self.note(value)
         }
     }
 
     /// Evaluates the outermost routine up to the goal. Returns whether it gets there.
     fn reaches(&mut self, goal: Goal) -> bool {
         for _operation in 0..MOST_OPERATIONS {
-            if self.callers.is_empty() && self.is_at(goal) {
+            if self.is_at(goal) {
                 return true;
             }
             if self.is_lacking || !self.advance() {
@@ -150,204 +184,144 @@ impl<'r> Evaluation<'r> {
         false
     }
 
-    /// Whether the routine that runs is at the goal.
+    /// Whether the outermost routine runs and is at the goal.
     fn is_at(&self, goal: Goal) -> bool {
+        let place = self.frame.place;
         match goal {
-            Goal::Place(place) => self.frame.place == place,
-            Goal::FalseClause => {
-                matches!(
-                    self.operation_at(self.frame.place),
-                    Some(Operation::Demand(_))
-                ) && matches!(self.values.last(&self.frame), Some(Value::Boolean(false)))
-            }
-        }
-    }
-
-    /// The routine does its next operation: whether it can be gone on.
-    fn advance(&mut self) -> bool {
-        match self.operation_at(self.frame.place) {
-            None => false,
-            Some(Operation::CallRoutine(number)) => self.call(number, false),
-            Some(Operation::CallFeature(number)) => self.call(number, true),
-            Some(
-                Operation::PushAttribute {
-                    is_attached: _,
-                    name,
-                },
-            ) => {
-                let current = self.frame.current;
-                let value = match version_in(self.program, current, name) {
-                    Some(FeatureCode::Attribute(number)) => self.attribute(current, number),
-                    _ => None,
-                };
-                self.read(value)
-            }
-            Some(Operation::StoreAttribute(name)) => self.store_attribute(name),
-            Some(Operation::Test(number)) => match self.program.pool().tests.get(number) {
-                Some(test) if test.tested.is_none() => self.test(test.slot),
+            _ if !self.callers.is_empty() => false,
+            Goal::Place(goal, _) => place == goal,
+            Goal::FalseClause => match (self.operation_at(place), self.values.last()) {
+                (Some(Operation::Demand(_)), Some(Value::Boolean(holds))) => !*holds,
                 _ => false,
             },
-            Some(Operation::Start) => !self.callers.is_empty() && self.pass(0),
-            Some(Operation::Exit) => self.exit(),
-            Some(operation) => self.step(operation),
         }
     }
 
     /// The operation at a place of the routine that runs.
-    fn operation_at(&self, place: usize) -> Option<Operation> {
-        match self.program.routine(self.frame.routine) {
+    pub fn operation_at(&self, place: usize) -> Option<Operation> {
+        match self.scene.program.routine(self.frame.routine) {
             Some(routine) => routine.operations.get(place).copied(),
             None => None,
         }
     }
 
-    /// Goes on with the routine after skipping this number of operations.
-    pub fn pass(&mut self, passed: usize) -> bool {
-        self.frame.place = self.frame.place.saturating_add(1).saturating_add(passed);
+    /// Notes what the operation before the present one has read or called, if the outermost routine did and it is no
+    /// object.
+    fn note(&mut self, value: Value) {
+        let place = self.frame.place.saturating_sub(1);
+        if let Value::Attached(_) = value {
+            return;
+        }
+        if self.callers.is_empty()
+            && let Err(_) = self.seen.push(Seen { place, value })
+        {
+            self.is_lacking = true
+        }
+    }
+
+    /// Adds an operand. Returns True.
+    pub fn push(&mut self, value: Value) -> bool {
+        if let Err(_) = self.values.push(value) {
+            self.is_lacking = true
+        }
         true
     }
 
-    /// The routine gets a value that was read or that a call gives, if there is one: whether it does.
+    /// Adds an operand, if there is one: whether there is.
+    pub fn give(&mut self, value: Option<Value>) -> bool {
+        match value {
+            Some(value) => self.push(value),
+            None => false,
+        }
+    }
+
+    /// Adds an operand that was read or that a call gives, if there is one: whether there is.
     pub fn read(&mut self, value: Option<Value>) -> bool {
         match value {
             Some(value) => {
-                let place = self.frame.place;
-                self.note(place, value);
-                self.values.push(value);
-                self.pass(0)
+                self.note(value);
+                self.push(value)
             }
             None => false,
         }
     }
 
-    /// Notes what was read for a clause of the outermost routine.
-    fn note(&mut self, place: usize, value: Value) {
-        if self.callers.is_empty() && self.seen.push(Seen { place, value }).is_err() {
+    /// Keeps a value for an `old`. Returns True.
+    pub fn keep(&mut self, value: Value) -> bool {
+        if let Err(_) = self.olds.push(value) {
             self.is_lacking = true
         }
+        true
     }
 
-    /// The routine ends, and its caller gets its result: whether there are both.
-    fn exit(&mut self) -> bool {
-        let ended = self.frame;
-        match self.callers.pop() {
-            Some(caller) => {
-                self.values.cut(ended.floor);
-                self.values.olds.truncate(ended.olds);
-                self.frame = caller;
-                self.read(ended.result)
+    /// The attribute of this name and number of an object, with what it got on the way.
+    fn attribute(&self, object: Reference, name: NameNumber, number: usize) -> Option<Value> {
+        let mut value = self.scene.stored(object, number);
+        for write in self.writes.iter() {
+            if write.object == object && write.name == name {
+                value = Some(write.value);
             }
-            None => false,
         }
+        value
     }
 
-    /// An attribute of Current gets the last operand: whether it can be gone on.
-    fn store_attribute(&mut self, name: NameNumber) -> bool {
-        let object = self.frame.current;
-        let version = version_in(self.program, object, name);
-        let Some(FeatureCode::Attribute(attribute)) = version else {
-            return false;
-        };
-        let Some(value) = self.values.pop(&self.frame) else {
-            return false;
-        };
-        let write = Write {
-            object,
-            attribute,
-            value,
-        };
-        if self.writes.push(write).is_err() {
-            self.is_lacking = true
-        }
-        self.pass(0)
-    }
-
-    /// Calls a feature of a target or of Current, with the values from a place on. Returns whether the evaluation can
-    /// go on. After the call those values are left below the floor.
-    fn call(&mut self, number: usize, has_target: bool) -> bool {
-        let Some(site) = self.program.pool().calls.get(number).copied() else {
-            return false;
-        };
-        let taken = site.count.saturating_add(has_target as usize);
-        let Some(floor) = self.values.first_of(&self.frame, taken) else {
-            return false;
-        };
-        let (object, slots) = if has_target {
-            match self.values.at(floor) {
-                Some(Value::Attached(object)) => (object, floor.saturating_add(1)),
-                _ => return false,
-            }
-        } else {
-            (self.frame.current, floor)
-        };
-        match version_in(self.program, object, site.name) {
+    /// Calls a feature of an object. The values from `floor` on are those that the call takes, and from `slots` on the
+    /// actuals. Returns whether the evaluation can go on.
+    pub fn call(
+        &mut self,
+        object: Reference,
+        name: NameNumber,
+        floor: usize,
+        slots: usize,
+    ) -> bool {
+        match self.scene.feature_in(object.class as usize, name) {
             Some(FeatureCode::Attribute(number)) => {
-                self.values.cut(floor);
-                let value = self.attribute(object, number);
+                let value = self.attribute(object, name, number);
+                self.values.truncate(floor);
                 self.read(value)
             }
-            Some(FeatureCode::Routine(routine)) => self.enter(object, routine, slots, floor),
+            Some(FeatureCode::Routine(routine)) => self.enter(object, routine, floor, slots),
             None => false,
         }
     }
 
-    /// A routine is entered on an object: whether it can be.
-    fn enter(&mut self, object: Reference, routine: usize, slots: usize, floor: usize) -> bool {
-        let Some(code) = self.program.routine(routine) else {
+    /// Enters a routine on an object. Returns whether the evaluation can go on.
+    fn enter(&mut self, object: Reference, routine: usize, floor: usize, slots: usize) -> bool {
+        let Some(code) = self.scene.program.routine(routine) else {
             return false;
         };
-        if self.callers.push(self.frame).is_err() {
+        if let Err(_) = self.callers.push(self.frame) {
             self.is_lacking = true
         }
-        let result = match code.result {
-            Some((default, _)) => Some(Value::of_default(default)),
-            None => None,
-        };
-        self.values.fill(slots.saturating_add(code.slots));
         self.frame = Frame {
             routine,
             current: object,
             place: 0,
             floor,
             slots,
-            operands: self.values.len(),
-            olds: self.values.olds.len(),
-            result,
+            olds: self.olds.len(),
+            result: match code.result {
+                Some((default, _)) => Some(Value::of_default(default)),
+                None => None,
+            },
         };
+        for _slot in self.values.len()..slots.saturating_add(code.slots) {
+            self.push(Value::Void);
+        }
         self.callers.len() < MOST_FRAMES
     }
 
-    /// The attribute of this number of an object, with what it got on the way.
-    fn attribute(&self, object: Reference, number: usize) -> Option<Value> {
-        let count = self.writes.len();
-        for behind in 0..count {
-            if let Some(write) = self.writes.get(count - 1 - behind)
-                && write.object.handler == object.handler
-                && write.object.number == object.number
-                && write.attribute == number
-            {
-                return Some(write.value);
+    /// Ends the routine, and gives its result to its caller. Returns whether there are both.
+    pub fn exit(&mut self) -> bool {
+        let ended = self.frame;
+        match self.callers.pop() {
+            Some(caller) => {
+                self.values.truncate(ended.floor);
+                self.olds.truncate(ended.olds);
+                self.frame = caller;
+                self.read(ended.result)
             }
+            None => false,
         }
-        stored(self.world, object, number)
-    }
-}
-
-/// What a feature of this name is in the class of an object.
-pub fn version_in(program: &Program, object: Reference, name: NameNumber) -> Option<FeatureCode> {
-    if let Some(class) = program.classes().get(object.class as usize)
-        && let Some(version) = class.features.get(name as usize)
-    {
-        *version
-    } else {
-        None
-    }
-}
-
-/// The attribute of this number that an object has in a world.
-pub fn stored(world: &World<'_>, object: Reference, number: usize) -> Option<Value> {
-    match world.region(object.handler) {
-        Some(region) => region.store().read(object.number, number),
-        None => None,
     }
 }

@@ -1,17 +1,20 @@
 //! The turns of a run that concern one handler.
 
 use crate::naming::{Asked, asked_by};
-use sc_code::ClassNumber;
-use sc_handler::Log;
+use sc_handler::{Log, Settlement};
 use sc_lockpass::HandlerNumber;
 use sc_model::Cause;
-use sc_region::{Errand, Job, Request, Value, Want};
+use sc_region::{Errand, Job, Value, Want};
 
 /// A turn of a handler: what it had to do, and what that came to.
 #[derive(Clone, Copy)]
 pub struct Turn {
+    /// Its place in the log.
+    pub place: usize,
     pub begun: Begun,
     pub ended: Ended,
+    /// Whether the handler was after an operation, and failed by its result in another handler, if it failed.
+    pub is_behind: bool,
 }
 
 /// What a handler had to do.
@@ -21,10 +24,8 @@ pub enum Begun {
     Takes(Served),
     /// It went on, with an answer if one had come.
     GoesOn(Option<Value>),
-    /// It went on with the handler that was created for it.
-    HasCreated,
-    /// What it had asked for has failed or was refused.
-    Fails,
+    /// It went on with the handler that was created for it, or what it had asked for has failed or was refused.
+    Other,
 }
 
 /// A request that a handler serves.
@@ -40,49 +41,34 @@ pub struct Served {
 /// What a turn came to.
 #[derive(Clone, Copy)]
 pub enum Ended {
-    /// It asked this handler for something, and waits for that or not.
-    Asks {
-        supplier: HandlerNumber,
-        asked: Asked,
-        is_waited: bool,
-    },
-    /// A handler was to be created, for an object of this class.
-    Creates(ClassNumber),
-    /// Handlers were to be reserved, or none since all were held already.
-    Reserves {
-        is_any: bool,
-    },
-    /// Its precondition was false, for which it waits.
-    Waits,
-    /// The request ended, or was refused.
-    Done {
-        is_refused: bool,
-    },
-    Fails(Cause),
+    /// It asked this handler for something.
+    Asks(HandlerNumber),
+    /// A handler was to be created.
+    Creates,
+    /// Handlers were to be reserved.
+    Reserves,
+    /// The request ended.
+    Done,
+    /// It was refused.
+    Refuses,
     /// Nothing of these.
-    GoesOn,
+    Other,
 }
 
-impl Turn {
-    /// Whether it failed as it took a request, before any routine ran for that.
-    pub fn fails_at_once(&self) -> bool {
-        matches!(self.begun, Begun::Takes(_)) && matches!(self.ended, Ended::Fails(_))
-    }
-
-    /// Whether the handler was after an operation, and failed by its result in another handler.
-    pub fn is_behind(&self) -> bool {
-        matches!(self.begun, Begun::Fails) || !matches!(self.ended, Ended::Fails(_))
-    }
-}
-
-/// The turn at a place of a log in which each is settled by itself.
-pub fn turn_at(log: &Log, place: usize) -> Option<Turn> {
-    match log.get(place) {
-        Some(settlement) => Some(Turn {
+/// The turn at a place of a log in which each is settled by itself, if it is one of this handler.
+pub fn turn_of(log: &Log, handler: HandlerNumber, place: usize) -> Option<Turn> {
+    if let Some(other) = log.handler_at(place)
+        && other == handler
+        && let Some(settlement) = log.get(place)
+    {
+        Some(Turn {
+            place,
             begun: begun_by(&settlement.job, place),
             ended: ended_by(&settlement.want),
-        }),
-        None => None,
+            is_behind: is_behind(&settlement),
+        })
+    } else {
+        None
     }
 }
 
@@ -96,76 +82,36 @@ fn begun_by(job: &Job, place: usize) -> Begun {
         }),
         Job::Reply(answer) => Begun::GoesOn(*answer),
         Job::Go | Job::Granted(_) => Begun::GoesOn(None),
-        Job::Made(_) => Begun::HasCreated,
-        Job::Failed | Job::Refused => Begun::Fails,
+        _ => Begun::Other,
     }
 }
 
 /// The result of a turn that asked for this.
 fn ended_by(want: &Want) -> Ended {
     match want {
-        Want::Post(request) => asks_by(request, false),
-        Want::Ask { request, .. } => asks_by(request, true),
-        Want::Create { class, .. } => Ended::Creates(*class),
-        Want::Reserve(handlers) => Ended::Reserves {
-            is_any: !handlers.is_empty(),
-        },
-        Want::Wait(_) => Ended::Waits,
-        Want::Done { refused, .. } => Ended::Done {
-            is_refused: *refused,
-        },
-        Want::Fail(cause) => Ended::Fails(*cause),
-        _ => Ended::GoesOn,
+        Want::Post(request) | Want::Ask { request, .. } => Ended::Asks(request.target.handler),
+        Want::Create { .. } => Ended::Creates,
+        Want::Reserve(handlers) if !handlers.is_empty() => Ended::Reserves,
+        Want::Done { refused: true, .. } => Ended::Refuses,
+        Want::Done { .. } => Ended::Done,
+        _ => Ended::Other,
     }
 }
 
-fn asks_by(request: &Request, is_waited: bool) -> Ended {
-    Ended::Asks {
-        supplier: request.target.handler,
-        asked: asked_by(request),
-        is_waited,
+/// Whether a handler that failed by this turn was after an operation, and failed by its result in another handler.
+pub fn is_behind(settlement: &Settlement) -> bool {
+    match (&settlement.job, &settlement.want) {
+        (Job::Failed | Job::Refused, _) => true,
+        (_, Want::Fail(_)) => false,
+        _ => true,
     }
 }
 
-/// The handler at a number, from 0, of those that had been newly reserved for the turn at a place.
-pub fn granted_at(log: &Log, place: usize, number: usize) -> Option<HandlerNumber> {
-    if let Some(settlement) = log.get(place)
-        && let Job::Granted(handlers) = &settlement.job
-    {
-        handlers.as_slice().get(number).copied()
-    } else {
-        None
-    }
-}
-
-/// Whether a handler is one of those that had been newly reserved for the turn at a place.
-pub fn has_granted(log: &Log, place: usize, handler: HandlerNumber) -> bool {
-    if let Some(settlement) = log.get(place)
-        && let Job::Granted(handlers) = &settlement.job
-    {
-        handlers.as_slice().contains(&handler)
-    } else {
-        false
-    }
-}
-
-/// The handler at a number, from 0, of those that were to be reserved by the turn at a place.
-pub fn wanted_at(log: &Log, place: usize, number: usize) -> Option<HandlerNumber> {
-    if let Some(settlement) = log.get(place)
-        && let Want::Reserve(handlers) = &settlement.want
-    {
-        handlers.as_slice().get(number).copied()
-    } else {
-        None
-    }
-}
-
-/// The place of the last turn of a handler in front of a place.
-pub fn last_before(log: &Log, handler: HandlerNumber, end: usize) -> Option<usize> {
-    for behind in 0..end {
-        let place = end - 1 - behind;
-        if log.handler_at(place) == Some(handler) {
-            return Some(place);
+/// The last turn of a handler.
+pub fn last_turn(log: &Log, handler: HandlerNumber) -> Option<Turn> {
+    for place in (0..log.len()).rev() {
+        if let Some(turn) = turn_of(log, handler, place) {
+            return Some(turn);
         }
     }
     None
@@ -173,11 +119,9 @@ pub fn last_before(log: &Log, handler: HandlerNumber, end: usize) -> Option<usiz
 
 /// The place of the last turn of a handler in front of a place by which it has refused a request that is waited for.
 pub fn refused_before(log: &Log, handler: HandlerNumber, end: usize) -> Option<usize> {
-    for behind in 0..end {
-        let place = end - 1 - behind;
-        if log.handler_at(place) == Some(handler)
-            && let Some(turn) = turn_at(log, place)
-            && let Ended::Done { is_refused: true } = turn.ended
+    for place in (0..end).rev() {
+        if let Some(turn) = turn_of(log, handler, place)
+            && let Ended::Refuses = turn.ended
         {
             return match served_before(log, handler, place) {
                 Some(served) if served.is_waited => Some(place),
@@ -191,19 +135,15 @@ pub fn refused_before(log: &Log, handler: HandlerNumber, end: usize) -> Option<u
 /// The request that the handler has taken last in front of a place among those that haven't ended.
 pub fn served_before(log: &Log, handler: HandlerNumber, end: usize) -> Option<Served> {
     let mut ended = 0_usize;
-    for behind in 0..end {
-        let place = end - 1 - behind;
-        if log.handler_at(place) == Some(handler)
-            && let Some(turn) = turn_at(log, place)
-        {
-            if let Ended::Done { .. } = turn.ended {
+    for place in (0..end).rev() {
+        if let Some(turn) = turn_of(log, handler, place) {
+            if let Ended::Done | Ended::Refuses = turn.ended {
                 ended = ended.saturating_add(1);
             }
-            if let Begun::Takes(served) = turn.begun {
-                if ended == 0 {
-                    return Some(served);
-                }
-                ended -= 1;
+            match turn.begun {
+                Begun::Takes(served) if ended == 0 => return Some(served),
+                Begun::Takes(_) => ended -= 1,
+                _ => {}
             }
         }
     }
@@ -212,15 +152,14 @@ pub fn served_before(log: &Log, handler: HandlerNumber, end: usize) -> Option<Se
 
 /// The handler that was last created for this one, and has begun.
 pub fn created_last(log: &Log, creator: HandlerNumber) -> Option<HandlerNumber> {
-    let end = log.len();
-    for behind in 0..end {
-        let place = end - 1 - behind;
-        if let Some(turn) = turn_at(log, place)
+    for place in (0..log.len()).rev() {
+        if let Some(handler) = log.handler_at(place)
+            && let Some(turn) = turn_of(log, handler, place)
             && let Begun::Takes(served) = turn.begun
-            && served.asked.poster == Some(creator)
-            && matches!(served.asked.errand, Errand::Makes(_))
+            && let (Some(poster), Errand::Makes(_)) = (served.asked.poster, served.asked.errand)
+            && poster == creator
         {
-            return log.handler_at(place);
+            return Some(handler);
         }
     }
     None

@@ -6,19 +6,19 @@
 //! The sentences are for people: nothing of the answer, which is the report, depends on them.
 #![tactic(auto)]
 
+mod before;
 mod breakdown;
 mod chains;
 mod clause;
 mod evaluation;
 mod failure;
-mod frame;
+mod handler_line;
 mod history;
 mod limit;
 mod made_turn;
 mod moments;
 mod naming;
 mod operators;
-mod origin;
 mod printed;
 mod replay;
 mod scene;

@@ -1,10 +1,10 @@
 //! The note on a run that didn't end.
 
 use crate::failure::Played;
-use crate::waits::count_of;
+use crate::scene::Scene;
+use sc_audit::RecordLine;
 use sc_explain_text::Lines;
 use sc_model::Status;
-use sc_world::World;
 
 /// The most turns that a run may make.
 const MOST_TURNS: u32 = 10_000_000;
@@ -23,56 +23,49 @@ pub enum Limit {
 }
 
 /// Adds how many turns were made, where a handler still has something to do, and what helps.
-pub fn push_limit(lines: &mut Lines, played: Played<'_>, ended: &World<'_>) {
-    if matches!(played.limit, Limit::Stuck) {
-        return push_going_on(lines, ended);
-    }
-    if matches!(played.limit, Limit::Output) || !is_any_busy(ended) {
+pub fn push_limit(ended: &Scene<'_>, lines: &mut Lines, played: Played<'_>) {
+    if !ended.is_any_busy() {
         return;
     }
-    let mut made = 0_u64;
-    for line in played.lines {
-        made = made.saturating_add(u64::from(line.turns))
-    }
+    let made = turns_of(played.lines);
     let template = match (played.limit, made) {
+        (Limit::Stuck, _) => return push_going_on(ended, lines),
+        (Limit::Output, _) => return,
         (Limit::Record, 1) => "stopped limit: the record ends behind ~ turn\n",
         (Limit::Record, _) => "stopped limit: the record ends behind ~ turns\n",
-        (_, 1) => "stopped limit: ~ turn",
-        _ => "stopped limit: ~ turns",
+        (Limit::Turns(_), 1) => "stopped limit: ~ turn",
+        (Limit::Turns(_), _) => "stopped limit: ~ turns",
     };
     lines.fill_number(template, made);
     if let Limit::Turns(limit) = played.limit {
-        lines.fill_number(used_up(limit, made), u64::from(MOST_TURNS))
+        lines.fill_number(used_up(limit, made), MOST_TURNS as u64)
     }
 }
 
-/// Adds which handlers go on beside one that waits for good, if any do.
-fn push_going_on(lines: &mut Lines, ended: &World<'_>) {
+/// How many turns these lines of a record make.
+fn turns_of(record: &[RecordLine]) -> u64 {
+    let mut made = 0_u64;
+    for line in record {
+        made = made.saturating_add(line.turns as u64)
+    }
+    made
+}
+
+/// Adds which handlers go on beside one that waits for good.
+fn push_going_on(ended: &Scene<'_>, lines: &mut Lines) {
     let mut template = "handler ~";
-    for handler in 0..count_of(ended) {
-        if let Some(Status::Busy) = ended.status(handler) {
-            lines.fill_number(template, u64::from(handler));
+    for handler in 0..ended.handlers {
+        if let Some(Status::Busy) = ended.world.status(handler) {
+            lines.fill_number(template, handler as u64);
             template = ", handler ~";
         }
     }
-    if is_any_busy(ended) {
-        lines.push(" can go on, but no order of turns gives each handler that waits another turn\n")
-    }
-}
-
-/// Whether a handler has something to do.
-fn is_any_busy(world: &World<'_>) -> bool {
-    for handler in 0..count_of(world) {
-        if let Some(Status::Busy) = world.status(handler) {
-            return true;
-        }
-    }
-    false
+    lines.push(" can go on, but no order of turns gives each handler that waits another turn\n")
 }
 
 /// That a run ended after its limit of turns, and what helps: `~` is the highest limit.
 fn used_up(limit: u32, made: u64) -> &'static str {
-    if made < u64::from(limit) {
+    if made < limit as u64 {
         " were made, and the record of the run has as many lines as it may have\n"
     } else if limit >= MOST_TURNS {
         " were made, which is the most that `--turns` takes\n"

@@ -28,8 +28,7 @@ fn push_character(lines: &mut Lines, character: char) {
         Some(mark) => lines.push(mark),
         None => {
             let mut buffer = [0u8; 4];
-            let encoded = character.encode_utf8(&mut buffer);
-            lines.push_bytes(encoded.as_bytes())
+            lines.push(character.encode_utf8(&mut buffer))
         }
     }
 }

@@ -1,41 +1,80 @@
 //! A run that is played once more.
 
+use crate::scene::Scene;
 use sc_audit::RecordLine;
+use sc_code::Program;
+use sc_lockpass::{HandlerNumber, Version};
+use sc_source::source::Source;
 use sc_world::{Turned, World};
-use std::alloc::AllocError;
+use std::alloc::{AllocError, Global};
 
-/// The part of a run's record that was played once more, each of its turns settled by itself, so that the log has
-/// each.
-#[derive(Clone, Copy)]
-pub struct Replay {
-    /// The line that is played, and how many turns of it are made.
+/// A run of the program of a source text that is played once more, each of its turns settled by itself, so that the
+/// log has each.
+#[derive(Drop)]
+pub struct Replay<'r> {
+    pub alloc: Global,
+    source: &'r Source,
+    program: &'r Program,
+    pub world: World<'r>,
+    /// The line of its record that is played, and how many turns of it are made.
     line: usize,
     made: u32,
 }
 
-impl Replay {
-    /// At the opening.
-    pub fn start() -> Replay {
-        Replay { line: 0, made: 0 }
+impl<'r> Replay<'r> {
+    /// At the opening, with the version's limit on handlers.
+    ///
+    /// # Errors
+    /// Memory ran out.
+    pub fn open(
+        alloc: Global,
+        source: &'r Source,
+        program: &'r Program,
+        version: Version,
+    ) -> Result<Replay<'r>, AllocError> {
+        match World::open(alloc, program, version) {
+            Ok(world) => Ok(Replay {
+                alloc,
+                source,
+                program,
+                world,
+                line: 0,
+                made: 0,
+            }),
+            Err(error) => Err(error),
+        }
     }
 
-    /// Plays on in the world of these lines until this number of turns are made in all, or the record ends.
-    pub fn advance(
-        &mut self,
-        world: &mut World<'_>,
-        lines: &[RecordLine],
-        place: usize,
-    ) -> Result<(), AllocError> {
-        for _line in self.line..lines.len() {
-            let Some(line) = lines.get(self.line) else {
+    /// The run as it stands.
+    pub fn scene(&self) -> Scene<'_> {
+        Scene {
+            alloc: self.alloc,
+            source: self.source,
+            program: self.program,
+            world: &self.world,
+            core: self.world.core(),
+            log: self.world.log(),
+            handlers: self.world.handler_count().min(HandlerNumber::MAX as usize) as HandlerNumber,
+        }
+    }
+
+    /// Plays on these lines of the record until this number of turns are made in all, or the record ends.
+    ///
+    /// # Errors
+    /// Memory ran out.
+    pub fn advance(&mut self, record: &[RecordLine], place: usize) -> Result<(), AllocError> {
+        for _line in self.line..record.len() {
+            let Some(line) = record.get(self.line) else {
                 break;
             };
             for _turn in self.made..line.turns {
-                if world.log().len() >= place {
+                if self.world.log().len() >= place {
                     return Ok(());
                 }
-                if let Turned::Nothing = world.turn(line.handler)? {
-                    break;
+                match self.world.turn(line.handler) {
+                    Ok(Turned::Moved) => {}
+                    Ok(Turned::Nothing) => break,
+                    Err(error) => return Err(error),
                 }
                 self.made = self.made.saturating_add(1);
             }

@@ -1,133 +1,205 @@
-//! What is said of one handler.
+//! What is described: a world of a run, with its program and its text.
 
-use crate::clause::push_false_clause;
-use crate::naming::{asked_by, push_name, push_request, push_stand, stand_of};
-use crate::origin::RunSource;
-use crate::waits::{MOST_NEEDED, Wait, count_of, keeper_of, needed_at};
-use sc_explain_text::Lines;
+use sc_code::{ClassNumber, ClauseText, FeatureCode, NameNumber, Program, RoutineText};
+use sc_handler::Log;
 use sc_lockpass::HandlerNumber;
 use sc_model::Status;
+use sc_region::{Reference, Stage, Store, Value};
+use sc_request::Core;
+use sc_source::source::Source;
+use sc_text::Span;
 use sc_world::World;
+use std::alloc::Global;
 
-/// How many handlers a list names at most.
-const MOST_LISTED: usize = 8;
-
-/// What is spoken of: a world that has stopped.
+/// A world of a run: at its end, or in front of one of its turns.
 #[derive(Clone, Copy)]
-pub struct Scene<'o, 'r> {
-    pub origin: &'o RunSource<'r>,
+pub struct Scene<'r> {
+    pub alloc: Global,
+    pub source: &'r Source,
+    pub program: &'r Program,
     pub world: &'r World<'r>,
+    pub core: &'r Core,
+    pub log: &'r Log,
+    /// How many handlers there are.
+    pub handlers: HandlerNumber,
 }
 
-impl<'o, 'r> Scene<'o, 'r> {
-    /// Adds a handler: what it holds, what it waits for, and its place.
-    pub fn push_handler(&self, lines: &mut Lines, handler: HandlerNumber, wait: Wait) {
-        self.push_name(lines, "handler ", handler);
-        self.push_held(lines, handler);
-        self.push_wait(lines, handler, wait);
-        push_stand(self.origin, lines, self.world, handler);
-        lines.push("\n");
-        if let Wait::Condition = wait {
-            push_false_clause(self.origin, lines, self.world, handler)
+/// The routine that a handler entered last, how far it is in it, and whether it is to reserve the handlers of its
+/// formals.
+#[derive(Clone, Copy)]
+pub struct Standing<'r> {
+    pub text: &'r RoutineText,
+    /// The place of the operation that it is at.
+    pub place: usize,
+    pub is_entry: bool,
+}
+
+impl<'r> Scene<'r> {
+    /// A part of the text, with its own letter case.
+    pub fn written(&self, span: Span) -> &'r str {
+        self.source
+            .text()
+            .get(span.start as usize..span.end as usize)
+            .unwrap_or("..")
+    }
+
+    /// The name of a number, as the program has it.
+    pub fn name(&self, number: NameNumber) -> &'r str {
+        match self.program.pool().names.get(number as usize) {
+            Some(name) => name.as_str(),
+            None => "..",
         }
     }
 
-    /// Adds what a handler waits for.
-    fn push_wait(&self, lines: &mut Lines, handler: HandlerNumber, wait: Wait) {
-        match wait {
-            Wait::Nothing => {}
-            Wait::Busy => {
-                lines.push(" is busy");
-                if let Some(request) = self.world.core().asked_at(handler, 0)
-                    && stand_of(self.origin, self.world, handler).is_none()
-                {
-                    lines.push(": it is to take ");
-                    push_request(self.origin, lines, self.world, asked_by(&request))
-                }
-            }
-            Wait::Reservation => self.push_wanted(lines, handler),
-            Wait::Condition => {
-                self.push_wanted(lines, handler);
-                lines.push(" until the precondition holds")
-            }
-            Wait::Answer(supplier) => {
-                self.push_name(lines, " waits for the answer of ", supplier)
-            }
+    /// The name of the class at a number.
+    pub fn class_name(&self, class: usize) -> &'r str {
+        match self.program.classes().get(class) {
+            Some(class) => self.written(class.text.name),
+            None => "..",
         }
     }
 
-    fn push_name(&self, lines: &mut Lines, before: &str, handler: HandlerNumber) {
-        push_name(self.origin, lines, before, self.world, handler)
+    /// The number of the class that contains a part of the text.
+    pub fn class_around(&self, part: Span) -> usize {
+        let mut around = 0_usize;
+        let mut number = 0_usize;
+        for class in self.program.classes() {
+            if class.text.span.start <= part.start {
+                around = number;
+            }
+            number = number.saturating_add(1);
+        }
+        around
     }
 
-    /// Adds the handlers that this one holds.
-    fn push_held(&self, lines: &mut Lines, holder: HandlerNumber) {
-        let mut before = " holds ";
-        let mut count = 0_usize;
-        for handler in 0..count_of(self.world) {
-            if self.world.core().holder(handler) == Some(holder) {
-                if count < MOST_LISTED {
-                    self.push_name(lines, before, handler);
-                    before = ", ";
-                }
-                count = count.saturating_add(1);
-            }
-        }
-        if count > MOST_LISTED {
-            lines.push(" and others,")
-        } else if count > 0 {
-            lines.push(",")
+    /// The place of a routine in the text, and the parts that its operations were made of.
+    pub fn text_of(&self, routine: usize) -> Option<&'r RoutineText> {
+        match self.program.routine(routine) {
+            Some(routine) => Some(&routine.text),
+            None => None,
         }
     }
 
-    /// Adds what a handler waits to reserve, and who keeps it from each.
-    fn push_wanted(&self, lines: &mut Lines, handler: HandlerNumber) {
-        for place in 0..MOST_NEEDED {
-            if let Some(one) = needed_at(self.world.core(), handler, place) {
-                let before = if place == 0 {
-                    " waits for "
-                } else {
-                    ", and for "
-                };
-                self.push_name(lines, before, one);
-                self.push_keeper(lines, one)
-            }
+    /// The part of the text that the operation at a place of a routine was made of, if there is such an operation.
+    pub fn span_at(&self, routine: usize, place: usize) -> Option<Span> {
+        match self.text_of(routine) {
+            Some(text) => span_in(text, place),
+            None => None,
         }
     }
 
-    /// Adds who keeps others from reserving a handler: the one that holds it, or itself.
-    fn push_keeper(&self, lines: &mut Lines, handler: HandlerNumber) {
-        match keeper_of(self.world.core(), handler) {
-            None => {}
-            Some(keeper) if keeper != handler => {
-                lines.fill_number(", held by ~", u64::from(keeper))
-            }
-            Some(_) => match self.world.status(handler) {
-                Some(Status::Busy) => lines.push(", which is busy"),
-                _ => lines.push(", which waits itself"),
+    /// What the name of this number is in a class.
+    pub fn feature_in(&self, class: usize, name: NameNumber) -> Option<FeatureCode> {
+        match self.program.classes().get(class) {
+            Some(class) => match class.features.get(name as usize) {
+                Some(feature) => *feature,
+                None => None,
             },
+            None => None,
         }
     }
 
-    /// Adds the requests in the queue of a handler that waits, if there are any. Returns whether there are.
-    pub fn push_requests(&self, lines: &mut Lines, handler: HandlerNumber) -> bool {
-        let count = self.world.core().queue_len(handler);
-        let Some(request) = self.world.core().asked_at(handler, 0) else {
-            return false;
-        };
-        let template = if count == 1 {
-            "~ request stands at handler "
-        } else {
-            "~ requests stand at handler "
-        };
-        lines.fill_number(template, count as u64);
-        self.push_name(lines, "", handler);
-        lines.push(", which can't take any: ");
-        if count != 1 {
-            lines.push("first ")
+    /// The place of the name of the feature that the name of this number is in a class.
+    pub fn feature_name(&self, class: usize, name: NameNumber) -> Option<Span> {
+        match self.feature_in(class, name) {
+            Some(FeatureCode::Attribute(number)) => self.attribute_name(class, number),
+            Some(FeatureCode::Routine(number)) => match self.text_of(number) {
+                Some(text) => Some(text.name),
+                None => None,
+            },
+            None => None,
         }
-        push_request(self.origin, lines, self.world, asked_by(&request));
-        lines.push("\n");
-        true
+    }
+
+    /// The place of the name of the attribute at a number of a class.
+    fn attribute_name(&self, class: usize, number: usize) -> Option<Span> {
+        if let Some(class) = self.program.classes().get(class)
+            && let Some(attribute) = class.attributes.get(number)
+        {
+            Some(attribute.name)
+        } else {
+            None
+        }
+    }
+
+    /// The clause at this number, from 0, of those that a class declares itself.
+    pub fn own_clause(&self, class: usize, number: usize) -> Option<ClauseText> {
+        match self.program.classes().get(class) {
+            Some(class) => class.text.invariant.get(number).copied(),
+            None => None,
+        }
+    }
+
+    /// The attribute of this number that an object has.
+    pub fn stored(&self, object: Reference, number: usize) -> Option<Value> {
+        match self.store(object.handler) {
+            Some(store) => store.read(object.number, number),
+            None => None,
+        }
+    }
+
+    /// The objects and routines of a handler.
+    pub fn store(&self, handler: HandlerNumber) -> Option<&'r Store<'r>> {
+        match self.world.region(handler) {
+            Some(region) => Some(region.store()),
+            None => None,
+        }
+    }
+
+    /// Whether a handler has something to do.
+    pub fn is_any_busy(&self) -> bool {
+        for handler in 0..self.handlers {
+            if let Some(Status::Busy) = self.world.status(handler) {
+                return true;
+            }
+        }
+        false
+    }
+
+    /// The number of the class of a handler's root object, if it has one.
+    pub fn root_class(&self, handler: HandlerNumber) -> Option<ClassNumber> {
+        match self.store(handler) {
+            Some(store) => store.class_of(1),
+            None => None,
+        }
+    }
+
+    /// The place of a handler, if it has frames.
+    pub fn standing_of(&self, handler: HandlerNumber) -> Option<Standing<'r>> {
+        if let Some(store) = self.store(handler)
+            && let Some(top) = store.top()
+            && let Some(text) = self.text_of(top.routine)
+        {
+            let is_behind = matches!(top.stage, Stage::ReservesBlock | Stage::Awaits { .. });
+            Some(Standing {
+                text,
+                place: top.place.saturating_sub(is_behind as usize),
+                is_entry: matches!(top.stage, Stage::Reserves),
+            })
+        } else {
+            None
+        }
+    }
+
+    /// The part of the text that a handler is at, if it has frames.
+    pub fn stand_of(&self, handler: HandlerNumber) -> Option<Span> {
+        span_of(self.standing_of(handler))
+    }
+}
+
+/// The part of the text that the operation at a place of this routine was made of.
+pub fn span_in(text: &RoutineText, place: usize) -> Option<Span> {
+    match text.sites.get(place) {
+        Some(site) => Some(site.span),
+        None => None,
+    }
+}
+
+/// The part of the text that a handler with this place is at.
+pub fn span_of(standing: Option<Standing<'_>>) -> Option<Span> {
+    match standing {
+        None => None,
+        Some(standing) if standing.is_entry => Some(standing.text.name),
+        Some(standing) => span_in(standing.text, standing.place),
     }
 }

@@ -1,136 +1,165 @@
-//! The result of one operation of a routine.
+//! The operations of a routine, one by one.
 
-use crate::evaluation::Evaluation;
+use crate::evaluation::{Evaluation, Write};
 use crate::operators::{binary_value, decided_by, unary_value};
-use sc_code::Operation;
+use sc_code::{NameNumber, ObjectTest, Operation};
 use sc_region::Value;
-use sc_tree::BinaryOperator;
 
 impl<'r> Evaluation<'r> {
-    /// The routine does an operation that looks at itself alone, whose operands it takes: whether it can be gone on.
-    pub fn step(&mut self, operation: Operation) -> bool {
+    /// Executes the next operation of the routine that runs. Returns whether the evaluation can go on.
+    pub fn advance(&mut self) -> bool {
+        let Some(operation) = self.operation_at(self.frame.place) else {
+            return false;
+        };
+        self.pass(1);
         let value = match operation {
-            Operation::PushResult { is_attached: _ } => self.frame.result,
-            Operation::PushOld(number) => self.values.old(&self.frame, number),
-            Operation::PushSlot {
-                is_attached: _,
-                slot,
-            } => self.values.slot(&self.frame, slot),
-            operation => return self.apply(operation),
+            Operation::PushInteger(value) => Value::Integer(value),
+            Operation::PushBoolean(value) => Value::Boolean(value),
+            Operation::PushVoid => Value::Void,
+            Operation::PushCurrent => Value::Attached(self.frame.current),
+            operation => return self.read_entity(operation),
+        };
+        self.push(value)
+    }
+
+    /// Executes an operation that isn't a constant. Returns whether the evaluation can go on.
+    fn read_entity(&mut self, operation: Operation) -> bool {
+        let value = match operation {
+            Operation::PushResult { .. } => self.frame.result,
+            Operation::PushSlot { slot, .. } => value_at(&self.values, self.frame.slots, slot),
+            Operation::PushOld(number) => value_at(&self.olds, self.frame.olds, number),
+            operation => return self.execute(operation),
         };
         self.read(value)
     }
 
-    /// The routine gets a value that wasn't read, or does what `flow` does: whether it can be gone on.
-    fn apply(&mut self, operation: Operation) -> bool {
-        let value = match operation {
-            Operation::PushInteger(value) => Some(Value::Integer(value)),
-            Operation::PushBoolean(value) => Some(Value::Boolean(value)),
-            Operation::PushVoid => Some(Value::Void),
-            Operation::PushCurrent => Some(Value::Attached(self.frame.current)),
-            Operation::ApplyUnary(operator) => match self.pop() {
-                Some(operand) => unary_value(operator, operand),
-                None => None,
+    /// Executes an operation that reads no entity of the routine. Returns whether the evaluation can go on.
+    fn execute(&mut self, operation: Operation) -> bool {
+        match operation {
+            Operation::PushAttribute { name, .. } => {
+                let count = self.values.len();
+                self.call(self.frame.current, name, count, count)
+            }
+            Operation::CallRoutine(number) => self.call_at(number, false),
+            Operation::CallFeature(number) => self.call_at(number, true),
+            Operation::Initialize { value, slot } => self.put(slot, Value::of_default(value)),
+            Operation::Conclude => true,
+            Operation::Jump(passed) => self.pass(passed),
+            Operation::Start => !self.callers.is_empty(),
+            Operation::Exit => self.exit(),
+            operation => match self.values.pop() {
+                Some(value) => self.take(operation, value),
+                None => false,
             },
-            Operation::ApplyBinary(operator) => self.binary(operator),
-            operation => return self.flow(operation),
-        };
-        match value {
-            Some(value) => self.give(value),
-            None => false,
         }
     }
 
-    /// The routine stores a value, or does an operation that chooses the next one: whether it can be gone on.
-    fn flow(&mut self, operation: Operation) -> bool {
-        let is_done = match operation {
-            Operation::Conclude => true,
-            Operation::StoreSlot(slot) => match self.pop() {
-                Some(value) => self.values.put(&self.frame, slot, value),
+    /// Executes an operation with the operand that it takes. Returns whether the evaluation can go on.
+    fn take(&mut self, operation: Operation, value: Value) -> bool {
+        match (operation, value) {
+            (Operation::ApplyUnary(operator), _) => self.give(unary_value(operator, value)),
+            (Operation::ApplyBinary(operator), _) => match self.values.pop() {
+                Some(left) => self.give(binary_value(operator, left, value)),
                 None => false,
             },
-            Operation::Initialize { value, slot } => {
-                self.values.put(&self.frame, slot, Value::of_default(value))
-            }
-            Operation::StoreResult => {
-                let value = self.pop();
-                self.frame.result = value;
+            (Operation::Decide { operator, passed }, _) => match decided_by(operator, value) {
+                Some(value) => self.push(value) && self.pass(passed),
+                None => true,
+            },
+            (Operation::Test(number), _) => self.test(number, value),
+            (Operation::StoreSlot(slot), _) => self.put(slot, value),
+            (Operation::StoreAttribute(name), _) => self.write(name, value),
+            (Operation::StoreResult, _) => {
+                self.frame.result = Some(value);
                 true
             }
-            Operation::KeepOld => {
-                if let Some(value) = self.pop() {
-                    self.values.keep(value)
-                }
-                true
-            }
-            Operation::Jump(passed) => return self.pass(passed),
-            Operation::Decide { operator, passed } => return self.decide(operator, passed),
-            operation => return self.branch(operation),
-        };
-        is_done && self.pass(0)
-    }
-
-    /// The routine does an operation that takes a truth value: whether it can be gone on.
-    fn branch(&mut self, operation: Operation) -> bool {
-        let holds = match self.pop() {
-            Some(Value::Boolean(value)) => value,
-            _ => return false,
-        };
-        match operation {
-            Operation::SkipIfFalse(passed) => self.pass(if holds { 0 } else { passed }),
-            Operation::EndLoop(back) if !holds => {
-                self.frame.place = self.frame.place.saturating_sub(back);
-                true
-            }
-            Operation::EndLoop(_) => self.pass(0),
-            Operation::Demand(_) | Operation::Expect(_) => holds && self.pass(0),
+            (Operation::KeepOld, _) => self.keep(value),
+            (_, Value::Boolean(holds)) => self.branch(operation, holds),
             _ => false,
         }
     }
 
-    /// Takes the last operand.
-    fn pop(&mut self) -> Option<Value> {
-        self.values.pop(&self.frame)
-    }
-
-    /// The routine gets a value as an operand.
-    fn give(&mut self, value: Value) -> bool {
-        self.values.push(value);
-        self.pass(0)
-    }
-
-    fn binary(&mut self, operator: BinaryOperator) -> Option<Value> {
-        if let Some(right) = self.pop()
-            && let Some(left) = self.pop()
-        {
-            binary_value(operator, left, right)
-        } else {
-            None
+    /// Executes an operation that takes a truth value. Returns whether the evaluation can go on.
+    fn branch(&mut self, operation: Operation, holds: bool) -> bool {
+        match operation {
+            Operation::SkipIfFalse(passed) => holds || self.pass(passed),
+            Operation::EndLoop(_) if holds => true,
+            Operation::EndLoop(back) => {
+                self.frame.place = self.frame.place.saturating_sub(1).saturating_sub(back);
+                true
+            }
+            Operation::Demand(_) | Operation::Expect(_) => holds,
+            _ => false,
         }
     }
 
-    /// Where the left operand decides, the right one is passed.
-    fn decide(&mut self, operator: BinaryOperator, passed: usize) -> bool {
-        let Some(left) = self.pop() else {
+    /// Skips this number of operations. Returns True.
+    fn pass(&mut self, passed: usize) -> bool {
+        self.frame.place = self.frame.place.saturating_add(passed);
+        true
+    }
+
+    /// A slot of the routine gets a value: whether there is such a slot.
+    fn put(&mut self, slot: usize, value: Value) -> bool {
+        let place = self.frame.slots.saturating_add(slot);
+        match self.values.get_mut(place) {
+            Some(place) => {
+                *place = value;
+                true
+            }
+            None => false,
+        }
+    }
+
+    /// An attribute of Current gets a value. Returns True.
+    fn write(&mut self, name: NameNumber, value: Value) -> bool {
+        let object = self.frame.current;
+        if let Err(_) = self.writes.push(Write {
+            object,
+            name,
+            value,
+        }) {
+            self.is_lacking = true
+        }
+        true
+    }
+
+    /// Tests whether a value is Void. If it isn't, it is written to the slot of the test of this number. Returns whether
+    /// the evaluation can go on.
+    fn test(&mut self, number: usize, value: Value) -> bool {
+        match (self.scene.program.pool().tests.get(number), value) {
+            (Some(ObjectTest { tested: None, .. }), Value::Void) => {
+                self.push(Value::Boolean(false))
+            }
+            (Some(ObjectTest { tested: None, slot }), _) => {
+                self.put(*slot, value) && self.push(Value::Boolean(true))
+            }
+            _ => false,
+        }
+    }
+
+    /// Makes the call of this number, on a target or on Current. Returns whether the evaluation can go on.
+    fn call_at(&mut self, number: usize, has_target: bool) -> bool {
+        let Some(site) = self.scene.program.pool().calls.get(number) else {
             return false;
         };
-        match decided_by(operator, left) {
-            Some(value) => {
-                self.values.push(Value::Boolean(value));
-                self.pass(passed)
-            }
-            None => self.pass(0),
+        let Some(slots) = self.values.len().checked_sub(site.count) else {
+            return false;
+        };
+        if !has_target {
+            return self.call(self.frame.current, site.name, slots, slots);
+        }
+        if slots > 0
+            && let Some(Value::Attached(object)) = value_at(&self.values, slots - 1, 0)
+        {
+            self.call(object, site.name, slots - 1, slots)
+        } else {
+            false
         }
     }
+}
 
-    /// Tests whether the last operand is Void. If it isn't, it is written to the slot.
-    pub fn test(&mut self, slot: usize) -> bool {
-        match self.pop() {
-            None => false,
-            Some(Value::Void) => self.give(Value::Boolean(false)),
-            Some(value) => {
-                self.values.put(&self.frame, slot, value) && self.give(Value::Boolean(true))
-            }
-        }
-    }
+/// The value at a number, from 0, of those from a place on.
+fn value_at(values: &[Value], first: usize, number: usize) -> Option<Value> {
+    values.get(first.saturating_add(number)).copied()
 }

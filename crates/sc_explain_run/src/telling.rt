@@ -1,12 +1,10 @@
 //! Which handlers are reported, and in which order.
 
-use crate::chains::{Chains, Cycle};
-use crate::origin::RunSource;
+use crate::chains::{Chains, Path};
 use crate::scene::Scene;
-use crate::waits::{Wait, count_of};
+use crate::waits::Wait;
 use sc_explain_text::Lines;
 use sc_lockpass::HandlerNumber;
-use sc_world::World;
 
 /// The most handlers that are reported, beside those of cycles.
 const MOST_TOLD: usize = 64;
@@ -15,17 +13,15 @@ const MOST_TOLD: usize = 64;
 /// First come the cycles of handlers that wait for each other, then those that wait for a condition, then the others
 /// that wait, each with the chain that it waits in, then those that are busy, and last the requests that no handler
 /// takes.
-pub fn push_waits(origin: &RunSource<'_>, lines: &mut Lines, world: &World<'_>) {
-    let chains = Chains::of(origin.alloc, lines, world);
-    let heading = if chains.is_any_busy {
-        "a wait condition that isn't true so far:\n"
-    } else {
-        "a wait condition that nobody is left to make true:\n"
-    };
+pub fn push_waits(scene: &Scene<'_>, lines: &mut Lines) {
     let mut note = Note {
-        scene: Scene { origin, world },
-        chains,
-        heading,
+        scene,
+        chains: Chains::of(scene, lines),
+        heading: if scene.is_any_busy() {
+            "a wait condition that isn't true so far:\n"
+        } else {
+            "a wait condition that nobody is left to make true:\n"
+        },
         room: MOST_TOLD,
         left_out: 0,
         room_of_requests: MOST_TOLD,
@@ -35,8 +31,7 @@ pub fn push_waits(origin: &RunSource<'_>, lines: &mut Lines, world: &World<'_>) 
     note.tell_each(lines, Part::Chains);
     note.tell_each(lines, Part::Others);
     if note.left_out > 0 {
-        let template = "and ~ more, which wait or are busy\n";
-        lines.fill_number(template, note.left_out as u64)
+        lines.fill_number("and ~ more, which wait or are busy\n", note.left_out)
     }
     note.tell_each(lines, Part::Requests)
 }
@@ -59,22 +54,22 @@ enum Part {
 
 /// What the report is about.
 #[derive(Drop)]
-struct Note<'o, 'r> {
-    scene: Scene<'o, 'r>,
+struct Note<'r> {
+    scene: &'r Scene<'r>,
     chains: Chains,
     /// The words before the next handler that waits for a condition.
     heading: &'static str,
     /// Of how many handlers more is said.
     room: usize,
     /// Of how many nothing is said for lack of room.
-    left_out: usize,
+    left_out: u64,
     /// How many further handlers have their requests reported.
     room_of_requests: usize,
 }
 
-impl<'o, 'r> Note<'o, 'r> {
+impl<'r> Note<'r> {
     fn tell_each(&mut self, lines: &mut Lines, part: Part) {
-        for handler in 0..count_of(self.scene.world) {
+        for handler in 0..self.scene.handlers {
             self.tell_part(lines, part, handler)
         }
     }
@@ -82,23 +77,28 @@ impl<'o, 'r> Note<'o, 'r> {
     /// What a part says of a handler, or from it on.
     fn tell_part(&mut self, lines: &mut Lines, part: Part, handler: HandlerNumber) {
         let member = self.chains.at(handler);
+        let is_waiting = member.wait.is_waiting();
         match (part, member.wait) {
-            (Part::Cycles, _) if !member.is_told => self.tell_cycle(lines, handler),
+            (Part::Requests, _) => {
+                if is_waiting
+                    && self.room_of_requests > 0
+                    && self.scene.push_requests(lines, handler)
+                {
+                    self.room_of_requests -= 1
+                }
+            }
+            (Part::Others, Wait::Nothing) => {}
+            (Part::Others, _) => self.tell(lines, handler),
             (Part::Conditions, Wait::Condition) => {
                 lines.push(self.heading);
                 self.heading = "";
                 self.tell(lines, handler)
             }
-            (Part::Chains, wait) if wait.is_waiting() && !member.is_told => {
+            (Part::Cycles, _) if is_waiting && !member.is_told => self.tell_cycle(lines, handler),
+            (Part::Chains, _) if is_waiting && !member.is_told => {
                 if !self.chains.is_waited_for(handler) {
                     self.tell_chain(lines, handler)
                 }
-            }
-            (Part::Others, Wait::Nothing) => {}
-            (Part::Others, _) => self.tell(lines, handler),
-            (Part::Requests, wait) if wait.is_waiting() && self.room_of_requests > 0 => {
-                let is_told = self.scene.push_requests(lines, handler);
-                self.room_of_requests = self.room_of_requests.saturating_sub(is_told as usize)
             }
             _ => {}
         }
@@ -106,21 +106,21 @@ impl<'o, 'r> Note<'o, 'r> {
 
     /// The cycle in which a handler waits for itself, if there is one, and each handler of it.
     fn tell_cycle(&mut self, lines: &mut Lines, first: HandlerNumber) {
-        let cycle = self.chains.cycle_of(first);
-        if cycle.length > 0 {
-            self.push_path(lines, "deadlock: ~", first, cycle.length);
-            lines.fill_number(end_of(cycle), u64::from(first));
+        let path = self.chains.path_from(first);
+        if path.is_cycle {
+            self.push_path(lines, "deadlock: ~", first, path.length);
+            lines.fill_number(end_of(path), first as u64);
             // None of a cycle takes the room of others.
             let room = self.room;
             self.room = usize::MAX;
-            self.tell_path(lines, first, cycle.length);
+            self.tell_path(lines, first, path.length);
             self.room = room
         }
     }
 
     /// Reports the handlers from this one on that each wait for the next.
     fn tell_chain(&mut self, lines: &mut Lines, first: HandlerNumber) {
-        let length = self.chains.chain_length(first);
+        let length = self.chains.path_from(first).length;
         if self.room > 0 && length > 1 {
             self.push_path(lines, "chain: ~", first, length);
             lines.push(", each waits for the next one\n")
@@ -139,7 +139,7 @@ impl<'o, 'r> Note<'o, 'r> {
         let mut template = template;
         let mut handler = first;
         for _member in 0..length {
-            lines.fill_number(template, u64::from(handler));
+            lines.fill_number(template, handler as u64);
             template = " -> ~";
             handler = self.chains.at(handler).next.unwrap_or(first);
         }
@@ -171,12 +171,10 @@ impl<'o, 'r> Note<'o, 'r> {
 }
 
 /// How the handlers of a cycle wait for each other, after the first of them in place of `~`.
-fn end_of(cycle: Cycle) -> &'static str {
-    if cycle.answers == 0 {
-        " -> ~, each waits to reserve what the next one has\n"
-    } else if cycle.answers == cycle.length {
-        " -> ~, each waits for the answer of the next one\n"
-    } else {
-        " -> ~, each waits for the next one: for its answer, or to reserve it\n"
+fn end_of(cycle: Path) -> &'static str {
+    match cycle.answers {
+        0 => " -> ~, each waits to reserve what the next one has\n",
+        answers if answers == cycle.length => " -> ~, each waits for the answer of the next one\n",
+        _ => " -> ~, each waits for the next one: for its answer, or to reserve it\n",
     }
 }

@@ -1,14 +1,14 @@
 //! A run that is described as it goes on.
 
 use crate::made_turn::{Earlier, MadeTurn};
-use crate::origin::RunSource;
+use crate::replay::Replay;
 use crate::waiting::Waiting;
 use sc_audit::RecordLine;
 use sc_code::Program;
 use sc_explain_text::Lines;
-use sc_lockpass::Version;
+use sc_lockpass::{HandlerNumber, Version};
 use sc_source::source::Source;
-use sc_world::{Turned, World};
+use sc_world::Turned;
 use std::alloc::{AllocError, Global};
 
 /// Which turns are reported.
@@ -24,8 +24,7 @@ pub enum Told {
 /// a world of its own, so the run is what it would be without it.
 #[derive(Drop)]
 pub struct Tracer<'r> {
-    origin: RunSource<'r>,
-    world: World<'r>,
+    replay: Replay<'r>,
     told: Told,
     waiting: Waiting,
     /// How many turns were made.
@@ -44,19 +43,19 @@ impl<'r> Tracer<'r> {
         version: Version,
         told: Told,
     ) -> Result<Tracer<'r>, AllocError> {
-        let waiting = Waiting::none(alloc)?;
-        let world = World::open(alloc, program, version)?;
-        Ok(Tracer {
-            origin: RunSource {
-                alloc,
-                source,
-                program,
-            },
-            world,
-            told,
-            waiting,
-            turns: 0,
-        })
+        let waiting = match Waiting::none(alloc) {
+            Ok(waiting) => waiting,
+            Err(error) => return Err(error),
+        };
+        match Replay::open(alloc, source, program, version) {
+            Ok(replay) => Ok(Tracer {
+                replay,
+                told,
+                waiting,
+                turns: 0,
+            }),
+            Err(error) => Err(error),
+        }
     }
 
     /// Makes the turns of a line of the record, and returns their description. A turn of a handler that has no job is
@@ -65,30 +64,42 @@ impl<'r> Tracer<'r> {
     /// # Errors
     /// Memory ran out.
     pub fn play(&mut self, line: RecordLine) -> Result<Vec<u8>, AllocError> {
-        let mut lines = Lines::new(self.origin.alloc);
+        let mut lines = Lines::new(self.replay.alloc);
         for _turn in 0..line.turns {
-            let earlier = Earlier::of(&self.origin, &self.world, line.handler);
-            match self.world.turn(line.handler) {
-                Ok(Turned::Moved) => {}
-                Ok(Turned::Nothing) => break,
-                Err(_) => {
-                    lines.lack();
-                    break;
-                }
-            }
-            self.turns = self.turns.saturating_add(1);
-            let made = MadeTurn {
-                origin: &self.origin,
-                world: &self.world,
-                handler: line.handler,
-                number: self.turns,
-                earlier,
-            };
-            made.tell_printed(&mut lines);
-            if let Told::All = self.told {
-                made.tell_settled(&mut lines, &mut self.waiting);
+            if !self.turn(&mut lines, line.handler) {
+                break;
             }
         }
         lines.finish()
+    }
+
+    /// Makes a turn of a handler, if it has a job, and adds its description. Returns whether it did.
+    fn turn(&mut self, lines: &mut Lines, handler: HandlerNumber) -> bool {
+        let earlier = Earlier::of(&self.replay.scene(), handler);
+        match self.replay.world.turn(handler) {
+            Ok(Turned::Moved) => {}
+            Ok(Turned::Nothing) => return false,
+            Err(_) => {
+                lines.lack();
+                return false;
+            }
+        }
+        self.turns = self.turns.saturating_add(1);
+        self.tell(lines, handler, earlier);
+        true
+    }
+
+    /// Adds the description of a turn of a handler that was just made.
+    fn tell(&mut self, lines: &mut Lines, handler: HandlerNumber, earlier: Earlier) {
+        let made = MadeTurn {
+            scene: self.replay.scene(),
+            handler,
+            number: self.turns,
+            earlier,
+        };
+        made.tell_printed(lines);
+        if let Told::All = self.told {
+            made.tell_settled(lines, &mut self.waiting)
+        }
     }
 }

@@ -15,14 +15,18 @@ pub struct Waiting {
 impl Waiting {
     /// None of them.
     pub fn none(alloc: Global) -> Result<Waiting, AllocError> {
-        Ok(Waiting {
-            told: vec![in alloc; false; MOST_HANDLERS]?,
-        })
+        match vec![in alloc; false; MOST_HANDLERS] {
+            Ok(told) => Ok(Waiting { told }),
+            Err(error) => Err(error),
+        }
     }
 
     /// Whether a handler was reported.
     pub fn is_told(&self, handler: HandlerNumber) -> bool {
-        self.told.get(handler as usize).copied().unwrap_or(true)
+        match self.told.get(handler as usize) {
+            Some(is_told) => *is_told,
+            None => true,
+        }
     }
 
     /// Notes that a handler was reported, or that it has reserved what it waited for.

@@ -1,0 +1,108 @@
+//! What there was in front of a failure: values, the handlers that waited, and the requests that were lost.
+
+use crate::breakdown::Failure;
+use crate::history::{Begun, served_before};
+use crate::naming::asked_by;
+use crate::scene::Scene;
+use sc_explain_text::Lines;
+use sc_model::Cause;
+use sc_region::BrokenInvariant;
+
+/// The most waiting handlers that are reported.
+const MOST_CLIENTS: usize = 16;
+
+/// The most requests dropped by a failure that are reported.
+const MOST_DROPPED: usize = 8;
+
+impl<'r> Failure<'r> {
+    /// Adds the values of what failed, and the routines that had called the one that failed, the innermost first.
+    pub fn push_values(&self, lines: &mut Lines, before: &Scene<'_>) {
+        let breakdown = self.breakdown;
+        match (self.turn.begun, breakdown.invariant, breakdown.point) {
+            (Begun::Takes(_), _, _) => return,
+            (Begun::GoesOn(_), Some(broken), _) => self.push_broken(lines, before, broken),
+            (Begun::GoesOn(answer), None, Some(point)) if self.is_of_values() => {
+                before.push_operation_values(lines, self.handler, answer, point.place)
+            }
+            _ => {}
+        }
+        before.push_callers(lines, self.handler)
+    }
+
+    /// Whether it failed at an operation, by the values that this takes.
+    fn is_of_values(&self) -> bool {
+        match self.cause {
+            Cause::Postcondition
+            | Cause::Check
+            | Cause::Precondition
+            | Cause::Overflow
+            | Cause::DivideByZero => !self.turn.is_behind,
+            _ => false,
+        }
+    }
+
+    /// Adds the attributes that a clause of an invariant names, which the object that the handler was at has broken.
+    fn push_broken(&self, lines: &mut Lines, before: &Scene<'_>, broken: BrokenInvariant) {
+        if let Some(clause) = self.ended.own_clause(broken.declarer, broken.clause)
+            && let Some(store) = before.store(self.handler)
+            && let Some(object) = store.current()
+            && object.class == broken.class
+        {
+            self.ended.push_attributes(lines, object, clause.span)
+        }
+    }
+
+    /// Adds which handler waited for the failed one, which for that one, and so on: with what each requested, and
+    /// where. One that waited with a routine and serves a callback now gets no place.
+    pub fn push_clients(&self, lines: &mut Lines, before: &Scene<'_>) {
+        let mut handler = self.handler;
+        let mut end = self.turn.place.saturating_add(1);
+        for _client in 0..MOST_CLIENTS {
+            let Some(served) = served_before(self.ended.log, handler, end) else {
+                return;
+            };
+            let (true, Some(client)) = (served.is_waited, served.asked.poster) else {
+                return;
+            };
+            before.push_name(lines, "handler ~", client);
+            match before.core.awaits(client) {
+                Some(supplier) if supplier == handler => {
+                    lines.push(" waited for it");
+                    before.push_stand(lines, client);
+                    lines.push("\n");
+                    before.push_callers(lines, client)
+                }
+                _ => lines.push(" waited for it\n"),
+            }
+            handler = client;
+            end = served.place;
+        }
+    }
+
+    /// Adds which requests came after the one that failed.
+    pub fn push_dropped(&self, lines: &mut Lines, before: &Scene<'_>) {
+        let core = before.core;
+        // the one that failed was the first of them as long as it wasn't taken
+        let first = matches!(self.turn.begun, Begun::Takes(_)) as usize;
+        let count = core.queue_len(self.handler).saturating_sub(first);
+        let template = match count {
+            0 => return,
+            1 => "~ request that stood behind it was dropped",
+            _ => "~ requests that stood behind it were dropped",
+        };
+        lines.fill_number(template, count as u64);
+        let mut separator = ": ";
+        for place in 0..count.min(MOST_DROPPED) {
+            if let Some(request) = core.asked_at(self.handler, place.saturating_add(first)) {
+                lines.push(separator);
+                before.push_request(lines, asked_by(&request));
+                separator = ", ";
+            }
+        }
+        lines.push(if count > MOST_DROPPED {
+            " and so on\n"
+        } else {
+            "\n"
+        })
+    }
+}
