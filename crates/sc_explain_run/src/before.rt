@@ -2,7 +2,6 @@
 
 use crate::breakdown::Failure;
 use crate::history::{Begun, served_before};
-use crate::naming::asked_by;
 use crate::scene::Scene;
 use sc_explain_text::Lines;
 use sc_model::Cause;
@@ -81,22 +80,19 @@ impl<'r> Failure<'r> {
 
     /// Adds which requests came after the one that failed.
     pub fn push_dropped(&self, lines: &mut Lines, before: &Scene<'_>) {
-        let core = before.core;
         // the one that failed was the first of them as long as it wasn't taken
         let first = matches!(self.turn.begun, Begun::Takes(_)) as usize;
-        let count = core.queue_len(self.handler).saturating_sub(first);
+        let count = before.core.queue_len(self.handler).saturating_sub(first);
         let template = match count {
             0 => return,
             1 => "~ request that stood behind it was dropped",
             _ => "~ requests that stood behind it were dropped",
         };
         lines.fill_number(template, count as u64);
-        let mut separator = ": ";
         for place in 0..count.min(MOST_DROPPED) {
-            if let Some(request) = core.asked_at(self.handler, place.saturating_add(first)) {
-                lines.push(separator);
-                before.push_request(lines, asked_by(&request));
-                separator = ", ";
+            if let Some(asked) = before.queued_at(self.handler, place.saturating_add(first)) {
+                lines.push(if place == 0 { ": " } else { ", " });
+                before.push_request(lines, asked)
             }
         }
         lines.push(if count > MOST_DROPPED {

@@ -1,6 +1,5 @@
 //! What is said of one handler of a world that has stopped.
 
-use crate::naming::asked_by;
 use crate::scene::Scene;
 use crate::waits::{Wait, keeper_of};
 use sc_explain_text::Lines;
@@ -37,11 +36,11 @@ impl<'r> Scene<'r> {
     /// Adds that a handler is busy, and what it is to take, if it has no routine.
     fn push_busy(&self, lines: &mut Lines, handler: HandlerNumber) {
         lines.push(" is busy");
-        if let Some(request) = self.core.asked_at(handler, 0)
+        if let Some(asked) = self.queued_at(handler, 0)
             && self.standing_of(handler).is_none()
         {
             lines.push(": it is to take ");
-            self.push_request(lines, asked_by(&request))
+            self.push_request(lines, asked)
         }
     }
 
@@ -92,7 +91,7 @@ impl<'r> Scene<'r> {
 
     /// Adds the requests in the queue of a handler that waits, if there are any. Returns whether there are.
     pub fn push_requests(&self, lines: &mut Lines, handler: HandlerNumber) -> bool {
-        let Some(request) = self.core.asked_at(handler, 0) else {
+        let Some(asked) = self.queued_at(handler, 0) else {
             return false;
         };
         let count = self.core.queue_len(handler);
@@ -108,7 +107,7 @@ impl<'r> Scene<'r> {
         } else {
             ", which can't take any: first "
         });
-        self.push_request(lines, asked_by(&request));
+        self.push_request(lines, asked);
         lines.push("\n");
         true
     }

@@ -45,6 +45,14 @@ impl<'r> Scene<'r> {
         }
     }
 
+    /// What the request at a place of the queue of a handler asks for, from 0, which is taken next.
+    pub fn queued_at(&self, handler: HandlerNumber, place: usize) -> Option<Asked> {
+        match self.core.asked_at(handler, place) {
+            Some(request) => Some(asked_by(&request)),
+            None => None,
+        }
+    }
+
     /// Adds the feature that is asked for, as the text has it.
     pub fn push_feature(&self, lines: &mut Lines, asked: Asked) {
         match self.asked_feature(asked) {
