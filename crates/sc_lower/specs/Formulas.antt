@@ -24,7 +24,7 @@ comparison_over attributes operator left right =
     comparison_formula (comparison_of operator) (term_of (map binding_of attributes) (expr_of left))
     (term_of (map binding_of attributes) (expr_of right))
 
--- the two formulas behind one another, if both are there
+-- the two formulas one after the other, if both are there
 abbrev pub connected : Connective → Option Formula → Option Formula → Option PlainFormula
 connected connective left right =
     connective_formula (Some connective) (option_map plain_formula left) (option_map plain_formula right)

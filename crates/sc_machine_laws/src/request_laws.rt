@@ -39,7 +39,7 @@ pub fn running_is_clear()
     ensures { RunningIsClear }
 {}
 
-/// Whoever waits for a request with which it lent nothing waits for it with its topmost frame, and neither a callback
+/// A handler that waits for a request with which it lent nothing waits with its topmost frame, and neither a callback
 /// nor a reply has come.
 pub fn no_callback()
     ensures { NoCallback }

@@ -20,7 +20,7 @@ new_region p h = record { handler = h; store = new_store p; is_told = false }
 abbrev pub outcome : ℕ → ℕ → Want → Outcome
 outcome h turns w = record { handler = h; turns = turns; want = w }
 
--- Where no memory was refused, the store is the one that the last turn left. It may be refused to a turn behind so
+-- Where no memory was refused, the store is the one that the last turn left. It may be refused to a turn after so
 -- many, where there may be more.
 abbrev pub EndsIn : ℕ → ℕ → PlainStore → Want → PlainStore → Type 0
 EndsIn n limit x w y = (y ≡ x) ⊎ ((n < limit) × (w ≡ want.Continue) × IsAhead x y)

@@ -34,7 +34,7 @@ top_frame f (t ∷ below) = record t { activation = f t.activation } ∷ below
 abbrev pub on_top : (PlainActivation → PlainActivation) → PlainStore → PlainStore
 on_top f x = record x { frames = top_frame f x.frames }
 
--- the place behind this one; behind the last that a number can say it is that one
+-- the place after this one; after the last that a number can say it is that one
 abbrev pub next_place : ℕ → ℕ
 next_place place = min (place + 1) 18446744073709551615
 

@@ -28,19 +28,19 @@ words_in (Some s) = s.words
 abbrev pub crowd_at : List HandlerSet → ℕ → List ℕ
 crowd_at crowds b = words_in (slice_get crowds b)
 
--- Whoever is in the set of a handler is there, and waits for that.
+-- Each handler in the set of a handler is there, and waits for that one.
 abbrev pub AreCrowds : List HandlerSet → ℕ → (ℕ → Handler) → Type 0
 AreCrowds crowds count xs =
     (b k : ℕ) → is_member (crowd_at crowds b) k ≡ true → (nat_lt k count ≡ true) × WaitsFor b k xs
 
--- Whoever is in a set of the second list was in that of the first, but for this one in the set of this number, who is
--- in it where it is so.
+-- Each handler in a set of the second list was in that of the first, but for this one in the set of this number: it is
+-- in it if it is so.
 abbrev pub Notes : ℕ → ℕ → Bool → List HandlerSet → List HandlerSet → Type 0
 Notes n h is_so before after =
     (b k : ℕ) → is_member (crowd_at after b) k ≡ true →
     (if b == n && k == h then is_so else is_member (crowd_at before b) k) ≡ true
 
--- Whoever is in a set of the second list was in that of the first, and isn't this one in the set of one of these.
+-- Each handler in a set of the second list was in that of the first, and isn't this one in the set of one of these.
 abbrev pub LeavesEach : ℕ → List ℕ → List HandlerSet → List HandlerSet → Type 0
 LeavesEach h ks before after =
     (b k : ℕ) → is_member (crowd_at after b) k ≡ true →

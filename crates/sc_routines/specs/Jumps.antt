@@ -1,4 +1,4 @@
--- The code of a conditional while the jumps behind its parts aren't set.
+-- The code of a conditional while the jumps after its parts aren't set.
 use Rattle.std.specs.Prelude.{ℕ, suc, ◌+◌, ◌-◌, List, [], ◌∷◌, ◌++◌, length, slice_set}
 use Rattle.sc_tree.specs.Plain.{Expr, Instrs, Branches, no_branches, branch_then}
 use Rattle.sc_rules.specs.Names.{Entities}
@@ -36,7 +36,7 @@ abbrev pub landed : List ℕ → List Operation → List Operation
 landed [] code = code
 landed (p ∷ ps) code = landed ps (slice_set code p (Jump (length code - p - 1)))
 
--- The condition and the end of a loop behind its body, which stands behind the jump at this place. The jump goes to the
+-- The condition and the end of a loop after its body, which comes after the jump at this place. The jump goes to the
 -- condition.
 abbrev pub looped : ℕ → List Operation → List Operation → List Operation
 looped jump until code =

@@ -28,7 +28,7 @@ use Rattle.sc_code.specs.Emitted.{assign_code, create_code, declare_code, expr_c
 abbrev pub call_in : Call → Expr
 call_in c = tree.Call c.span (target_of c.target) (name_of c.name) (exprs_of c.actuals.items)
 
--- a call of the feature of this name behind a target of this type, if there is such a feature
+-- a call of the feature of this name after a target of this type, if there is such a feature
 abbrev pub site_named : System → List ℕ → ℕ → EntityType → List EntityType → Option CallSite
 site_named s x c t ts =
     option_map (λ (f : DeclaredFeature). site_of x c t ts (signature_of s t f)) (feature_named s t.class x)
@@ -38,7 +38,7 @@ abbrev pub slot_code : ℕ → Option EntityType → List Operation
 slot_code k None = []
 slot_code k (Some t) = PushSlot k t.attached ∷ []
 
--- what a name of the class is, behind a Current of this type
+-- what a name of the class is, after a Current of this type
 abbrev pub own_kind : System → EntityType → FeatureKind → OwnFeature
 own_kind s t (tree.Attribute d) = own.Attribute (given_type s t d)
 own_kind s t (tree.Routine r) = own.Routine (known_type (option_map (given_type s t) r.result_type))
@@ -51,14 +51,14 @@ own_feature s t (Some f) = own_kind s t f.feature.kind
 abbrev pub opened : BinaryOperator → List Operation
 opened op = if is_short op then Decide op 0 ∷ [] else []
 
--- It stands behind the operands, of which the right one begins at this place.
+-- It comes after the operands, and the right one begins at this place.
 abbrev pub ClosesRight : BinaryOperator → ℕ → List Operation → List Operation → Type 0
 ClosesRight op place code closed = (base right : List Operation) → code ≡ base ++ (opened op ++ right) →
     place ≡ length base → closed ≡ base ++ right_code op right
 
 -- ---- calls
 
--- a call of a routine of Current, or of a feature behind a target of this type, behind its actuals
+-- a call of a routine of Current, or of a feature after a target of this type, after its actuals
 abbrev pub routine_call_code : Setting → Call → List EntityType → List Operation
 routine_call_code h c ts = routine_call h (name_of c.name).text (length c.actuals.items) ts
 
@@ -81,7 +81,7 @@ formal_types s ds = map (λ (d : Declaration). formal_type (declared_type s ds d
 
 -- ---- object tests
 
--- an object test behind its operand, which fills this slot
+-- an object test after its operand, which fills this slot
 abbrev pub test_code : Setting → Entities → Option DeclaredType → ℕ → List Operation
 test_code h n d slot = Test (tested h n d) slot ∷ []
 

@@ -21,17 +21,17 @@ use Rattle.sc_routines.specs.declared.lowered.LoweredActuals.{LoweredActuals}
 abbrev pub told_of_leaf : Option EntityType → ℕ → Lowered
 told_of_leaf t olds = record { value = t; depth = 1; olds = olds; slots = 0 }
 
--- the type that the feature of this name gives behind a target of this type, where both are known
+-- the type that the feature of this name gives after a target of this type, if both are known
 abbrev pub type_behind : System → List ℕ → Option EntityType → Option EntityType
 type_behind s x target =
     option_and_then (λ (t : EntityType). feature_type s t (feature_named s t.class x)) target
 
--- a call of a feature that gives a value of this type, behind its target and its actuals
+-- a call of a feature that gives a value of this type, after its target and its actuals
 abbrev pub told_of_feature_call : Option EntityType → Lowered → LoweredActuals → Lowered
 told_of_feature_call t target actuals =
     record { value = t; depth = max target.depth (actuals.depth + 1); olds = actuals.olds; slots = 0 }
 
--- a binary operator, behind its operands
+-- a binary operator, after its operands
 abbrev pub told_of_binary : BinaryOperator → Lowered → Lowered → Lowered
 told_of_binary op left right = record {
   value = Some (binary_type op);

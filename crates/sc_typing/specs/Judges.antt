@@ -61,7 +61,7 @@ judge_received p t = do
   _ ← judge_target p t.type
   Ok (typing.typing t.type (t.is_separate || is_foreign_type t.type))
 
--- an operator, behind what is found of its operands
+-- an operator, after what is found of its operands
 abbrev pub judge_unary : Context → Span → UnaryOperator → typing.Typing → Judged typing.Typing
 judge_unary c p op t = do
   _ ← required (old_stands c op t) OldPlace p

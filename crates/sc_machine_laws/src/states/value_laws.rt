@@ -62,7 +62,7 @@ pub fn running_frames_move()
     ensures { RunningFramesMove }
 {}
 
-/// Whoever holds whom, each value fits.
+/// Each value fits, whichever handler holds which.
 pub fn rights_keep_it()
     ensures { RightsKeepIt }
 {}
