@@ -21,7 +21,7 @@ pub const FORMAT_HELP: &str = "How the answer is written: as lines, or as one ob
 
 pub const DEFAULT_FORMAT: &str = "text";
 
-/// The format that the words behind a command ask for.
+/// The format that the words after a command ask for.
 pub fn read_format<S: AsStr>(words: &[S]) -> Format
     ensures { result ≡ spec.format_in (map S.text words.now) }
 {

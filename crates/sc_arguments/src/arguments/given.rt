@@ -1,4 +1,4 @@
-//! What is given to a command: what is left of the words behind it without its options.
+//! What is given to a command: what is left of the words after it without its options.
 
 ghost use Rattle.std.specs.Prelude.{◌≡◌, IfOk, false, map};
 ghost use Rattle.sc_arguments.specs.Words as spec;

@@ -6,7 +6,7 @@ ghost use Rattle.sc_arguments.specs.Asked as spec;
 use crate::arguments::words::has_option;
 use std::convert::AsStr;
 
-/// Whether the arguments of a command line ask for help, or for the version: in place of a command, or by an option behind it.
+/// Whether the arguments of a command line ask for help, or for the version: in place of a command, or by an option after it.
 pub fn ask_for_help<S: AsStr>(arguments: &[S]) -> bool
     ensures { result ≡ spec.asks_for_help (map S.text arguments.now) }
 {

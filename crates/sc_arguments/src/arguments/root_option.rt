@@ -16,7 +16,7 @@ use std::convert::AsStr;
 
 pub const DEFAULT_ROOT: &str = "APPLICATION.make";
 
-/// The root that the words behind a command name.
+/// The root that the words after a command name.
 pub fn read_root<S: AsStr>(alloc: Global, words: &[S]) -> Result<Root, UsageFault>
     ensures { IfOk result (IsRootIn (map S.text words.now)) }
 {

@@ -1,11 +1,11 @@
-//! The words behind a command: what they say of one option.
+//! The words after a command: what they say of one option.
 
 ghost use Rattle.std.specs.Prelude.{◌≡◌, Some, false, map, option_map};
 ghost use Rattle.sc_arguments.specs.Words as spec;
 
 use std::convert::AsStr;
 
-/// The value of an option among the words behind a command, if it is used.
+/// The value of an option among the words after a command, if it is used.
 pub fn value_of<'a, S: AsStr>(words: &'a [S], option: &str) -> Option<&'a str>
     ensures { option_map (λ value. value.now) result ≡ spec.value_of option.now (map S.text words.entry.now) }
 {
@@ -22,7 +22,7 @@ pub fn value_or<'a, S: AsStr>(words: &'a [S], option: &str, default: &'static st
     value_of(words, option).unwrap_or(default)
 }
 
-/// Whether one of the words behind a command uses an option.
+/// Whether one of the words after a command uses an option.
 pub fn has_option<S: AsStr>(words: &[S], option: &str) -> bool
     ensures { result ≡ spec.has_option option.now (map S.text words.now) }
 {
@@ -62,7 +62,7 @@ fn value_at<'a, S: AsStr>(word: &'a str, words: &'a [S], option: &str) -> Option
     }
 }
 
-/// The value of an option with this behind its name: what is behind `=`, or else the next word.
+/// The value of an option with this after its name: what is after `=`, or else the next word.
 fn value_by<'a, S: AsStr>(behind: &'a str, words: &'a [S]) -> Option<&'a str>
     ensures { option_map (λ value. value.now) result ≡ spec.value_by (map S.text words.entry.now) (Some behind.entry.now) }
 {
@@ -73,7 +73,7 @@ fn value_by<'a, S: AsStr>(behind: &'a str, words: &'a [S]) -> Option<&'a str>
     }
 }
 
-/// Whether a word uses an option: it is the option's name, or that with `=` and a value behind it. Anything may be behind a
+/// Whether a word uses an option: it is the option's name, or that with `=` and a value after it. Anything may be after a
 /// short one.
 fn uses(word: &str, option: &str) -> bool
     ensures { result ≡ spec.uses option.now word.now }
@@ -87,7 +87,7 @@ fn uses(word: &str, option: &str) -> bool
     }
 }
 
-/// Whether there are no options behind a word.
+/// Whether there are no options after a word.
 pub fn ends_options(word: &str) -> bool
     ensures { result ≡ spec.ends_options word.now }
 {
