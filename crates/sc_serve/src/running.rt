@@ -313,7 +313,7 @@ fn note_of(
     if let Some(printed) = printed_past(left, options, statuses) {
         limit = Limit::Output;
         let turns = turns_of(left.lines.as_slice());
-        lines.fill_number("stopped by --output-limit behind ~ turns", turns);
+        lines.fill_number("stopped by --output-limit after ~ turns", turns);
         lines.fill_number(": the handlers have printed ~ bytes\n", printed)
     }
     if options.is_explained {
