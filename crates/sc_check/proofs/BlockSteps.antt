@@ -16,7 +16,7 @@ use Rattle.sc_rules.specs.Judging.{Judged, ◌>>=◌, required, judge}
 use Rattle.sc_rules.specs.JudgingText.{conforms_if_any, judge_heads}
 use Rattle.sc_typing.specs.declared.fault.CheckFault.{CheckFault}
 use Rattle.sc_typing.specs.Judges.{Faults}
-use Rattle.sc_check.specs.Internal.Parts.{judge_head}
+use Rattle.sc_check.specs.BlockHeads.{judge_head}
 use Rattle.sc_typing.proofs.Steps.{faults_along, faults_first}
 
 -- a head, then those behind it

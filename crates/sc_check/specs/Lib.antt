@@ -1,3 +1,4 @@
+pub mod BlockHeads
 pub mod purity
 pub mod CheckFaults
 pub mod CheckedSystems

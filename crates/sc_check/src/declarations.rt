@@ -152,7 +152,7 @@ impl<'t, 's> ClassText<'t, 's> {
 
     /// Judges a clause of the invariant.
     #[tactic(auto, unfolding(sc_tree::specs::View::clause_of))]
-    fn judge_invariant(&self, clause: &Clause) -> Result<(), CheckFault>
+    pub fn judge_invariant(&self, clause: &Clause) -> Result<(), CheckFault>
         ensures { Passes (judging_system.judge_invariant (system_in self.now.tables.now)
             (is_marked self.now.purity.now) self.now.class (clause_of clause.now)) result }
     {
@@ -164,7 +164,7 @@ impl<'t, 's> ClassText<'t, 's> {
 
     /// Judges a name that the class lists under `create`.
     #[tactic(auto, unfolding(sc_tree::specs::View::feature_of))]
-    fn judge_creator(&self, name: &Name) -> Result<(), CheckFault>
+    pub fn judge_creator(&self, name: &Name) -> Result<(), CheckFault>
         ensures { Passes (judging_system.judge_creator (system_in self.now.tables.now) self.now.class
             (name_of name.now)) result }
     {

@@ -51,7 +51,7 @@ fn judge_call<'s>(
 
 /// Judges an instruction. Names that it brings into scope leave it again.
 #[cycle(instructions)]
-fn judge_instruction<'s>(
+pub fn judge_instruction<'s>(
     routine: &RoutineContext<'_, 's>,
     names: &mut Vec<Entity<'s>>,
     instruction: &'s Instr,

@@ -2,7 +2,10 @@
 //!
 //! [`check`] returns a [`Checked`], which lends the tables of a system in which no rule fails, or a [`CheckFault`]:
 //! a rule that fails, and where. The rules are those of `sc_rules`; `sc_typing` judges expressions by them, and
-//! `purity` finds the pure functions.
+//! [`pure_functions`] finds the pure functions.
+//!
+//! Parts of a system are judged on their own by [`ClassText`], [`judge_clause`], [`judge_condition`],
+//! [`judge_if_condition`], [`judge_head`] and [`judge_instruction`].
 #![tactic(auto)]
 
 mod checked;
@@ -11,4 +14,9 @@ mod instructions;
 mod purity;
 
 pub use checked::{Checked, check};
+pub use declarations::ClassText;
+pub use instructions::blocks::judge_head;
+pub use instructions::conditions::{judge_clause, judge_condition, judge_if_condition};
+pub use instructions::judge_instruction;
+pub use purity::pure_functions;
 pub use sc_typing::CheckFault;

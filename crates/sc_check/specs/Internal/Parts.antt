@@ -51,13 +51,6 @@ judge_block h n ds body = do
   m ← judge_heads h n n ds
   judge_instrs h m body
 
--- a head of a block, with this number of block names in scope in its body
-abbrev pub judge_head : RoutineContext → Entities → ℕ → Head → Judged Entity
-judge_head h n j d = do
-  t ← judge h context.Body Plain n d.value
-  _ ← required (conforms_if_any h.system t.type (Some separate_any)) ArgumentType (span_of d.value)
-  Ok (entity d.name.text (block_type j t.type) role.Block)
-
 -- an `if`, a loop
 abbrev pub judge_if : RoutineContext → Entities → Expr → Instrs → Branches → Instrs → Judged (Unit {0})
 judge_if h n e body bs other = do

@@ -6,7 +6,7 @@ ghost use Rattle.sc_rules.specs.TextRules as text;
 ghost use Rattle.sc_rules.specs.JudgingText as judging_text;
 ghost use Rattle.sc_typing.specs.Views.{routine_in, entity_of};
 ghost use Rattle.sc_typing.specs.Judges.{Judges, Knows};
-ghost use Rattle.sc_check.specs.Internal.Parts as parts;
+ghost use Rattle.sc_check.specs.BlockHeads as block_heads;
 
 use crate::instructions::conforms_if_any;
 use sc_class::ClassId;
@@ -29,13 +29,13 @@ fn separate_any() -> EntityType
 /// Judges a head of a block, with this number of block names in scope in its body, and returns the name that it has
 /// there.
 #[tactic(auto, unfolding(sc_tree::specs::View::head_of))]
-fn judge_head<'s>(
+pub fn judge_head<'s>(
     routine: &RoutineContext<'_, 's>,
     names: &[Entity<'s>],
     number: usize,
     head: &'s Head,
 ) -> Result<Entity<'s>, CheckFault>
-    ensures { Judges entity_of (parts.judge_head (routine_in routine.now) (map entity_of names.now) number
+    ensures { Judges entity_of (block_heads.judge_head (routine_in routine.now) (map entity_of names.now) number
         (head_of head.now)) result }
 {
     let value = routine.expression(Context::Body, Position::Plain, names, &head.value)?;
