@@ -1,7 +1,6 @@
 mod Asked
 mod RefinedRuns
 mod Attempts
-mod ComingAgain
 mod Contracts
 pub mod HadTurns
 mod Posted

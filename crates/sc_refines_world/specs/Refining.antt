@@ -1,6 +1,6 @@
 -- What holds of each world that turns lead to from the opening of an accepted system's program.
 use Rattle.std.specs.List.{range_with_len}
-use Rattle.std.specs.Prelude.{◌≡◌, ◌≢◌, ◌⊎◌, ◌<◌, ◌≤◌, ◌+◌, ◌-◌, ◌++◌, ℕ, suc, Bool, true, false, List, [], ◌∷◌, Option, Some, None, Contains, drop, if◌then◌else◌, length, map, slice_get, take}
+use Rattle.std.specs.Prelude.{◌≡◌, ◌≢◌, ◌⊎◌, ◌<◌, ◌≤◌, ◌+◌, ◌-◌, ◌++◌, ℕ, Bool, true, false, List, [], ◌∷◌, Option, Some, None, Contains, drop, if◌then◌else◌, length, map, slice_get, take}
 use Rattle.sc_tree.specs.Plain.{System}
 use Rattle.sc_class.specs.ClassNames.{Root}
 use Rattle.sc_rules.specs.declared.entity_types.entity_type.EntityType.{EntityType}
@@ -21,11 +21,7 @@ use Rattle.sc_code.specs.declared.program.Image.{Image}
 use Rattle.sc_code.specs.Programs.{IsProgramOf}
 use Rattle.sc_code.specs.RequestRoom.{FitsRequests}
 use Rattle.sc_region.specs.declared.job.Job.{Job}
-use Rattle.sc_region.specs.declared.job.Job.TheVariants as job
-use Rattle.sc_region.specs.declared.job.Want.TheVariants as want
-use Rattle.sc_handler.specs.Fits.{goes_on}
-use Rattle.sc_request.specs.Candidates.{comes_again}
-use Rattle.sc_request.specs.Logs.{Center, next, pick_for, picked, settles}
+use Rattle.sc_request.specs.Logs.{next, pick_for}
 use Rattle.sc_machine_laws.specs.states.Formals.{FormalsAreHeld, NamesAreHeld}
 use Rattle.sc_machine_laws.specs.states.Headline.{CallbacksComeFirst, ChainsHold, OnlyWaitersAreTold, RepliesMeetNone, ReservedAreHeld, TargetsAreKept, WaitersAreTold}
 use Rattle.sc_machine_laws.specs.RequestLaws.{AnswerComes, IsUnused}
@@ -173,15 +169,7 @@ RestRunsAsMachine = WhereAccepted λ s root.
     FitsRequests p → Attempts ts (opened p v) x → StopsBehind n hs x y → Runs (drop n hs) y z →
     StandsNear s p (run (most_handlers v) s (made_by ts ++ hs) (opening s root)) z
 
--- ---- who is next
-
--- A handler that may make several turns at once is the next one again after any number of turns that ask nothing, as
--- it would be if each turn were settled on its own.
-abbrev pub HandlersComeAgain : Type 0
-HandlersComeAgain =
-    (most h n : ℕ) (j : Job) (c : Center) → pick_for h c ≡ Some j →
-    goes_on j ≡ true → comes_again j (picked h j c) ≡ true →
-    next (settles most h j (suc n) want.Continue (picked h j c)) ≡ Some (h, job.Go)
+-- ---- idle worlds
 
 -- If no handler of the world has a job, none has a turn in the machine.
 abbrev pub IdleWorldIsIdle : Type 0

@@ -1,6 +1,6 @@
 //! Laws of the world that runs beside the machine, each the contract of a function that does nothing.
 ghost use Rattle.sc_refines_world.specs.Anew.{AnewRunsAsMachine};
-ghost use Rattle.sc_refines_world.specs.Refining.{HandlersComeAgain, IdleWorldIsIdle, MachineHasHeadline, RefusedTurnStaysNear, StandingWorldIsNear};
+ghost use Rattle.sc_refines_world.specs.Refining.{IdleWorldIsIdle, MachineHasHeadline, RefusedTurnStaysNear, StandingWorldIsNear};
 ghost use Rattle.sc_refines_world.specs.Refining.{AttemptsHaveHeadline, AttemptsRunAsMachine, RestRunsAsMachine, TurnsStandExactly};
 ghost use Rattle.sc_refines_world.specs.Refining.{StoppedWorldStaysNear, WorldHasHeadline, WorldReportsAsMachine, WorldRunsAsMachine};
 
@@ -126,9 +126,3 @@ pub fn rest_runs_as_machine()
 {
     world_runs_as_machine();
 }
-
-/// The turns that a handler may make at once are those that it would make one by one, round the numbers: after each it
-/// is the next one again.
-pub fn handlers_come_again()
-    ensures { HandlersComeAgain }
-{}
