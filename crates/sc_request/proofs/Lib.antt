@@ -42,4 +42,5 @@ mod SameStates
 pub mod KeptCores
 mod ReadParts
 mod SoundParts
+mod ChangedPlaces
 mod LoadedCores

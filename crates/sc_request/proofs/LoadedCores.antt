@@ -1,9 +1,9 @@
 -- Cores into which states are put.
-use Rattle.std.proofs.Common.{◌≡◌, ◌∙◌, ◌≤◌, ◌<◌, ◌+◌, ◌++◌, ◌==◌, inl, inr, ℕ, zero, suc, true, false, List, [], ◌∷◌, Option, Some, None, length, map, slice_set, take, refl, sym, ap, subst, arith}
+use Rattle.std.proofs.Common.{◌≡◌, ◌∙◌, ◌≤◌, ◌<◌, ◌+◌, ◌==◌, inl, inr, ℕ, zero, suc, true, false, List, [], ◌∷◌, Option, Some, None, length, map, take, refl, sym, ap, subst, arith}
 use Rattle.std.proofs.Math.Path.{fun_ext}
 use Rattle.std.proofs.lemmas.Bool.{cases_lt, eq-eqb, ne_eqb}
-use Rattle.std.proofs.lemmas.Option.{slice_get-get_or, slice_get_past}
-use Rattle.std.proofs.lemmas.List.{length-append, length-map}
+use Rattle.std.proofs.lemmas.Option.{slice_get_past}
+use Rattle.std.proofs.lemmas.List.{length-map}
 use Rattle.std.specs.Prelude.{get_or, is_some, slice_get, slice_index, if◌then◌else◌}
 use Rattle.std.specs.List.{All}
 use Rattle.std.specs.Option.{option_and_then}
@@ -17,27 +17,25 @@ use Rattle.sc_handler.specs.Canonical.{canon_handler}
 use Rattle.sc_handler.specs.InMemory.{handler_of}
 use Rattle.sc_request.specs.declared.handler_set.HandlerSet.{HandlerSet}
 use Rattle.sc_request.specs.declared.parts.Part.{Part}
-use Rattle.sc_request.specs.Candidates.{AreCandidates, AreReserving, HasGrantsBelow, HasOutsBelow, is_granted, uncounted}
+use Rattle.sc_request.specs.Candidates.{AreCandidates, AreReserving, HasGrantsBelow, HasOutsBelow, is_granted}
 use Rattle.sc_request.specs.Crowds.{AreCrowds, crowd_at}
-use Rattle.sc_request.specs.Loading.{AreAllHome, AreNewPlaces, CountsFor, handler_numbered}
+use Rattle.sc_request.specs.Loading.{AreNewPlaces, CountsFor, HaveParts}
 use Rattle.sc_request.specs.Logs.{pick_for}
 use Rattle.sc_request.specs.Parts.{NameBelow, PlainPart, new_part, none_ended, part_in, part_of, parts_in, state_with}
 use Rattle.sc_request.specs.Sound.{IsSound, IsSoundHandler}
 use Rattle.sc_request.specs.Tables.{center, handler_at, handler_in, out_at, out_total, state_of}
 use Rattle.sc_request.proofs.GrantedReservations.{below_count}
 use Rattle.sc_request.proofs.JobKinds.{some_of}
-use Rattle.sc_request.proofs.Outs.{get_other, get_same, some_is}
+use Rattle.sc_request.proofs.Outs.{some_is}
 use Rattle.sc_request.proofs.ReadParts.{handler_again}
 use Rattle.sc_request.proofs.SoundHandlers.{new_is}
 use Rattle.sc_request.proofs.SoundParts.{part_sound}
 
 -- ---- handlers that are at home
 
-pub home_more : (xs : List coded.Handler) (x : coded.Handler) → AreAllHome xs → x.out ≡ None → AreAllHome (xs ++ x ∷ [])
-home_more [] x all none zero = none
-home_more [] x all none (suc k) = refl
-home_more (y ∷ xs) x all none zero = all zero
-home_more (y ∷ xs) x all none (suc k) = home_more xs x (λ j. all (suc j)) none k
+-- None of the handlers is out.
+abbrev pub AreAllHome : List coded.Handler → Type 0
+AreAllHome xs = (k : ℕ) → out_at xs k ≡ None
 
 none_counted : (o : Option Job) (n : ℕ) → o ≡ None → n ≡ 0 → (if is_some o then n + 1 else n) ≡ 0
 none_counted None n e f = f
@@ -54,15 +52,6 @@ pub home_grants : (most : ℕ) (xs : List coded.Handler) → AreAllHome xs → H
 home_grants most xs all h k is = let never : false ≡ true = sym (ap (λ (o : Option Job). is_granted o k) (all h)) ∙ is in cc
 
 -- ---- one more
-
-take_next : {A : Type 0} (xs : List A) (i : ℕ) (x : A) → slice_get xs i ≡ Some x → take (suc i) xs ≡ take i xs ++ x ∷ []
-take_next [] i x e = cc
-take_next (y ∷ xs) zero x e = let same : y ≡ x = cc in ap (λ z. z ∷ []) same
-take_next (y ∷ xs) (suc i) x e = ap (λ zs. y ∷ zs) (take_next xs i x e)
-
-map_next : {A B : Type 0} (f : A → B) (xs : List A) (x : A) → map f (xs ++ x ∷ []) ≡ map f xs ++ f x ∷ []
-map_next f [] x = refl
-map_next f (y ∷ xs) x = ap (λ zs. f y ∷ zs) (map_next f xs x)
 
 get_mapped : {A B : Type 0} (f : A → B) (xs : List A) (k : ℕ) (x : A) → slice_get xs k ≡ Some x → slice_get (map f xs) k ≡ Some (f x)
 get_mapped f [] k x e = cc
@@ -87,14 +76,6 @@ numbered_is (q ∷ T) (suc number) p e = numbered_is T number p e
 pub part_there : (T : List Part) (ns : List ℕ) (k number : ℕ) (p : Part) → slice_get ns k ≡ Some number → slice_get T number ≡ Some p →
     part_in (slice_get (parts_in T ns) k) ≡ part_of p
 part_there T ns k number p e f = ap part_in (get_mapped (λ n. get_or (map part_of T) n new_part) ns k number e) ∙ numbered_is T number p f
-
-pub handlers_more : (T : List Part) (ns : List ℕ) (hs gs : List coded.Handler) (x : coded.Handler) (i number : ℕ) (p : Part) → slice_get ns i ≡ Some number →
-    slice_get T number ≡ Some p → handler_of x ≡ canon_handler none_ended (handler_of p.handler) → gs ≡ hs ++ x ∷ [] →
-    map handler_of hs ≡ map (handler_numbered T) (take i ns) → map handler_of gs ≡ map (handler_numbered T) (take (suc i) ns)
-handlers_more T ns hs gs x i number p e f is more so_far =
-    let last : handler_of x ≡ handler_numbered T number = is ∙ ap (λ (q : PlainPart). q.handler) (sym (numbered_is T number p f)) in
-    ap (map handler_of) more ∙ map_next handler_of hs x ∙ (λ j. so_far j ++ last j ∷ [])
-    ∙ sym (map_next (handler_numbered T) (take i ns) number) ∙ ap (map (handler_numbered T)) (sym (take_next ns i number e))
 
 pub counts_more : (T : List Part) (ns : List ℕ) (i number most more : ℕ) (p : Part) → slice_get ns i ≡ Some number → slice_get T number ≡ Some p →
     most ≤ more → p.settlements ≤ more → CountsFor T (take i ns) most → CountsFor T (take (suc i) ns) more
@@ -122,104 +103,26 @@ counts_more T ns i number most more p e f least own so_far k other q there its =
     length_taken (y ∷ xs) (suc n) zero x e = omega arith
     length_taken (y ∷ xs) (suc n) (suc j) x e = let l = length_taken xs n j x e in omega (arith, l)
 
--- ---- handlers put in the place of others
+-- ---- those that have the parts, and new ones past them
 
-abbrev out_in : Option coded.Handler → Option Job
-out_in o = option_and_then (λ (x : coded.Handler). x.out) o
+part_past : (T : List Part) (ns : List ℕ) (k : ℕ) → length ns ≤ k → part_in (slice_get (parts_in T ns) k) ≡ new_part
+part_past T ns k far =
+    let many : length (parts_in T ns) ≡ length ns = length-map ns (λ n. get_or (map part_of T) n new_part) in
+    ap part_in (slice_get_past (parts_in T ns) k (omega (arith, many, far)))
 
-module _ (n i : ℕ) (xs ys : List coded.Handler) (others : (k : ℕ) → (k ≡ i → ⊥) → slice_get ys k ≡ slice_get xs k) where
-  pub new_more : handler_in (slice_get ys i) ≡ new_handler → ((k : ℕ) → n ≤ k → k < i → handler_in (slice_get xs k) ≡ new_handler) →
-      (k : ℕ) → n ≤ k → k < i + 1 → handler_in (slice_get ys k) ≡ new_handler
-  new_more here before k far few = elim (cases_lt k i) [
-    | inl below ↦ ap handler_in (others k (λ e. omega (arith, below, e))) ∙ before k far below
-    | inr past ↦ let e : k ≡ i = omega (arith, past, few) in ap (λ j. handler_in (slice_get ys j)) e ∙ here
+module _ (T : List Part) (ns : List ℕ) (xs ys : List coded.Handler) (have : HaveParts (length ns) T ns ys)
+    (put : (k : ℕ) → k < length ns → slice_get xs k ≡ slice_get ys k) (new : AreNewPlaces (length ns) xs) where
+  pub parts_at : (k : ℕ) → handler_in (slice_get xs k) ≡ (part_in (slice_get (parts_in T ns) k)).handler
+  parts_at k = elim (cases_lt k (length ns)) [
+    | inl below ↦ ap handler_in (put k below) ∙ (have k below).0
+    | inr far ↦ (new k far).0 ∙ ap (λ (p : PlainPart). p.handler) (sym (part_past T ns k far))
   ]
 
-  pub out_more : out_at ys i ≡ None → ((k : ℕ) → n ≤ k → k < i → out_at xs k ≡ None) → (k : ℕ) → n ≤ k → k < i + 1 → out_at ys k ≡ None
-  out_more here before k far few = elim (cases_lt k i) [
-    | inl below ↦ ap out_in (others k (λ e. omega (arith, below, e))) ∙ before k far below
-    | inr past ↦ let e : k ≡ i = omega (arith, past, few) in ap (λ j. out_at ys j) e ∙ here
+  pub parts_home : AreAllHome xs
+  parts_home k = elim (cases_lt k (length ns)) [
+    | inl below ↦ ap (λ (o : Option coded.Handler). option_and_then (λ (x : coded.Handler). x.out) o) (put k below) ∙ (have k below).1
+    | inr far ↦ (new k far).1
   ]
-
--- Those past a place are as they were, which was new.
-module _ (n used i : ℕ) (xs ys : List coded.Handler) (new : AreNewPlaces used ys) (all : used ≤ i) (rest : (k : ℕ) → i ≤ k → slice_get xs k ≡ slice_get ys k) where
-  pub new_from : ((k : ℕ) → n ≤ k → k < i → handler_in (slice_get xs k) ≡ new_handler) → (k : ℕ) → n ≤ k → handler_in (slice_get xs k) ≡ new_handler
-  new_from each k far = elim (cases_lt k i) [
-    | inl below ↦ each k far below
-    | inr past ↦ ap handler_in (rest k past) ∙ (new k (omega (arith, all, past))).0
-  ]
-
-  pub out_from : ((k : ℕ) → n ≤ k → k < i → out_at xs k ≡ None) → (k : ℕ) → n ≤ k → out_at xs k ≡ None
-  out_from each k far = elim (cases_lt k i) [
-    | inl below ↦ each k far below
-    | inr past ↦ ap out_in (rest k past) ∙ (new k (omega (arith, all, past))).1
-  ]
-
-zeroed : (o : Option coded.Handler) → uncounted (handler_in o) ≡ handler_in o
-zeroed None = refl
-zeroed (Some x) = refl
-
--- Handlers that were asked for nothing are new, and so are those that have no place.
-pub fresh_there : (xs : List coded.Handler) (ss : List ℕ) (used k : ℕ) → length xs ≤ 512 → ((h : ℕ) → used ≤ h → h < 512 → uncounted (handler_at xs ss h) ≡ new_handler) →
-    used ≤ k → handler_in (slice_get xs k) ≡ new_handler
-fresh_there xs ss used k few fresh far = elim (cases_lt k 512) [
-  | inl below ↦ sym (zeroed (slice_get xs k)) ∙ fresh k far below
-  | inr past ↦ ap handler_in (slice_get_past xs k (omega (arith, few, past)))
-]
-
-pub new_places : (xs : List coded.Handler) (ss : List ℕ) (used : ℕ) → length xs ≤ 512 → ((h : ℕ) → used ≤ h → h < 512 → uncounted (handler_at xs ss h) ≡ new_handler) →
-    ((h : ℕ) → used ≤ h → out_at xs h ≡ None) → AreNewPlaces used xs
-new_places xs ss used few fresh home k far = (fresh_there xs ss used k few fresh far, home k far)
-
-pushed_below : (xs : List coded.Handler) (y : coded.Handler) (k : ℕ) → k < length xs → slice_get (xs ++ y ∷ []) k ≡ slice_get xs k
-pushed_below [] y k l = absurd (omega (arith, l))
-pushed_below (x ∷ xs) y zero l = refl
-pushed_below (x ∷ xs) y (suc k) l = pushed_below xs y k (omega (arith, l))
-
-pushed_last : (xs : List coded.Handler) (y : coded.Handler) → slice_get (xs ++ y ∷ []) (length xs) ≡ Some y
-pushed_last [] y = refl
-pushed_last (x ∷ xs) y = pushed_last xs y
-
--- One that is popped from a list is put at its place in another one.
-module _ (xs hs gs fs : List coded.Handler) (h : coded.Handler) (i n : ℕ) (last : i ≡ length gs) (popped : hs ≡ gs ++ h ∷ [])
-    (few : i < n) (within : i < length xs) where
-  pub popped_new : (k : ℕ) → n ≤ k → handler_in (slice_get xs k) ≡ new_handler → handler_in (slice_get (slice_set xs i h) k) ≡ new_handler
-  popped_new k far new = ap handler_in (get_other xs i k h (λ e. omega (arith, few, far, e))) ∙ new
-
-  pub popped_home : (k : ℕ) → n ≤ k → out_at xs k ≡ None → out_at (slice_set xs i h) k ≡ None
-  popped_home k far home = ap out_in (get_other xs i k h (λ e. omega (arith, few, far, e))) ∙ home
-
-  pub popped_left : ((k : ℕ) → k < length hs → slice_get hs k ≡ slice_get fs k) → (k : ℕ) → k < length gs → slice_get gs k ≡ slice_get fs k
-  popped_left left k below =
-      let many : length hs ≡ length gs + 1 = ap length popped ∙ length-append gs (h ∷ []) in
-      sym (pushed_below gs h k below) ∙ ap (λ zs. slice_get zs k) (sym popped) ∙ left k (omega (arith, below, many))
-
-  pub popped_put : ((k : ℕ) → k < length hs → slice_get hs k ≡ slice_get fs k) → ((k : ℕ) → length hs ≤ k → k < n → slice_get xs k ≡ slice_get fs k) →
-      (k : ℕ) → length gs ≤ k → k < n → slice_get (slice_set xs i h) k ≡ slice_get fs k
-  popped_put left put k far below =
-      let many : length hs ≡ length gs + 1 = ap length popped ∙ length-append gs (h ∷ []) in
-      elim (cases_lt i k) [
-        | inl above ↦ get_other xs i k h (λ e. omega (arith, above, e)) ∙ put k (omega (arith, above, last, many)) below
-        | inr up_to ↦
-            let e : k ≡ i = omega (arith, up_to, far, last) in
-            ap (slice_get (slice_set xs i h)) e ∙ get_same xs i (get_or xs i h) h (slice_get-get_or xs i h within)
-            ∙ sym (pushed_last gs h) ∙ ap (λ zs. slice_get zs (length gs)) (sym popped) ∙ left (length gs) (omega (arith, many))
-            ∙ ap (slice_get fs) (sym last ∙ sym e)
-      ]
-
-pub all_put : (xs fs : List coded.Handler) (n m : ℕ) → n ≡ length fs → m ≡ 0 → ((k : ℕ) → n ≤ k → handler_in (slice_get xs k) ≡ new_handler) →
-    ((k : ℕ) → m ≤ k → k < n → slice_get xs k ≡ slice_get fs k) → (k : ℕ) → handler_in (slice_get xs k) ≡ handler_in (slice_get fs k)
-all_put xs fs n m many none new put k = elim (cases_lt k n) [
-  | inl below ↦ ap handler_in (put k (omega (arith, none)) below)
-  | inr past ↦ new k past ∙ sym (ap handler_in (slice_get_past fs k (omega (arith, past, many))))
-]
-
-pub all_home : (xs fs : List coded.Handler) (n m : ℕ) → m ≡ 0 → AreAllHome fs → ((k : ℕ) → n ≤ k → out_at xs k ≡ None) →
-    ((k : ℕ) → m ≤ k → k < n → slice_get xs k ≡ slice_get fs k) → AreAllHome xs
-all_home xs fs n m none home out put k = elim (cases_lt k n) [
-  | inl below ↦ ap out_in (put k (omega (arith, none)) below) ∙ home k
-  | inr past ↦ out k past
-]
 
 -- ---- holders
 
@@ -247,22 +150,27 @@ put_at f g n q is each k few = elim (cases_lt k n) [
   | inr past ↦ let e : k ≡ n = omega (arith, past, few) in rw (eq-eqb k n e) (is ∙ ap g (sym e))
 ]
 
-pub past_at : (f : ℕ → Option ℕ) (n : ℕ) (q : Option ℕ) → ((k : ℕ) → n ≤ k → f k ≡ None) → (k : ℕ) → n + 1 ≤ k → (if k == n then q else f k) ≡ None
-past_at f n q past k far = rw (ne_eqb k n (λ e. omega (arith, far, e))) (past k (omega (arith, far)))
+pub other_at : (f : ℕ → Option ℕ) (n : ℕ) (q : Option ℕ) (k : ℕ) → (k ≡ n → ⊥) → f k ≡ None → (if k == n then q else f k) ≡ None
+other_at f n q k apart none = rw (ne_eqb k n apart) none
+
+-- One more is free.
+pub free_at : (f : ℕ → Option ℕ) (first n : ℕ) → ((k : ℕ) → first ≤ k → k < n → f k ≡ None) → (k : ℕ) → first ≤ k → k < n + 1 → (if k == n then None else f k) ≡ None
+free_at f first n each k far few = elim (cases_lt k n) [
+  | inl below ↦ rw (ne_eqb k n (λ e. omega (arith, below, e))) (each k far below)
+  | inr past ↦ rw (eq-eqb k n (omega (arith, past, few))) refl
+]
+
+pub free_whole : (f : ℕ → Option ℕ) (first n : ℕ) → ((k : ℕ) → first ≤ k → k < n → f k ≡ None) → ((k : ℕ) → n ≤ k → f k ≡ None) → (k : ℕ) → first ≤ k → f k ≡ None
+free_whole f first n each rest k far = elim (cases_lt k n) [
+  | inl below ↦ each k far below
+  | inr past ↦ rest k past
+]
 
 -- ---- the parts of numbers
 
--- Handlers of these parts lie where the parts do.
-mapped_at : (T : List Part) (hs : List coded.Handler) (ns : List ℕ) (k : ℕ) → map handler_of hs ≡ map (handler_numbered T) ns →
-    handler_in (slice_get hs k) ≡ (part_in (slice_get (parts_in T ns) k)).handler
-mapped_at T [] [] k e = refl
-mapped_at T [] (n ∷ ns) k e = cc
-mapped_at T (x ∷ hs) [] k e = cc
-mapped_at T (x ∷ hs) (n ∷ ns) zero e = let here : handler_of x ≡ handler_numbered T n = cc in here
-mapped_at T (x ∷ hs) (n ∷ ns) (suc k) e = mapped_at T hs ns k (cc)
-
-pub mapped_many : (T : List Part) (hs : List coded.Handler) (ns : List ℕ) → map handler_of hs ≡ map (handler_numbered T) ns → length hs ≡ length ns
-mapped_many T hs ns e = sym (length-map hs handler_of) ∙ ap length e ∙ length-map ns (handler_numbered T)
+-- The handler of the part of the number.
+abbrev handler_numbered : List Part → ℕ → Handler
+handler_numbered T n = (get_or (map part_of T) n new_part).handler
 
 pub counts_less : (T : List Part) (ns : List ℕ) (most more : ℕ) → most ≤ more → CountsFor T ns most → CountsFor T ns more
 counts_less T ns most more least counts k number p e f = let few = counts k number p e f in omega (arith, few, least)
@@ -296,12 +204,9 @@ sound_at T (n ∷ ns) count most (suc k) counts named =
 
 -- ---- the state that is put into a core
 
-module _ (T : List Part) (ns : List ℕ) (count : ℕ) (hs xs : List coded.Handler) (ss : List ℕ) (t : Table) (of : map handler_of hs ≡ map (handler_numbered T) ns)
-    (put : (k : ℕ) → handler_in (slice_get xs k) ≡ handler_in (slice_get hs k)) (none : (k : ℕ) → slice_index ss k ≡ 0)
+module _ (T : List Part) (ns : List ℕ) (count : ℕ) (xs : List coded.Handler) (ss : List ℕ) (t : Table)
+    (at : (k : ℕ) → handler_in (slice_get xs k) ≡ (part_in (slice_get (parts_in T ns) k)).handler) (none : (k : ℕ) → slice_index ss k ≡ 0)
     (rights : rights_of t ≡ (state_with 0 (parts_in T ns)).rights) where
-  at : (k : ℕ) → handler_in (slice_get xs k) ≡ (part_in (slice_get (parts_in T ns) k)).handler
-  at k = put k ∙ mapped_at T hs ns k of
-
   unread_at : (k : ℕ) → handler_at xs ss k ≡ (part_in (slice_get (parts_in T ns) k)).handler
   unread_at k =
       let zeroth : (part_in (slice_get (parts_in T ns) k)).handler.sessions ≡ 0 = sym (ap (λ (x : Handler). x.sessions) (again_at T ns k)) in
@@ -315,9 +220,7 @@ module _ (T : List Part) (ns : List ℕ) (count : ℕ) (hs xs : List coded.Handl
       λ i. record { count = count; handlers = handlers i; rights = rights i }
 
   past_none : (k : ℕ) → length ns ≤ 512 → 512 ≤ k → part_in (slice_get (parts_in T ns) k) ≡ new_part
-  past_none k few far =
-      let many : length (parts_in T ns) ≡ length ns = length-map ns (λ n. get_or (map part_of T) n new_part) in
-      ap part_in (slice_get_past (parts_in T ns) k (omega (arith, many, few, far)))
+  past_none k few far = part_past T ns k (omega (arith, few, far))
 
   pub loaded_sound : (most : ℕ) → count ≤ 512 → length ns ≤ 512 → CountsFor T ns most → NameBelow count (parts_in T ns) →
       IsSound most most (state_of count xs ss t)

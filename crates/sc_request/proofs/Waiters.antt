@@ -1,8 +1,8 @@
 -- Who is known to wait for which handler: while that is held, whoever doesn't hold it has nothing to do.
-use Rattle.std.proofs.Common.{◌≡◌, ◌==◌, ◌&&◌, ◌||◌, ◌<◌, ◌≤◌, ℕ, zero, suc, Bool, true, false, not, List, [], ◌∷◌, Option, Some, None, map, refl, sym, ap, subst, ◌∙◌, inl, inr, length, slice_set, take, arith}
+use Rattle.std.proofs.Common.{◌≡◌, ◌==◌, ◌&&◌, ◌||◌, ◌++◌, ◌<◌, ◌≤◌, ℕ, zero, suc, Bool, true, false, not, List, [], ◌∷◌, Option, Some, None, map, refl, sym, ap, subst, ◌∙◌, inl, inr, length, slice_set, take, arith}
 use Rattle.std.proofs.lemmas.Bool.{and_from, and_left, and_parts, and_right, cases_Bool, cases_eq, eq-eqb, eqb-true, ne_eqb, or_from, or_left, or_parts, or_right}
 use Rattle.std.proofs.lemmas.Option.{slice_get_past}
-use Rattle.std.specs.Prelude.{is_some, nat_lt, replicate, slice_get, if◌then◌else◌}
+use Rattle.std.specs.Prelude.{is_some, nat_lt, slice_get, if◌then◌else◌}
 use Rattle.std.specs.List.{list_all, list_any}
 use Rattle.std.specs.Option.{is_none}
 use Rattle.sc_lockpass.specs.Rights.{held, is_among}
@@ -167,6 +167,19 @@ unnoted crowds n h is_so past b k is = elim (cases_eq b n) [
   | inr apart ↦ rw (ne_eqb b n apart) is
 ]
 
+-- Sets with the same members are crowds, too.
+pub extended : (crowds later : List HandlerSet) (count : ℕ) (xs : ℕ → Handler) → AreCrowds crowds count xs →
+    ((b k : ℕ) → is_member (crowd_at later b) k ≡ is_member (crowd_at crowds b) k) → AreCrowds later count xs
+extended crowds later count xs all same b k is = all b k (sym (same b k) ∙ is)
+
+-- An empty set that is added has no members, as past the end.
+pub empty_added : (crowds : List HandlerSet) (e : HandlerSet) → ((k : ℕ) → is_member e.words k ≡ false) → (b k : ℕ) →
+    is_member (crowd_at (crowds ++ e ∷ []) b) k ≡ is_member (crowd_at crowds b) k
+empty_added [] e none zero k = none k ∙ sym (none_in_nothing k)
+empty_added [] e none (suc b) k = refl
+empty_added (c ∷ crowds) e none zero k = refl
+empty_added (c ∷ crowds) e none (suc b) k = empty_added crowds e none b k
+
 -- whoever waits for a handler may be noted
 pub joined : (crowds later : List HandlerSet) (count : ℕ) (xs : ℕ → Handler) (n h : ℕ) → AreCrowds crowds count xs → nat_lt h count ≡ true →
     WaitsFor n h xs → Notes n h true crowds later → AreCrowds later count xs
@@ -257,15 +270,9 @@ among_more (y ∷ ys) (suc i) x b e = ap (λ t. y == b || t) (among_more ys i x 
 
 -- ---- the core opens, handlers go out, and are settled
 
-no_crowd_in : (n : ℕ) (e : HandlerSet) (b k : ℕ) → is_member e.words k ≡ false → is_member (crowd_at (replicate n e) b) k ≡ false
-no_crowd_in zero e b k none = none_in_nothing k
-no_crowd_in (suc n) e zero k none = none
-no_crowd_in (suc n) e (suc b) k none = no_crowd_in n e b k none
-
-pub opening_crowds : (crowds : List HandlerSet) (n count : ℕ) (e : HandlerSet) (xs : ℕ → Handler) → crowds ≡ replicate n e →
-    ((k : ℕ) → is_member e.words k ≡ false) → AreCrowds crowds count xs
-opening_crowds crowds n count e xs same none b k is =
-    let never : false ≡ true = sym (ap (λ (cs : List HandlerSet). is_member (crowd_at cs b) k) same ∙ no_crowd_in n e b k (none k)) ∙ is in cc
+pub opening_crowds : (crowds : List HandlerSet) (count : ℕ) (xs : ℕ → Handler) → crowds ≡ [] → AreCrowds crowds count xs
+opening_crowds crowds count xs same b k is =
+    let never : false ≡ true = sym (ap (λ (cs : List HandlerSet). is_member (crowd_at cs b) k) same ∙ none_in_nothing k) ∙ is in cc
 
 waits_alike : (b k : ℕ) (xs ys : ℕ → Handler) → ((i : ℕ) → ys i ≡ xs i) → WaitsFor b k xs → WaitsFor b k ys
 waits_alike b k xs ys same waits = record {

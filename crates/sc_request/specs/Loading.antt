@@ -1,18 +1,22 @@
 -- What is put into a core.
-use Rattle.std.specs.Prelude.{◌≡◌, ◌≤◌, ℕ, List, Some, None, get_or, map, slice_get}
+use Rattle.std.specs.Prelude.{◌≡◌, ◌≤◌, ◌<◌, ℕ, List, [], ◌∷◌, Some, None, slice_get, slice_set}
 use Rattle.sc_handler.specs.declared.handler.Handler as coded
-use Rattle.sc_handler.specs.Handlers.{Handler, new_handler}
-use Rattle.sc_request.specs.Parts.{new_part, part_of}
+use Rattle.sc_handler.specs.Handlers.{new_handler}
+use Rattle.sc_request.specs.Parts.{part_in, parts_in}
 use Rattle.sc_request.specs.Tables.{handler_in, out_at}
+use Rattle.sc_request.specs.declared.loading.Change.{Change}
 use Rattle.sc_request.specs.declared.parts.Part.{Part}
 
--- the handler of the part of the number
-abbrev pub handler_numbered : List Part → ℕ → Handler
-handler_numbered table number = (get_or (map part_of table) number new_part).handler
+-- The first handlers, as many as the number says, are those of the parts of these numbers, and none of them is out.
+abbrev pub HaveParts : ℕ → List Part → List ℕ → List coded.Handler → Type 0
+HaveParts n table numbers xs =
+    (k : ℕ) → k < n →
+    (handler_in (slice_get xs k) ≡ (part_in (slice_get (parts_in table numbers) k)).handler) × (out_at xs k ≡ None)
 
--- None of the handlers is out.
-abbrev pub AreAllHome : List coded.Handler → Type 0
-AreAllHome xs = (k : ℕ) → out_at xs k ≡ None
+-- the handlers once these changes are made, the last one first
+abbrev pub changed : List Change → List coded.Handler → List coded.Handler
+changed [] xs = xs
+changed (c ∷ cs) xs = slice_set (changed cs xs) c.place c.handler
 
 -- From this place on all handlers are new, and none is out.
 abbrev pub AreNewPlaces : ℕ → List coded.Handler → Type 0

@@ -42,6 +42,7 @@ pub struct Core {
     /// Those that wait to reserve: all whose next step is a reserve step.
     pub(crate) reserving: HandlerSet,
     /// By the number of each handler, those that were found to wait for it since it was held, and still reserve it next.
+    /// There are sets up to the last handler for which one was noted since they were cleared.
     pub(crate) crowds: Vec<HandlerSet>,
     pub(crate) ghost counted: { outs ≡ out_total state.handlers.items },
     pub(crate) ghost there: { HasOutsBelow (most_handlers state.rights.version) state.handlers.items },
@@ -90,7 +91,7 @@ impl Core {
             spare: SparePlaces::new(alloc),
             candidates,
             reserving: HandlerSet::new(),
-            crowds: vec![in alloc; HandlerSet::new(); 512]?,
+            crowds: Vec::with_capacity(alloc, 512)?,
         })
     }
 

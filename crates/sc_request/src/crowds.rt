@@ -31,6 +31,7 @@ impl State {
     {
         candidates.remove(handler as usize);
         if let Some(needed) = self.held_off_by(handler) {
+            extend(crowds, needed as usize);
             note(crowds, needed, handler, true);
             self.leave_out(needed, crowds.as_slice(), candidates);
         }
@@ -128,7 +129,7 @@ impl State {
     }
 }
 
-/// Notes whether a handler waits for another one.
+/// Notes whether a handler waits for another one, if there is a set for that.
 fn note(
     crowds: &mut Vec<HandlerSet>,
     needed: HandlerNumber,
@@ -141,6 +142,15 @@ fn note(
     let at = needed as usize;
     if at < crowds.len() {
         crowds[at].set(handler as usize, is_waiting);
+    }
+}
+
+/// Adds empty sets up to that of a number, as long as there is room for them.
+fn extend(crowds: &mut Vec<HandlerSet>, last: usize)
+    ensures { (b k : ℕ) → is_member (crowd_at crowds.new.items b) k ≡ is_member (crowd_at crowds.old.items b) k }
+{
+    while crowds.len() <= last && crowds.len() < crowds.capacity() {
+        crowds.push_reserved(HandlerSet::new());
     }
 }
 
@@ -158,7 +168,5 @@ fn leave_each(crowds: &mut Vec<HandlerSet>, reserved: &[HandlerNumber], handler:
 pub(crate) fn clear(crowds: &mut Vec<HandlerSet>)
     ensures { (b k : ℕ) → is_member (crowd_at crowds.new.items b) k ≡ false }
 {
-    for at in 0..crowds.len() {
-        crowds[at] = HandlerSet::new();
-    }
+    crowds.clear();
 }

@@ -1,20 +1,21 @@
 //! Cores into which states are put.
-ghost use Rattle.std.specs.Prelude.{◌≡◌, ◌<◌, ◌≤◌, ℕ, IfOk, IsTrue, None, OnErr, OnOk, length, map, slice_get, slice_index, vec_len};
+ghost use Rattle.std.specs.Prelude.{◌≡◌, ◌<◌, ◌≤◌, ℕ, IfOk, IsTrue, None, OnErr, OnOk, length, slice_get, slice_index, vec_len};
+ghost use Rattle.std.specs.List.{All};
 ghost use Rattle.sc_lockpass.specs.Tables.{rights_of};
 ghost use Rattle.sc_lockpass.specs.Versions.{most_handlers};
 ghost use Rattle.sc_handler.specs.Handlers.{new_handler};
 ghost use Rattle.sc_handler.specs.InMemory.{handler_of};
 ghost use Rattle.sc_request.specs.Candidates.{AreFreshFrom};
-ghost use Rattle.sc_request.specs.Loading.{AreAllHome, AreNewPlaces, CountsFor, handler_numbered};
-ghost use Rattle.sc_request.specs.Parts.{AreWithin, NameBelow, parts_in, state_with};
+ghost use Rattle.sc_request.specs.Loading.{AreNewPlaces, CountsFor, HaveParts, changed};
+ghost use Rattle.sc_request.specs.Parts.{AreWithin, NameBelow, part_of, parts_in, state_with};
 ghost use Rattle.sc_request.specs.Tables.{handler_in, out_at};
 
 use crate::center::Core;
 use crate::crowds::clear;
 use crate::parts::{Part, larger};
 use crate::state::State;
-use sc_handler::{Handler, Log};
-use sc_lockpass::{HandlerNumber, Rights, Version};
+use sc_handler::{Handler, Log, same_handler};
+use sc_lockpass::{HandlerNumber, Rights};
 use sc_region::{Job, Want};
 use std::alloc::{AllocError, Global};
 
@@ -50,10 +51,11 @@ impl Core {
         ensures err { OnErr result (center_of self.new ≡ center_of self.old) }
         ensures version { self.new.state.rights.version ≡ self.old.state.rights.version }
     {
-        let mut handlers = handlers_of(alloc, parts, numbers)?;
+        let mut changes = changes_to(alloc, &self.state.handlers, parts, numbers)?;
         fit_log(alloc, &mut self.log, settlements_of(parts, numbers))?;
-        let rights = rights_with(self.state.rights.version(), parts, numbers);
-        self.state.put(alloc, count, &mut handlers, rights, used);
+        put_rights(&mut self.state.rights, parts, numbers);
+        self.state
+            .put(alloc, count, &mut changes, numbers.len(), used);
         self.outs = 0;
         self.candidates.fill();
         self.reserving.fill();
@@ -63,62 +65,100 @@ impl Core {
 }
 
 impl State {
-    /// Puts so many handlers in the place of others, with these rights: none of them is out, and no session has ended.
-    /// From the number `used` on they are new before.
+    /// Makes these changes to the first handlers, of which none is out then, and puts new ones past them, so that there are
+    /// so many. From the number `used` on they are new before. No session has ended then.
     fn put(
         &mut self,
         alloc: Global,
         count: usize,
-        handlers: &mut Vec<Handler>,
-        rights: Rights,
+        changes: &mut Vec<Change>,
+        first_new: usize,
         used: usize,
     )
-        requires most { count ≤ most_handlers rights.version }
-        requires few { vec_len handlers.old ≤ 512 }
+        requires most { count ≤ most_handlers self.old.rights.version }
         requires used { used ≤ 512 }
         requires new { AreNewPlaces used self.old.handlers.items }
-        requires home { AreAllHome handlers.old.items }
+        requires within { All (λ (c : Change). c.place < first_new) changes.old.items }
+        requires few { first_new ≤ 512 }
         ensures count { self.new.count ≡ count }
-        ensures rights { self.new.rights ≡ rights }
-        ensures handlers { (k : ℕ) → handler_in (slice_get self.new.handlers.items k) ≡ handler_in (slice_get handlers.old.items k) }
-        ensures home { AreAllHome self.new.handlers.items }
+        ensures rights { self.new.rights ≡ self.old.rights }
+        ensures changed { (k : ℕ) → k < first_new → slice_get self.new.handlers.items k ≡ slice_get (changed changes.old.items self.old.handlers.items) k }
+        ensures new { AreNewPlaces first_new self.new.handlers.items }
         ensures sessions { (k : ℕ) → slice_index self.new.sessions.items k ≡ 0 }
     {
-        put_handlers(alloc, &mut self.handlers, handlers, used);
+        renew_from(alloc, &mut self.handlers, first_new, used);
+        make_changes(&mut self.handlers, changes);
         clear_counts(&mut self.sessions);
-        self.rights = rights;
         self.count = count;
     }
 }
 
 // ---- what is put into a core
 
-/// The handlers of the parts of these numbers. Its error says that memory ran out.
-fn handlers_of(alloc: Global, parts: &[Part], numbers: &[u32]) -> Result<Vec<Handler>, AllocError>
-    requires within { AreWithin numbers.now (length parts.now) }
-    ensures handlers { IfOk result (λ handlers. map handler_of handlers.items ≡ map (handler_numbered parts.now) numbers.now) }
-    ensures home { IfOk result (λ handlers. AreAllHome handlers.items) }
-{
-    let mut handlers = Vec::with_capacity(alloc, numbers.len())?;
-    for number in numbers {
-        handlers.push(parts[*number as usize].handler.read_by(alloc, &[])?)?;
-    }
-    Ok(handlers)
+/// A handler that is put at a place.
+#[derive(Drop)]
+pub(crate) struct Change {
+    pub(crate) place: usize,
+    pub(crate) handler: Handler,
 }
 
-/// The rights of the parts of these numbers.
-fn rights_with(version: Version, parts: &[Part], numbers: &[u32]) -> Rights
+/// What makes the first handlers those of the parts of these numbers, none of which is out: a change for each place where
+/// that isn't so already. Its error says that memory ran out.
+fn changes_to(
+    alloc: Global,
+    handlers: &[Handler],
+    parts: &[Part],
+    numbers: &[u32],
+) -> Result<Vec<Change>, AllocError>
+    requires many { length numbers.now ≤ length handlers.now }
+    requires within { AreWithin numbers.now (length parts.now) }
+    ensures handlers { IfOk result (λ changes. HaveParts (length numbers.now) parts.now numbers.now (changed changes.items handlers.now)) }
+    ensures within { IfOk result (λ changes. All (λ (c : Change). c.place < length numbers.now) changes.items) }
+{
+    let mut changes = Vec::new(alloc);
+    for place in 0..numbers.len() {
+        let part = &parts[numbers[place] as usize];
+        if has_part(&handlers[place], part) {
+            continue;
+        }
+        let handler = part.handler.read_by(alloc, &[])?;
+        changes.push(Change { place, handler })?;
+    }
+    Ok(changes)
+}
+
+/// Whether a handler is that of a part, and isn't out.
+fn has_part(handler: &Handler, part: &Part) -> bool
+    ensures handler { IsTrue result → handler_of handler.now ≡ (part_of part.now).handler }
+    ensures home { IsTrue result → handler.now.out ≡ None }
+{
+    same_handler(handler, &part.handler) && handler.out.get().is_none()
+}
+
+/// Makes the rights those of the parts of these numbers.
+fn put_rights(rights: &mut Rights, parts: &[Part], numbers: &[u32])
     requires few { length numbers.now ≤ 512 }
     requires within { AreWithin numbers.now (length parts.now) }
-    ensures rights { rights_of result ≡ (state_with 0 (parts_in parts.now numbers.now)).rights }
-    ensures version { result.version ≡ version }
+    ensures rights { rights_of rights.new ≡ (state_with 0 (parts_in parts.now numbers.now)).rights }
+    ensures version { rights.new.version ≡ rights.old.version }
 {
-    let mut rights = Rights::new(version);
+    free_from(rights, numbers.len());
     for place in 0..numbers.len() {
         let holders = parts[numbers[place] as usize].holders;
         rights.set_holders(place as HandlerNumber, holders.queue, holders.top);
     }
-    rights
+}
+
+/// Frees all handlers from a number on.
+fn free_from(rights: &mut Rights, first: usize)
+    ensures queue { (k : ℕ) → first ≤ k → (rights_of rights.new).queue k ≡ None }
+    ensures top { (k : ℕ) → first ≤ k → (rights_of rights.new).top k ≡ None }
+    ensures version { rights.new.version ≡ rights.old.version }
+{
+    let reach = rights.reach();
+    for place in first..reach {
+        rights.set_holders(place as HandlerNumber, None, None);
+    }
 }
 
 /// As many settlements as the most that any of these parts counts.
@@ -159,21 +199,27 @@ fn log_with(alloc: Global, count: usize) -> Result<Log, AllocError>
 
 // ---- what is put in the place of others
 
-/// Puts handlers in the first places, and new ones in the others. From the place `used` on they are new before.
-fn put_handlers(alloc: Global, places: &mut Vec<Handler>, handlers: &mut Vec<Handler>, used: usize)
-    requires few { vec_len handlers.old ≤ vec_len places.old }
+/// Makes these changes, the last one first.
+fn make_changes(places: &mut Vec<Handler>, changes: &mut Vec<Change>)
+    requires { All (λ (c : Change). c.place < vec_len places.old) changes.old.items }
+    ensures len { vec_len places.new ≡ vec_len places.old }
+    ensures changed { places.new.items ≡ changed changes.old.items places.old.items }
+{
+    while let Some(change) = changes.pop() {
+        places[change.place] = change.handler;
+    }
+}
+
+/// Puts new handlers in the places from one on. From the place `used` on they are new before.
+fn renew_from(alloc: Global, places: &mut Vec<Handler>, first: usize, used: usize)
     requires used { used ≤ vec_len places.old }
     requires new { AreNewPlaces used places.old.items }
-    requires home { AreAllHome handlers.old.items }
     ensures len { vec_len places.new ≡ vec_len places.old }
-    ensures handlers { (k : ℕ) → handler_in (slice_get places.new.items k) ≡ handler_in (slice_get handlers.old.items k) }
-    ensures home { AreAllHome places.new.items }
+    ensures before { (k : ℕ) → k < first → slice_get places.new.items k ≡ slice_get places.old.items k }
+    ensures new { AreNewPlaces first places.new.items }
 {
-    for place in handlers.len()..used {
+    for place in first..used {
         renew(alloc, places, place);
-    }
-    while let Some(handler) = handlers.pop() {
-        places[handlers.len()] = handler;
     }
 }
 

@@ -1,5 +1,6 @@
 //! What a core keeps of single handlers.
-ghost use Rattle.std.specs.Prelude.{◌≡◌, ◌<◌, ◌≤◌, ◌↔◌, ℕ, IfOk, IsTrue, length};
+ghost use Rattle.std.specs.Prelude.{◌≡◌, ◌<◌, ◌≤◌, ◌↔◌, [], ℕ, IfOk, IsTrue, length, slice_index};
+ghost use Rattle.sc_handler.specs.Canonical.{canon_handler};
 ghost use Rattle.sc_handler.specs.InMemory.{handler_of};
 ghost use Rattle.sc_request.specs.Candidates.{AreFreshFrom};
 ghost use Rattle.sc_request.specs.Sound.{IsSoundHandler};
@@ -19,6 +20,7 @@ pub struct Part {
     /// As many settlements as the handler refused requests, or serves requests, whichever are more.
     pub(crate) settlements: usize,
     pub(crate) ghost sound: { IsSoundHandler settlements settlements 512 (handler_of handler) },
+    pub(crate) ghost read: { canon_handler (slice_index []) (handler_of handler) ≡ handler_of handler },
 }
 
 impl Core {

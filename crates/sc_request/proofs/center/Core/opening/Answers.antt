@@ -33,8 +33,7 @@ invariant_of-result-2 c =
       tried = opening_tried c.insert.new.self.words xs c.in_ok-vec.field-0.items c.new.result (c.most_handlers.result - 1) (c.insert.ensures 0);
       waiting = subst (λ (ys : List coded.Handler). AreReserving c.new-4.result.words (handler_at ys c.in_ok-vec.field-0.items)) (sym is)
           (opening_reserving c.new-4.result.words c.in_ok-vec.field-0.items 511 r);
-      crowded = opening_crowds c.in_ok-vec-2.field-0.items 512 1 c.new-5.result (handler_at xs c.in_ok-vec.field-0.items)
-          (c.in_ok-vec-2.ensures.items_if_clones_equal (λ y e. e)) c.new-5.ensures;
+      crowded = opening_crowds c.in_ok-with_capacity.field-0.items 1 (handler_at xs c.in_ok-vec.field-0.items) c.in_ok-with_capacity.ensures.items;
     }
 
 pub invariant_of-result-clause-places : goal.invariant_of-result-clause-places

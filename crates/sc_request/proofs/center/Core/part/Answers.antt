@@ -1,9 +1,10 @@
-use Rattle.std.proofs.Common.{◌≡◌, ◌∙◌, List, ℕ, ap, length, refl, arith}
+use Rattle.std.proofs.Common.{◌≡◌, ◌∙◌, List, ℕ, ap, length, refl, sym, arith}
 use Rattle.std.proofs.lemmas.Option.{slice_get_read}
 use Rattle.std.specs.Prelude.{slice_index, vec_len}
 use Rattle.sc_handler.specs.Canonical.{canon_handler}
 use Rattle.sc_handler.specs.InMemory.{handler_of}
-use Rattle.sc_request.proofs.ReadParts.{kept_part}
+use Rattle.sc_request.specs.Parts.{none_ended}
+use Rattle.sc_request.proofs.ReadParts.{handler_again, kept_part}
 use Rattle.sc_request.proofs.SoundParts.{there_sound}
 use Rattle.sc_request.proofs.center.Core.part.Goals as goal
 
@@ -20,6 +21,7 @@ invariant_of-result c =
     record {
       sound = there_sound s.state.sessions.items (vec_len s.log.entries) (vec_len s.log.entries) s.state.count c.settlements_for.result xs c.args.handler x c.in_ok-read.read
           s.sound.within e is c.settlements_for.ensures.refused c.settlements_for.ensures.serves (s.sound.handlers c.args.handler);
+      read = ap (canon_handler none_ended) is ∙ handler_again (slice_index s.state.sessions.items) (handler_of x) ∙ sym is;
     }
 
 pub returns : goal.returns

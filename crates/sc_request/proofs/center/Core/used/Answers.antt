@@ -1,6 +1,6 @@
 use Rattle.std.proofs.Common.{◌≤◌, length, arith}
 use Rattle.sc_lockpass.proofs.Listings.{most_handlers-le}
-use Rattle.sc_request.proofs.LoadedCores.{fresh_there}
+use Rattle.sc_request.proofs.ChangedPlaces.{fresh_there}
 use Rattle.sc_request.proofs.ReadParts.{new_there}
 use Rattle.sc_request.proofs.center.Core.used.Goals as goal
 

@@ -5,16 +5,16 @@ use Rattle.std.specs.Prelude.{get_or, slice_get}
 use Rattle.sc_lockpass.specs.Rights.{Rights}
 use Rattle.sc_lockpass.specs.Tables.{rights_of}
 use Rattle.sc_request.specs.Parts.{PlainPart, part_in, parts_in}
-use Rattle.sc_request.proofs.LoadedCores.{part_there, past_at, put_at, rights_whole}
-use Rattle.sc_request.proofs.loading.rights_with.Goals as goal
+use Rattle.sc_request.proofs.LoadedCores.{other_at, part_there, put_at, rights_whole}
+use Rattle.sc_request.proofs.loading.put_rights.Goals as goal
 
 pub loop-place-init : goal.loop-place-init
 loop-place-init c = record {
-  version = c.new-rights.ensures.version;
+  version = c.free_from.ensures.version;
   queue = λ k few. absurd (omega (arith, few));
   top = λ k few. absurd (omega (arith, few));
-  queue_past = λ k far. ap (λ (r : Rights). r.queue k) c.new-rights.ensures.rights;
-  top_past = λ k far. ap (λ (r : Rights). r.top k) c.new-rights.ensures.rights;
+  queue_past = λ k far. c.free_from.ensures.queue k far;
+  top_past = λ k far. c.free_from.ensures.top k far;
 }
 
 pub loop-place-preserved : goal.loop-place-preserved
@@ -36,12 +36,15 @@ loop-place-preserved c =
           ∙ put_at (rights_of l.rights).queue (λ j. (part_in (slice_get (parts_in T ns) j)).queue) n p.holders.queue (sym (ap (λ (q : PlainPart). q.queue) there)) l.invariant.queue k few;
       top = λ k few. ap (λ (r : Rights). r.top k) c.set_holders.ensures.rights
           ∙ put_at (rights_of l.rights).top (λ j. (part_in (slice_get (parts_in T ns) j)).top) n p.holders.top (sym (ap (λ (q : PlainPart). q.top) there)) l.invariant.top k few;
-      queue_past = λ k far. ap (λ (r : Rights). r.queue k) c.set_holders.ensures.rights ∙ past_at (rights_of l.rights).queue n p.holders.queue l.invariant.queue_past k far;
-      top_past = λ k far. ap (λ (r : Rights). r.top k) c.set_holders.ensures.rights ∙ past_at (rights_of l.rights).top n p.holders.top l.invariant.top_past k far;
+      queue_past = λ k far. ap (λ (r : Rights). r.queue k) c.set_holders.ensures.rights
+          ∙ other_at (rights_of l.rights).queue n p.holders.queue k (λ same. omega (arith, below, far, same)) (l.invariant.queue_past k far);
+      top_past = λ k far. ap (λ (r : Rights). r.top k) c.set_holders.ensures.rights
+          ∙ other_at (rights_of l.rights).top n p.holders.top k (λ same. omega (arith, below, far, same)) (l.invariant.top_past k far);
     }
 
 pub returns-clause-rights : goal.returns-clause-rights
 returns-clause-rights c =
     let l = c.loop-place in
-    rights_whole c.args.parts.now c.args.numbers.now (rights_of l.rights) l.place c.loop-place-test.false l.invariant.queue l.invariant.top l.invariant.queue_past
-    l.invariant.top_past
+    let all = c.loop-place-test.false in
+    rights_whole c.args.parts.now c.args.numbers.now (rights_of l.rights) l.place all l.invariant.queue l.invariant.top
+    (λ k far. l.invariant.queue_past k (omega (arith, all, far))) (λ k far. l.invariant.top_past k (omega (arith, all, far)))
