@@ -1,11 +1,11 @@
 -- What the program's arguments ask for.
-use Rattle.std.specs.Prelude.{ℕ, ◌≡◌, ◌==◌, ◌||◌, Bool, true, false, List, [], ◌∷◌, Option, Some, None, codes, if◌then◌else◌, map, slice_get, string_bytes}
+use Rattle.std.specs.Prelude.{ℕ, ◌≡◌, ◌≤◌, ◌==◌, ◌||◌, Bool, true, false, List, [], ◌∷◌, Option, Some, None, codes, if◌then◌else◌, map, slice_get, string_bytes}
 use Rattle.std.specs.Borrow.{Bor}
 use Rattle.std.specs.Option.{option_map}
 use Rattle.std.specs.Str.{bytes_eq}
 use Rattle.sc_class.specs.declared.root.Root.{Root}
 use Rattle.sc_arguments.specs.RootOption.{NamesRoot}
-use Rattle.sc_arguments.specs.Words.{Writes, given_in, has_option, value_of, value_or}
+use Rattle.sc_arguments.specs.Words.{Writes, WritesUpTo, given_in, has_option, value_of, value_or}
 use Rattle.sc_arguments.specs.declared.arguments.CheckOptions.{CheckOptions}
 use Rattle.sc_arguments.specs.declared.arguments.Command.TheVariants as command
 use Rattle.sc_arguments.specs.declared.arguments.Invocation.{Invocation}
@@ -41,10 +41,10 @@ IsRootIn words root =
 abbrev pub format_in : List (List ℕ) → Format
 format_in words = format_named (value_or (codes "--format") (codes "text") words)
 
--- `limit` is the number that the value of the option writes, or none if the option isn't used.
+-- `limit` is the number that the value of the option writes, up to 10 ^ 12, or none if the option isn't used.
 abbrev pub IsLimitBy : Option (List ℕ) → Option ℕ → Type 0
 IsLimitBy None limit = limit ≡ None
-IsLimitBy (Some text) limit = (n : ℕ) × (limit ≡ Some n) × Writes text n
+IsLimitBy (Some text) limit = (n : ℕ) × (limit ≡ Some n) × Writes text n × (n ≤ 1000000000000)
 
 -- ---- the options of each command
 
@@ -55,8 +55,8 @@ pub record AreCheckOptions (words : List (List ℕ)) (options : CheckOptions) : 
 pub record AreRunOptions (words : List (List ℕ)) (options : RunOptions) : Type 0 where
   pub root : IsRootIn words options.root
   pub format : options.format ≡ format_in words
-  pub workers : Writes (value_or (codes "--workers") (codes "1") words) options.workers
-  pub turns : Writes (value_or (codes "--turns") (codes "1000000") words) options.turns
+  pub workers : WritesUpTo 8 (value_or (codes "--workers") (codes "1") words) options.workers
+  pub turns : WritesUpTo 10000000 (value_or (codes "--turns") (codes "1000000") words) options.turns
   pub output_limit : IsLimitBy (value_of (codes "--output-limit") words) options.output_limit
   pub record_name : option_map (λ name. name.now) options.record ≡ value_of (codes "--record") words
   pub is_audited : options.is_audited ≡ has_option (codes "--audit") words
@@ -69,7 +69,7 @@ pub record AreSearchOptions (words : List (List ℕ)) (options : SearchOptions) 
   pub root : IsRootIn words options.root
   pub format : options.format ≡ format_in words
   pub sought : options.sought ≡ sought_named (value_or (codes "--for") (codes "any") words)
-  pub states : Writes (value_or (codes "--states") (codes "100000") words) options.states
+  pub states : WritesUpTo 10000000 (value_or (codes "--states") (codes "100000") words) options.states
   pub record_name : option_map (λ name. name.now) options.record ≡ value_of (codes "--record") words
   pub lists_outcomes : options.lists_outcomes ≡ has_option (codes "--outcomes") words
 

@@ -1,5 +1,5 @@
 -- The words after a command: options with their values, and what is given besides them.
-use Rattle.std.specs.Prelude.{ℕ, ◌≡◌, ◌==◌, ◌||◌, Bool, true, false, List, [], ◌∷◌, Option, Some, None, codes, if◌then◌else◌, length, slice_get, unwrap_or}
+use Rattle.std.specs.Prelude.{ℕ, ◌≡◌, ◌≤◌, ◌==◌, ◌||◌, Bool, true, false, List, [], ◌∷◌, Option, Some, None, codes, if◌then◌else◌, length, slice_get, unwrap_or}
 use Rattle.std.specs.Str.{bytes_eq}
 use Rattle.std.specs.Str.Parse.{IsNumeral, digits_value, without_leading_plus}
 
@@ -93,3 +93,9 @@ value_or option default words = unwrap_or (value_of option words) default
 abbrev pub Writes : List ℕ → ℕ → Type 0
 Writes text n =
     IsNumeral 10 (without_leading_plus text) × (digits_value 10 (without_leading_plus text) ≡ n)
+
+-- It writes the number, which is one from 1 to `most`.
+pub record WritesUpTo (most : ℕ) (text : List ℕ) (n : ℕ) : Type 0 where
+  pub writes : Writes text n
+  pub some : 1 ≤ n
+  pub few : n ≤ most

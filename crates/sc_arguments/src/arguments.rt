@@ -19,7 +19,7 @@ ghost use Rattle.sc_arguments.specs.Words.{given_in};
 use crate::arguments::format::read_format;
 use crate::arguments::formatting::{FORMATTING, read_formatting};
 use crate::arguments::given::given_in;
-use crate::arguments::numbers::{limit_by, number_in, small_number_in};
+use crate::arguments::numbers::{limit_by, number_up_to, small_number_up_to};
 use crate::arguments::options::{
     CODE, EXPLAIN, FILES, FLAG, FORMAT, KEPT, NO_EXPLAIN, OPTION, OUTPUT_LIMIT, RECORD, ROOT,
     TRACE, Taken, argument,
@@ -152,7 +152,13 @@ impl From<AllocError> for UsageFault {
 
 const DEFAULT_TURNS: &str = "1000000";
 
+/// The most turns that a run may make.
+const MOST_TURNS: u32 = 10_000_000;
+
 const DEFAULT_WORKERS: &str = "1";
+
+/// The most threads that may play the handlers.
+const MOST_WORKERS: u8 = 8;
 
 const ABOUT: &str = "Checks and runs systems of SCOOP classes";
 
@@ -519,11 +525,11 @@ fn read_run<'a, S: AsStr>(
 ) -> Result<RunOptions<'a>, UsageFault>
     ensures { IfOk result (AreRunOptions (map S.text words.entry.now)) }
 {
-    let workers = small_number_in(value_or(words, "--workers", DEFAULT_WORKERS))?;
+    let workers = small_number_up_to(MOST_WORKERS, value_or(words, "--workers", DEFAULT_WORKERS))?;
     Ok(RunOptions {
         root: read_root(alloc, words)?,
         workers,
-        turns: number_in(value_or(words, "--turns", DEFAULT_TURNS))?,
+        turns: number_up_to(MOST_TURNS, value_or(words, "--turns", DEFAULT_TURNS))?,
         output_limit: limit_by(value_of(words, "--output-limit"))?,
         record: value_of(words, "--record"),
         is_audited: has_option(words, "--audit"),

@@ -1,7 +1,7 @@
 //! Numbers that words write.
 
 ghost use Rattle.std.specs.Prelude.{IfOk, option_map};
-ghost use Rattle.sc_arguments.specs.Words.{Writes};
+ghost use Rattle.sc_arguments.specs.Words.{Writes, WritesUpTo};
 ghost use Rattle.sc_arguments.specs.Asked.{IsLimitBy};
 
 use crate::arguments::UsageFault;
@@ -26,6 +26,31 @@ pub fn small_number_in(text: &str) -> Result<u8, UsageFault>
     }
 }
 
+/// The number that a text writes, if it is one from 1 to `most`.
+pub fn number_up_to(most: u32, text: &str) -> Result<u32, UsageFault>
+    ensures { IfOk result (WritesUpTo most text.now) }
+{
+    let number = number_in(text)?;
+    if number == 0 || number > most {
+        return Err(UsageFault::TwoReadings);
+    }
+    Ok(number)
+}
+
+/// The number that a text writes, if it is one from 1 to `most`, which is at most 255.
+pub fn small_number_up_to(most: u8, text: &str) -> Result<u8, UsageFault>
+    ensures { IfOk result (WritesUpTo most text.now) }
+{
+    let number = small_number_in(text)?;
+    if number == 0 || number > most {
+        return Err(UsageFault::TwoReadings);
+    }
+    Ok(number)
+}
+
+/// The most bytes that may be printed before a run ends, if that is limited.
+const MOST_OUTPUT: u64 = 1_000_000_000_000;
+
 /// The limit that the value of an option writes, if it is used.
 pub fn limit_by(value: Option<&str>) -> Result<Option<u64>, UsageFault>
     ensures { IfOk result (IsLimitBy (option_map (λ text. text.now) value.entry)) }
@@ -34,7 +59,7 @@ pub fn limit_by(value: Option<&str>) -> Result<Option<u64>, UsageFault>
         return Ok(None);
     };
     match text.parse::<u64>() {
-        Ok(number) => Ok(Some(number)),
-        Err(_) => Err(UsageFault::TwoReadings),
+        Ok(number) if number <= MOST_OUTPUT => Ok(Some(number)),
+        _ => Err(UsageFault::TwoReadings),
     }
 }

@@ -6,7 +6,7 @@ ghost use Rattle.sc_arguments.specs.Asked.{AreSearchOptions};
 ghost use Rattle.sc_arguments.specs.Words.{value_or};
 
 use crate::arguments::format::{Format, read_format};
-use crate::arguments::numbers::number_in;
+use crate::arguments::numbers::number_up_to;
 use crate::arguments::options::{
     EXPLAIN, FILES, FLAG, FORMAT, KEPT, NO_EXPLAIN, OPTION, ROOT, Taken,
 };
@@ -50,6 +50,9 @@ pub enum Sought {
 const DEFAULT_SOUGHT: &str = "any";
 
 const DEFAULT_STATES: &str = "100000";
+
+/// The most states that a search may keep.
+const MOST_STATES: u32 = 10_000_000;
 
 const SOUGHT: [&str; 4] = ["stuck", "fails", "refused", "any"];
 
@@ -161,7 +164,7 @@ pub fn read_search<'a, S: AsStr>(
     Ok(SearchOptions {
         root: read_root(alloc, words)?,
         sought: read_sought(words),
-        states: number_in(value_or(words, "--states", DEFAULT_STATES))?,
+        states: number_up_to(MOST_STATES, value_or(words, "--states", DEFAULT_STATES))?,
         record: value_of(words, "--record"),
         lists_outcomes: has_option(words, "--outcomes"),
         is_explained,
