@@ -88,6 +88,7 @@ pub fn read_beginning<R: Read>(
 ) -> Result<Vec<u8>, FileFault>
     ensures ok { IfOk result (λ beginning. IfSome (R.remaining reader.old) (λ told. beginning.items ≡ take most told)) }
     ensures fault { IfErr result IsReaderFault }
+    ensures taken { TakesAtMost most (R.remaining reader.old) (R.remaining reader.new) }
 {
     let mut bytes = Vec::new(alloc);
     for _ in 0..u64::MAX {

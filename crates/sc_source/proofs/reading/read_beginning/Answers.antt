@@ -1,5 +1,5 @@
-use Rattle.std.proofs.Common.{rules, ◌≤◌, length}
-use Rattle.sc_source.proofs.JoiningLemmas.{beginning-taken, beginning-whole, whole-told}
+use Rattle.std.proofs.Common.{rules, ◌≤◌, length, arith}
+use Rattle.sc_source.proofs.JoiningLemmas.{beginning-taken, beginning-whole, takes-in-all, whole-told}
 use Rattle.sc_source.proofs.reading.read_beginning.Goals as goal
 
 -- as many were given as are asked for
@@ -16,3 +16,17 @@ returns-in-End-clause-ok g c =
     beginning-whole c.args.most _ c.read_block.new.bytes.items
     (whole-told _ _ _ _ c.loop.bytes.items c.read_block.new.bytes.items c.loop.invariant.taken c.read_block.ensures.taken at_end.1)
     short
+
+-- no more was given in all than is asked for
+pub returns-then-len-most-clause-taken : goal.returns-then-len-most-clause-taken
+returns-then-len-most-clause-taken g c = (c.loop.bytes.items, (c.loop.invariant.within, c.loop.invariant.taken))
+
+pub returns-in_err-read_block-clause-taken : goal.returns-in_err-read_block-clause-taken
+returns-in_err-read_block-clause-taken g c =
+    takes-in-all c.args.most _ _ _ _ c.loop.bytes.items c.read_block.new.bytes.items c.loop.invariant.taken c.read_block.ensures.taken
+    (omega (arith, c.loop.invariant.within))
+
+pub returns-in-End-clause-taken : goal.returns-in-End-clause-taken
+returns-in-End-clause-taken g c =
+    takes-in-all c.args.most _ _ _ _ c.loop.bytes.items c.read_block.new.bytes.items c.loop.invariant.taken c.read_block.ensures.taken
+    (omega (arith, c.loop.invariant.within))
