@@ -3,11 +3,11 @@
 use crate::declared::class_around;
 use sc_explain_text::{Lines, is_slip, push_instead_of, push_meant, push_near_built_in, word_at};
 use sc_text::Span;
-use sc_tree::{Class, ClassMark, System};
+use sc_tree::{Class, ClassMark};
 
 /// Adds what is written in place of a part of Eiffel that is left out.
-pub fn push_left_out(lines: &mut Lines, text: &str, system: &System, span: Span) {
-    let Some((_, class)) = class_around(&system.classes, span) else {
+pub fn push_left_out(lines: &mut Lines, text: &str, classes: &[Class], span: Span) {
+    let Some((_, class)) = class_around(classes, span) else {
         return;
     };
     match &class.mark {
@@ -31,11 +31,11 @@ fn help_of_left_out(class: &Class, span: Span) -> &'static str {
 
 /// Adds a line that asks whether another class was meant, or else what is written in place of what this name shows: the
 /// first class in the text whose name one slip of the pen makes this one.
-pub fn push_near_class(lines: &mut Lines, text: &str, system: &System, name: &str) {
+pub fn push_near_class(lines: &mut Lines, text: &str, classes: &[Class], name: &str) {
     if push_instead_of(lines, name) {
         return;
     }
-    for class in system.classes.iter() {
+    for class in classes {
         if is_slip(class.name.text.as_bytes(), name.as_bytes()) {
             return push_meant(lines, word_at(text, class.name.span));
         }

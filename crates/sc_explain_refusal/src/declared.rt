@@ -1,13 +1,14 @@
 //! The names that a system declares.
 
 use sc_text::Span;
-use sc_tree::{Class, Declaration, Feature, FeatureKind, Name, Routine, System};
+use sc_tree::{Class, Declaration, Feature, FeatureKind, Name, Routine};
 
 /// The place of another class of the name at fault.
-pub fn other_class(system: &System, name: &str, span: Span) -> Option<Span> {
-    for class in system.classes.iter() {
-        if is_other(&class.name, name, span) {
-            return Some(class.name.span);
+pub fn other_class(classes: &[Class], name: &str, span: Span) -> Option<Span> {
+    for class in classes {
+        let found = other_name(&class.name, name, span);
+        if found.is_some() {
+            return found;
         }
     }
     None
@@ -15,27 +16,40 @@ pub fn other_class(system: &System, name: &str, span: Span) -> Option<Span> {
 
 /// The place of another declaration of the name at fault: that of a feature of the class, an ancestor or an heir, or
 /// of a formal or a local of the routine, or of any routine of these classes if the fault is at a feature.
-pub fn other_entity(system: &System, name: &str, span: Span) -> Option<Span> {
-    let Some((_, class)) = class_around(&system.classes, span) else {
+pub fn other_entity(classes: &[Class], name: &str, span: Span) -> Option<Span> {
+    let Some((_, class)) = class_around(classes, span) else {
         return None;
     };
-    let inherited = other_feature(system, class, name, span);
-    if inherited.is_some() {
-        return inherited;
+    let named = other_in_family(classes, class, name, span, false);
+    if named.is_some() {
+        return named;
     }
     match feature_around(class, span) {
         None => None,
-        Some(around) if around.name.span == span => other_in_heirs(system, class, name, span),
+        Some(around) if around.name.span == span => {
+            other_in_family(classes, class, name, span, true)
+        }
         Some(around) => other_in_routine(around, name, span),
     }
 }
 
-/// The place of a formal or a local of the name, of the class or an heir.
-fn other_in_heirs(system: &System, class: &Class, name: &str, span: Span) -> Option<Span> {
-    for heir in system.classes.iter() {
-        if inherits(system, heir, class) {
-            for feature in heir.features.iter() {
-                let found = other_in_routine(feature, name, span);
+/// The place of another feature of the name in the class, its ancestors and heirs; or else inside of features, that of a
+/// formal or a local in the class and its heirs.
+fn other_in_family(
+    classes: &[Class],
+    class: &Class,
+    name: &str,
+    span: Span,
+    is_inside: bool,
+) -> Option<Span> {
+    for other in classes {
+        if inherits(classes, other, class) || !is_inside && inherits(classes, class, other) {
+            for feature in other.features.iter() {
+                let found = if is_inside {
+                    other_in_routine(feature, name, span)
+                } else {
+                    other_name(&feature.name, name, span)
+                };
                 if found.is_some() {
                     return found;
                 }
@@ -45,28 +59,14 @@ fn other_in_heirs(system: &System, class: &Class, name: &str, span: Span) -> Opt
     None
 }
 
-/// The place of another feature of the name, of the class, an ancestor or an heir.
-fn other_feature(system: &System, class: &Class, name: &str, span: Span) -> Option<Span> {
-    for other in system.classes.iter() {
-        if inherits(system, class, other) || inherits(system, other, class) {
-            for feature in other.features.iter() {
-                if is_other(&feature.name, name, span) {
-                    return Some(feature.name.span);
-                }
-            }
-        }
-    }
-    None
-}
-
 /// Whether one class is the other, or its first parent inherits from it so.
-pub fn inherits(system: &System, heir: &Class, ancestor: &Class) -> bool {
+pub fn inherits(classes: &[Class], heir: &Class, ancestor: &Class) -> bool {
     let mut class = heir;
-    for _ in system.classes.iter() {
+    for _ in classes {
         if class.name.text == ancestor.name.text {
             return true;
         }
-        let Some(parent) = parent_of(system, class) else {
+        let Some(parent) = parent_of(classes, class) else {
             return false;
         };
         class = parent;
@@ -83,14 +83,6 @@ pub fn feature_around(class: &Class, span: Span) -> Option<&Feature> {
         }
     }
     around
-}
-
-/// The routine that this feature is, if it is one.
-pub fn routine_around(class: &Class, span: Span) -> Option<&Routine> {
-    match feature_around(class, span) {
-        None => None,
-        Some(feature) => routine_of(feature),
-    }
 }
 
 /// The routine that a feature is, if it is one.
@@ -115,16 +107,21 @@ fn other_in_routine(feature: &Feature, name: &str, span: Span) -> Option<Span> {
 
 fn other_declared(declarations: &[Declaration], name: &str, span: Span) -> Option<Span> {
     for declaration in declarations {
-        if is_other(&declaration.name, name, span) {
-            return Some(declaration.name.span);
+        let found = other_name(&declaration.name, name, span);
+        if found.is_some() {
+            return found;
         }
     }
     None
 }
 
-/// Whether a name equals the one at fault and has another place.
-fn is_other(declared: &Name, name: &str, span: Span) -> bool {
-    declared.span != span && declared.text.eq_ignore_ascii_case(name)
+/// The place of a name, if it equals the one at fault and has another place.
+fn other_name(declared: &Name, name: &str, span: Span) -> Option<Span> {
+    if declared.span != span && declared.text.eq_ignore_ascii_case(name) {
+        Some(declared.span)
+    } else {
+        None
+    }
 }
 
 /// The class that contains a part of the text, with its number.
@@ -138,11 +135,11 @@ pub fn class_around(classes: &[Class], span: Span) -> Option<(usize, &Class)> {
 }
 
 /// The class that a class names as its first parent, if the system has it.
-pub fn parent_of<'s>(system: &'s System, class: &Class) -> Option<&'s Class> {
+pub fn parent_of<'s>(classes: &'s [Class], class: &Class) -> Option<&'s Class> {
     let Some(parent) = class.parents.first() else {
         return None;
     };
-    for other in system.classes.iter() {
+    for other in classes {
         if other.name.text == parent.name.text {
             return Some(other);
         }
@@ -161,14 +158,18 @@ pub fn declared_in<'s>(class: &'s Class, name: &str) -> Option<&'s Feature> {
 }
 
 /// The feature of this name that a class declares or inherits.
-pub fn feature_named<'s>(system: &'s System, class: &'s Class, name: &str) -> Option<&'s Feature> {
+pub fn feature_named<'s>(
+    classes: &'s [Class],
+    class: &'s Class,
+    name: &str,
+) -> Option<&'s Feature> {
     let mut class = class;
-    for _ in system.classes.iter() {
+    for _ in classes {
         let declared = declared_in(class, name);
         if declared.is_some() {
             return declared;
         }
-        let Some(parent) = parent_of(system, class) else {
+        let Some(parent) = parent_of(classes, class) else {
             return None;
         };
         class = parent;

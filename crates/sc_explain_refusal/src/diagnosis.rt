@@ -5,8 +5,8 @@ use crate::declared::{other_class, other_entity};
 use crate::redefinition::{push_redefine, push_unfit};
 use crate::root::explain_root;
 use crate::sentences::text_of;
-use crate::told::RuleFault;
-use crate::words::{fill_part, part_of};
+use crate::site::{Found, Search};
+use crate::words::{Spot, fill_part, part_of};
 use sc_class::Root;
 use sc_explain_text::{
     Lines, Related, explain_character, explain_grammar, let_go, system_of, word_at,
@@ -98,7 +98,7 @@ impl<'s> Refusal<'s> {
     /// Adds what can be said if the text spells this system.
     fn tell_of_system(&self, alloc: Global, lines: &mut Lines, system: &System) {
         match self.code {
-            RefusalCode::NoRoot => explain_root(lines, self.text, system, self.root),
+            RefusalCode::NoRoot => explain_root(lines, self.text, &system.classes, self.root),
             RefusalCode::Rule(rule) => self.tell_of_rule(alloc, lines, system, rule),
             code => {
                 self.push_sentence(lines);
@@ -114,12 +114,17 @@ impl<'s> Refusal<'s> {
         let name = word_at(text, span);
         let is_unknown = matches!(rule, Rule::UnknownName);
         if !(is_unknown && name.eq_ignore_ascii_case("print")) {
-            RuleFault { text, rule, span }.push_told(alloc, lines, system, self.root)
+            let search = Search {
+                rule,
+                spot: Spot::of(text, span),
+                found: Found::Nothing,
+            };
+            search.push_told(alloc, lines, system, self.root)
         }
         if lines.is_empty() {
             self.push_sentence(lines);
             if is_unknown {
-                push_near_class(lines, text, system, name)
+                push_near_class(lines, text, &system.classes, name)
             }
         }
     }
@@ -129,11 +134,11 @@ impl<'s> Refusal<'s> {
         let Refusal { text, span, .. } = *self;
         match code {
             RefusalCode::UnknownParent => {
-                push_near_class(lines, text, system, word_at(text, span))
+                push_near_class(lines, text, &system.classes, word_at(text, span))
             }
-            RefusalCode::DuplicateFeature => push_redefine(lines, text, system, span),
-            RefusalCode::BadRedefinition => push_unfit(lines, system, span),
-            RefusalCode::LeftOut => push_left_out(lines, text, system, span),
+            RefusalCode::DuplicateFeature => push_redefine(lines, text, &system.classes, span),
+            RefusalCode::BadRedefinition => push_unfit(lines, &system.classes, span),
+            RefusalCode::LeftOut => push_left_out(lines, text, &system.classes, span),
             _ => {}
         }
     }
@@ -142,9 +147,9 @@ impl<'s> Refusal<'s> {
     fn other_declaration(&self, system: &System) -> Option<Related> {
         let name = word_at(self.text, self.span);
         let other = match self.code {
-            RefusalCode::DuplicateClass => other_class(system, name, self.span),
+            RefusalCode::DuplicateClass => other_class(&system.classes, name, self.span),
             RefusalCode::DuplicateFeature | RefusalCode::BadRedefinition => {
-                other_entity(system, name, self.span)
+                other_entity(&system.classes, name, self.span)
             }
             _ => None,
         };

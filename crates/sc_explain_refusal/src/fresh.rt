@@ -1,17 +1,19 @@
 //! A name that is known nowhere in a text.
 
 /// The names that are tried, in order.
-const NAMES: &str =
-    "x y z it one other known found x1 x2 x3 x4 x5 x6 x7 x8 x9 y1 y2 y3 y4 y5 y6 y7";
+const NAMES: &[&str] = &[
+    "x", "y", "z", "it", "one", "other", "known", "found", "x1", "x2", "x3", "x4", "x5", "x6",
+    "x7", "x8", "x9", "y1", "y2", "y3", "y4", "y5", "y6", "y7",
+];
 
 /// The first of the known names that the text doesn't contain, after `but` others; nothing if it contains all of
 /// them.
 pub fn fresh_name(text: &str, but: usize) -> &'static str {
     let mut left = but;
-    for name in NAMES.split(' ') {
+    for name in NAMES {
         if !has_word(text.as_bytes(), name.as_bytes()) {
             if left == 0 {
-                return name;
+                return *name;
             }
             left -= 1;
         }

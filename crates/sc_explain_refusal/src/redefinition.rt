@@ -5,11 +5,11 @@ use crate::declared::{
 };
 use sc_explain_text::{Lines, word_at};
 use sc_text::Span;
-use sc_tree::{Class, Feature, Name, System};
+use sc_tree::{Class, Feature, Name};
 
 /// Adds how a feature is declared that has the name of one of an ancestor or an heir, if the one at fault does.
-pub fn push_redefine(lines: &mut Lines, text: &str, system: &System, span: Span) {
-    let Some((_, class)) = class_around(&system.classes, span) else {
+pub fn push_redefine(lines: &mut Lines, text: &str, classes: &[Class], span: Span) {
+    let Some((_, class)) = class_around(classes, span) else {
         return;
     };
     let Some(feature) = feature_around(class, span) else {
@@ -18,14 +18,14 @@ pub fn push_redefine(lines: &mut Lines, text: &str, system: &System, span: Span)
     if feature.name.span != span {
         return;
     }
-    for other in system.classes.iter() {
+    for other in classes {
         if other.span != class.span
             && let Some(known) = declared_in(other, feature.name.as_str())
         {
-            if inherits(system, class, other) {
+            if inherits(classes, class, other) {
                 return push_for_heir(lines, text, class, known, feature);
             }
-            if inherits(system, other, class) {
+            if inherits(classes, other, class) {
                 return push_for_heir(lines, text, other, feature, known);
             }
         }
@@ -52,22 +52,22 @@ fn push_for_heir(lines: &mut Lines, text: &str, heir: &Class, inherited: &Featur
 }
 
 /// Adds what a redefinition at fault lacks, if it is known.
-pub fn push_unfit(lines: &mut Lines, system: &System, span: Span) {
-    let Some((_, class)) = class_around(&system.classes, span) else {
+pub fn push_unfit(lines: &mut Lines, classes: &[Class], span: Span) {
+    let Some((_, class)) = class_around(classes, span) else {
         return;
     };
     lines.push(match feature_around(class, span) {
-        Some(feature) if feature.name.span == span => help_for_feature(system, class, feature),
-        _ => help_for_listed(system, class, span),
+        Some(feature) if feature.name.span == span => help_for_feature(classes, class, feature),
+        _ => help_for_listed(classes, class, span),
     })
 }
 
 /// What helps with a name under `redefine`.
-fn help_for_listed(system: &System, class: &Class, span: Span) -> &'static str {
+fn help_for_listed(classes: &[Class], class: &Class, span: Span) -> &'static str {
     let Some(name) = listed_at(class, span) else {
         return "help: a name under `redefine` is one of the parent's routines\n";
     };
-    if inherited(system, class, name).is_none() {
+    if inherited(classes, class, name).is_none() {
         "help: the parent has no such feature: leave it out under `redefine`\n"
     } else if declared_in(class, name.as_str()).is_none() {
         "help: the class declares no feature of this name: declare one, or leave it out under `redefine`\n"
@@ -77,11 +77,11 @@ fn help_for_listed(system: &System, class: &Class, span: Span) -> &'static str {
 }
 
 /// What helps with a feature that redefines another.
-fn help_for_feature(system: &System, class: &Class, feature: &Feature) -> &'static str {
+fn help_for_feature(classes: &[Class], class: &Class, feature: &Feature) -> &'static str {
     let Some(routine) = routine_of(feature) else {
         return "help: an attribute redefines nothing: give it another name\n";
     };
-    if let Some(known) = inherited(system, class, &feature.name)
+    if let Some(known) = inherited(classes, class, &feature.name)
         && routine_of(known).is_none()
     {
         return "help: an attribute isn't redefined: give the routine another name\n";
@@ -106,9 +106,9 @@ fn listed_at(class: &Class, span: Span) -> Option<&Name> {
 }
 
 /// The feature of this name that a class inherits.
-fn inherited<'s>(system: &'s System, class: &Class, name: &Name) -> Option<&'s Feature> {
-    match parent_of(system, class) {
+fn inherited<'s>(classes: &'s [Class], class: &Class, name: &Name) -> Option<&'s Feature> {
+    match parent_of(classes, class) {
         None => None,
-        Some(parent) => feature_named(system, parent, name.as_str()),
+        Some(parent) => feature_named(classes, parent, name.as_str()),
     }
 }

@@ -3,18 +3,18 @@
 use crate::declared::feature_named;
 use sc_class::Root;
 use sc_explain_text::{Lines, word_at};
-use sc_tree::{Class, Feature, FeatureKind, System};
+use sc_tree::{Class, Feature, FeatureKind};
 
 /// Adds why the system of a text isn't run from this root, and what helps.
-pub fn explain_root(lines: &mut Lines, text: &str, system: &System, root: &Root) {
-    for class in system.classes.iter() {
+pub fn explain_root(lines: &mut Lines, text: &str, classes: &[Class], root: &Root) {
+    for class in classes {
         if class.name.text.eq_ignore_ascii_case(&root.class) {
-            return push_unfit(lines, text, system, class, root);
+            return push_unfit(lines, text, classes, class, root);
         }
     }
     let template = "no class is called `~`, in any letter case\n";
     lines.fill_name(template, root.class.as_str());
-    push_other_root(lines, text, system, root)
+    push_other_root(lines, text, classes, root)
 }
 
 /// How a name that a class may have stands to the root of a run.
@@ -50,15 +50,15 @@ fn standing_of(feature: Option<&Feature>) -> Standing {
 fn push_unfit<'s>(
     lines: &mut Lines,
     text: &str,
-    system: &'s System,
+    classes: &'s [Class],
     class: &'s Class,
     root: &Root,
 ) {
     let procedure = root.procedure.as_str();
-    let standing = standing_of(feature_named(system, class, procedure));
+    let standing = standing_of(feature_named(classes, class, procedure));
     let names = [procedure, word_at(text, class.name.span)];
     lines.fill(text_of(standing), &names);
-    if !push_other_procedure(lines, text, system, class) {
+    if !push_other_procedure(lines, text, classes, class) {
         lines.push(help_of(standing))
     }
 }
@@ -89,11 +89,11 @@ fn help_of(standing: Standing) -> &'static str {
 fn push_other_procedure<'s>(
     lines: &mut Lines,
     text: &str,
-    system: &'s System,
+    classes: &'s [Class],
     class: &'s Class,
 ) -> bool {
     for creator in class.creators.iter() {
-        let feature = feature_named(system, class, creator.as_str());
+        let feature = feature_named(classes, class, creator.as_str());
         if let Standing::Procedure = standing_of(feature) {
             let names = [word_at(text, class.name.span), word_at(text, creator.span)];
             lines.fill("help: `--root ~.~` runs it from there\n", &names);
@@ -104,9 +104,9 @@ fn push_other_procedure<'s>(
 }
 
 /// Adds the first class that the system can be run from, or how one is declared.
-fn push_other_root(lines: &mut Lines, text: &str, system: &System, root: &Root) {
-    for class in system.classes.iter() {
-        if push_other_procedure(lines, text, system, class) {
+fn push_other_root(lines: &mut Lines, text: &str, classes: &[Class], root: &Root) {
+    for class in classes {
+        if push_other_procedure(lines, text, classes, class) {
             return;
         }
     }

@@ -1,6 +1,6 @@
 //! The part of a text that a rule fails at.
 
-use crate::walk::Walk;
+use crate::words::Spot;
 use sc_rules::{Context, Rule};
 use sc_text::Span;
 use sc_tree::{
@@ -42,7 +42,7 @@ pub(crate) enum Part<'s> {
     Target(&'s Expr),
 }
 
-/// The state of a walk.
+/// What a search has found.
 #[derive(Clone, Copy)]
 pub(crate) enum Found<'s> {
     /// Nothing as yet.
@@ -78,15 +78,24 @@ fn fails_at(rule: Rule, part: Part<'_>) -> bool {
     }
 }
 
-impl<'s> Walk<'s> {
+/// A search for the part of a text at which a rule fails.
+#[derive(Clone, Copy)]
+pub(crate) struct Search<'s> {
+    pub rule: Rule,
+    /// The part at fault, at the position that the search has reached.
+    pub spot: Spot<'s>,
+    pub found: Found<'s>,
+}
+
+impl<'s> Search<'s> {
     /// Passes a part: it is the one at fault if it has the place of the fault, and the rule may fail at it.
     pub(crate) fn pass(&mut self, context: Context, span: Span, part: Part<'s>) {
         if let Found::Nothing = self.found
-            && self.span == span
+            && self.spot.span == span
             && fails_at(self.rule, part)
         {
-            self.context = context;
-            self.found = Found::At(part, self.place);
+            self.spot.context = context;
+            self.found = Found::At(part, self.spot.place);
         }
     }
 
@@ -153,12 +162,20 @@ impl<'s> Walk<'s> {
             Instr::Assign(_, variable, value) => {
                 let part = Part::Assigned(variable, value);
                 self.pass(Context::Body, value.span(), part);
-                self.pass_variable(variable);
+                self.pass(
+                    Context::Body,
+                    variable_span(variable),
+                    Part::Assignee(variable),
+                );
                 self.pass_expression(Context::Body, value)
             }
             Instr::Call(call) => self.pass_call(Context::Body, call),
             Instr::Create(_, variable, call) => {
-                self.pass_variable(variable);
+                self.pass(
+                    Context::Body,
+                    variable_span(variable),
+                    Part::Assignee(variable),
+                );
                 if let Some(call) = call {
                     self.pass_creation(variable, call)
                 }
@@ -166,12 +183,6 @@ impl<'s> Walk<'s> {
             Instr::Check(_, clauses) => self.pass_clauses(Context::Check, clauses),
             _ => {}
         }
-    }
-
-    /// Passes the entity that is assigned or created.
-    fn pass_variable(&mut self, variable: &'s Variable) {
-        let span = variable_span(variable);
-        self.pass(Context::Body, span, Part::Assignee(variable))
     }
 
     /// Passes the heads of a separate block. None of the block's names is in scope in them.

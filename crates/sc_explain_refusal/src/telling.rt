@@ -1,84 +1,94 @@
 //! What can be said about a part that a rule fails at: a sentence with the types that are compared or the numbers
 //! that differ, and what helps. Nothing, if the types and numbers that are found there don't explain the fault.
 
+use crate::helps::{Between, Maker};
 use crate::site::Part;
-use crate::types::{type_found, type_of_actual};
+use crate::types::{Compared, Mismatch, type_found, type_of_actual};
 use crate::walk::Walk;
+use crate::words::{NamedType, class_name, handler_name, push_type};
+use sc_class::{ClassId, Tables};
 use sc_explain_text::{Lines, binary_spelling};
-use sc_rules::entity_types::{EntityType, Tag};
+use sc_rules::entity_types::{EntityType, Tag, conforms};
 use sc_rules::{Context, Position, Role, Rule};
 use sc_tree::{BinaryOperator, Call, CreationCall, Expr, UnaryOperator, Variable};
 use sc_typing::{
-    Formals, JudgedActual, Meaning, Signature, is_boolean, judge_binary, judge_unary,
+    Entity, Formals, JudgedActual, Meaning, Signature, is_boolean, judge_binary, judge_unary,
     operand_context, operand_position, simple_typing,
 };
 
 impl<'s> Walk<'s> {
     /// Adds what can be said about the part that was found.
     pub(crate) fn tell(&mut self, lines: &mut Lines, part: Part<'s>) {
+        let spot = self.search.spot;
         match part {
             Part::Call(call, actual) => self.tell_call(lines, call, actual),
             Part::Creation(created, call, actual) => {
                 self.tell_creation(lines, created, call, actual)
             }
             Part::Assignee(variable) => self.tell_assignee(lines, variable),
-            Part::Assigned(variable, value) => self.tell_assigned(lines, variable, value),
-            Part::Head(value) => self.tell_head(lines, value),
-            Part::Condition(e) => self.tell_condition(lines, e),
+            Part::Assigned(variable, value) => {
+                let mismatch = self.assigned_types(lines, variable, value);
+                self.push_mismatch(lines, mismatch, ", and `~` takes ")
+            }
+            Part::Head(value) => {
+                if let Some(types) = self.head_types(lines, value) {
+                    spot.push_head(lines, self.named(types.given))
+                }
+            }
+            Part::Condition(e) => {
+                if let Some(given) = self.type_of_condition(lines, e)
+                    && !is_boolean(given.class)
+                {
+                    spot.push_given(lines, self.named(given), ", and BOOLEAN is wanted here\n")
+                }
+            }
             Part::Unary(operator, operand) => self.tell_unary(lines, operator, operand),
             Part::Binary(operator, left, right) => self.tell_binary(lines, operator, left, right),
-            Part::Target(target) => self.tell_target(lines, target),
-        }
-    }
-
-    fn tell_assigned(&self, lines: &mut Lines, variable: &Variable, value: &Expr) {
-        if let Some(mismatch) = self.assigned_types(lines, variable, value) {
-            self.push_mismatch(lines, &mismatch, ", and `~` takes ")
-        }
-    }
-
-    fn tell_head(&self, lines: &mut Lines, value: &Expr) {
-        if let Some(types) = self.head_types(lines, value) {
-            let wanted = ", and a separate block takes an attached reference\n";
-            self.push_given(lines, types.given, wanted);
-            if !types.given.attached {
-                self.push_question(lines, types.given, true)
+            Part::Target(target) => {
+                if let Some(given) = self.type_of(lines, spot.context, Position::Plain, target) {
+                    spot.push_target(lines, self.named(given))
+                }
             }
         }
     }
 
-    fn tell_condition(&mut self, lines: &mut Lines, e: &'s Expr) {
-        if let Some(given) = self.type_of_condition(lines, e)
-            && !is_boolean(given.class)
-        {
-            self.push_given(lines, given, ", and BOOLEAN is wanted here\n")
+    /// A type with the names that are in it.
+    fn named(&self, given: EntityType) -> NamedType<'s> {
+        let text = self.search.spot.text;
+        let routine = &self.routine;
+        NamedType {
+            entity_type: given,
+            class: class_name(text, routine.tables, given.class),
+            handler: handler_name(text, routine.formals, &self.names, given.tag),
         }
     }
 
-    fn tell_target(&self, lines: &mut Lines, target: &Expr) {
-        let Some(given) = self.type_of(lines, self.context, Position::Plain, target) else {
-            return;
-        };
-        if given.attached {
-            self.say(lines, "`~` may lie on a handler that isn't reserved\n");
-            self.push_reservation(lines, given)
-        } else {
-            self.say(lines, "`~` may be Void\n");
-            let is_reserved = matches!(given.tag, Tag::Own | Tag::With(_));
-            self.push_question(lines, given, is_reserved)
+    /// Adds which types don't fit, if they don't, with this text on what would be taken.
+    fn push_mismatch(&self, lines: &mut Lines, mismatch: Option<Mismatch>, taking: &str) {
+        if let Some(mismatch) = mismatch {
+            let Compared { given, taken } = mismatch.types;
+            self.search.spot.push_unfit(
+                lines,
+                mismatch,
+                self.named(given),
+                self.named(taken),
+                between(self.routine.tables, given, taken),
+                taking,
+            )
         }
     }
 
     fn tell_unary(&self, lines: &mut Lines, operator: UnaryOperator, operand: &Expr) {
-        if let Rule::OldPlace = self.rule {
-            return self.say(lines, text_of_old(self.context));
+        let spot = self.search.spot;
+        if let Rule::OldPlace = self.search.rule {
+            return spot.say(lines, text_of_old(spot.context));
         }
-        let around = operand_context(operator, self.context);
+        let around = operand_context(operator, spot.context);
         if let Some(given) = self.type_of(lines, around, Position::Plain, operand) {
-            let judged = judge_unary(self.context, self.span, operator, simple_typing(given));
+            let judged = judge_unary(spot.context, spot.span, operator, simple_typing(given));
             if type_found(lines, judged).is_none() {
                 lines.push(text_of_unary(operator));
-                self.push_type(lines, given, "\n")
+                push_type(lines, self.named(given), "\n")
             }
         }
     }
@@ -90,28 +100,27 @@ impl<'s> Walk<'s> {
         left: &'s Expr,
         right: &'s Expr,
     ) {
-        let Some(left) = self.type_of_operand(lines, operator, left) else {
-            return;
-        };
-        let Some(right) = self.type_of_operand(lines, operator, right) else {
-            return;
-        };
-        let judged = judge_binary(
-            self.span,
-            operator,
-            simple_typing(left),
-            simple_typing(right),
-        );
-        if type_found(lines, judged).is_none() {
-            lines.fill_name(text_of_binary(operator), binary_spelling(operator));
-            self.push_type(lines, left, " and of type ");
-            self.push_type(lines, right, "\n")
+        if let Some(left) = self.type_of_operand(lines, operator, left)
+            && let Some(right) = self.type_of_operand(lines, operator, right)
+        {
+            let judged = judge_binary(
+                self.search.spot.span,
+                operator,
+                simple_typing(left),
+                simple_typing(right),
+            );
+            if type_found(lines, judged).is_none() {
+                lines.fill_name(text_of_binary(operator), binary_spelling(operator));
+                push_type(lines, self.named(left), " and of type ");
+                push_type(lines, self.named(right), "\n")
+            }
         }
     }
 
     /// The type of a condition, if it has one; the names that it binds are in scope after it.
     fn type_of_condition(&mut self, lines: &mut Lines, e: &'s Expr) -> Option<EntityType> {
-        let judged = self.routine.condition(self.context, &mut self.names, e);
+        let context = self.search.spot.context;
+        let judged = self.routine.condition(context, &mut self.names, e);
         type_found(lines, judged)
     }
 
@@ -125,17 +134,22 @@ impl<'s> Walk<'s> {
         if operator.is_and_then() {
             self.type_of_condition(lines, operand)
         } else {
-            self.type_of(lines, self.context, operand_position(operator), operand)
+            let context = self.search.spot.context;
+            self.type_of(lines, context, operand_position(operator), operand)
         }
     }
 
     /// Of what is assigned or created, by the rule that fails.
     fn tell_assignee(&self, lines: &mut Lines, variable: &Variable) {
-        match self.rule {
-            Rule::NotAssignable => self.push_fixed(lines, self.role_of(variable)),
+        match self.search.rule {
+            Rule::NotAssignable => {
+                let role = role_of(&self.names, variable);
+                self.search.spot.push_fixed(lines, role)
+            }
             Rule::NotCreation => {
                 if let Some(created) = self.type_of_variable(variable) {
-                    self.push_unmade(lines, created.class)
+                    let maker = self.maker_of(created.class);
+                    self.search.spot.push_unmade(lines, maker)
                 }
             }
             Rule::UnknownName => self.push_unknown(lines),
@@ -143,22 +157,31 @@ impl<'s> Walk<'s> {
         }
     }
 
-    /// The role of the entity with this name that is in scope here, if it is one's.
-    fn role_of(&self, variable: &Variable) -> Option<Role> {
-        let Variable::Named(name) = variable else {
-            return None;
+    /// A class, as it makes its objects.
+    fn maker_of(&self, class: ClassId) -> Maker<'s> {
+        let tables = self.routine.tables;
+        let first = match class {
+            ClassId::Declared(number) => tables.creators(number).first(),
+            _ => None,
         };
-        for known in self.names.iter() {
-            if known.name == name.as_str() {
-                return Some(known.role);
-            }
+        Maker {
+            class,
+            name: class_name(self.search.spot.text, tables, class),
+            first: match first {
+                Some(first) => Some(first.as_str()),
+                None => None,
+            },
         }
-        None
     }
 
     /// Of the name of a call, or of its actual at a number.
     fn tell_call(&self, lines: &mut Lines, call: &Call, actual: Option<usize>) {
-        let target = self.type_of_target(lines, call);
+        let target = match &call.target {
+            None => None,
+            Some(target) => {
+                self.type_of(lines, self.search.spot.context, Position::Plain, target)
+            }
+        };
         let meaning = self
             .routine
             .meaning_of(&self.names, &call.target, target, &call.name);
@@ -196,33 +219,26 @@ impl<'s> Walk<'s> {
         actuals: usize,
         is_creation: bool,
     ) {
-        match (self.rule, meaning, target) {
+        let spot = self.search.spot;
+        match (self.search.rule, meaning, target) {
             (Rule::NotCreation, _, Some(created)) if is_creation => {
-                self.push_unlisted(lines, created.class)
+                spot.push_unlisted(lines, self.maker_of(created.class))
             }
             (Rule::UnknownName, Meaning::Unknown, None) => self.push_unknown(lines),
             (Rule::UnknownName, Meaning::Unknown, Some(target)) => {
                 self.push_lacking(lines, target.class)
             }
             (Rule::WrongArity, Meaning::Named(called), _) => {
-                self.tell_arity(lines, called.formals, actuals)
+                let taken = match called.formals {
+                    Formals::Declared(formals) => formals.len(),
+                    Formals::Printed => 1,
+                };
+                spot.push_arity(lines, taken, actuals)
             }
             (Rule::ResultType, Meaning::Named(called), _) => {
-                self.say(lines, text_of_result(called.gives.is_some(), is_creation))
+                spot.say(lines, text_of_result(called.gives.is_some(), is_creation))
             }
             _ => {}
-        }
-    }
-
-    /// Of how many actuals are taken for these formals, and how many are given.
-    fn tell_arity(&self, lines: &mut Lines, formals: Formals<'_>, given: usize) {
-        let taken = match formals {
-            Formals::Declared(formals) => formals.len(),
-            Formals::Printed => 1,
-        };
-        if taken != given {
-            self.say(lines, "`~` takes ");
-            push_arity(lines, taken, given)
         }
     }
 
@@ -239,7 +255,7 @@ impl<'s> Walk<'s> {
         };
         match self
             .routine
-            .judged_actuals(self.context, &self.names, actuals)
+            .judged_actuals(self.search.spot.context, &self.names, actuals)
         {
             Ok(found) => self.tell_found(lines, called, &found, number),
             Err(fault) => {
@@ -261,45 +277,58 @@ impl<'s> Walk<'s> {
         };
         match called.formals {
             Formals::Printed if given.is_expanded() => {}
-            Formals::Printed => {
-                let wanted = ", and `print` takes an INTEGER or a BOOLEAN\n";
-                self.push_given(lines, given, wanted)
-            }
+            Formals::Printed => self.search.spot.push_given(
+                lines,
+                self.named(given),
+                ", and `print` takes an INTEGER or a BOOLEAN\n",
+            ),
             Formals::Declared(formals) => {
-                if let Some(mismatch) = self.passed_types(
+                let mismatch = self.passed_types(
                     lines,
                     found,
                     called.target,
                     formals,
                     number,
                     given,
-                ) {
-                    self.push_mismatch(lines, &mismatch, ", and here the formal `~` takes ")
-                }
+                );
+                self.push_mismatch(lines, mismatch, ", and here the formal `~` takes ")
             }
         }
     }
+}
 
-    /// Adds that the part of the text has this type, and the words after that.
-    pub(crate) fn push_given(&self, lines: &mut Lines, given: EntityType, behind: &str) {
-        self.say(lines, "`~` is of type ");
-        self.push_type(lines, given, behind)
+/// What alone is between a type and another to which it doesn't conform.
+fn between(tables: &Tables<'_>, given: EntityType, taken: EntityType) -> Between {
+    let attached = EntityType {
+        attached: true,
+        ..given
+    };
+    let tagged = EntityType {
+        tag: taken.tag,
+        ..given
+    };
+    if matches!(given.class, ClassId::None) && !taken.is_expanded() {
+        Between::Void
+    } else if !given.attached && conforms(tables, attached, taken) {
+        Between::Mark
+    } else if !matches!(taken.tag, Tag::Any) && conforms(tables, tagged, taken) {
+        Between::Tag
+    } else {
+        Between::More
     }
 }
 
-/// Adds how many actuals are taken, and how many are given.
-fn push_arity(lines: &mut Lines, taken: usize, given: usize) {
-    let template = match taken {
-        0 => "no actuals",
-        1 => "1 actual",
-        _ => "~ actuals",
+/// The role of the first of these entities that has this name, if it is one's.
+fn role_of(names: &[Entity<'_>], variable: &Variable) -> Option<Role> {
+    let Variable::Named(name) = variable else {
+        return None;
     };
-    lines.fill_number(template, taken as u64);
-    let template = match given {
-        0 => ", and is given none\n",
-        _ => ", and is given ~\n",
-    };
-    lines.fill_number(template, given as u64)
+    for known in names {
+        if known.name == name.as_str() {
+            return Some(known.role);
+        }
+    }
+    None
 }
 
 /// What is said of an `old` that stands in this part of a class's text, and what helps.

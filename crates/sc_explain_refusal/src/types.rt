@@ -11,7 +11,7 @@ use sc_explain_text::Lines;
 use sc_rules::entity_types::{EntityType, Known, Reserved, Tag, combine_argument, conforms};
 use sc_rules::{Context, Fault, Position};
 use sc_text::Span;
-use sc_tree::{Call, Declaration, Expr, Variable};
+use sc_tree::{Declaration, Expr, Variable};
 use sc_typing::{
     Assignee, CheckFault, JudgedActual, Typing, declared_type, judged_type, variable_span,
 };
@@ -26,7 +26,7 @@ pub struct Compared {
 
 /// Types that don't fit, and the name of what takes the one and is given the other.
 #[derive(Clone, Copy)]
-pub(crate) struct Mismatch {
+pub struct Mismatch {
     pub types: Compared,
     pub taker: Span,
     /// The place of the name of the formal that the tag of the taker names, if there is no actual for that one.
@@ -200,14 +200,6 @@ impl<'s> Walk<'s> {
         match self.routine.assignee(&self.names, variable) {
             Assignee::Local(found) | Assignee::Attribute(found) => found,
             Assignee::Unknown | Assignee::NotAssignable => None,
-        }
-    }
-
-    /// The type of the target of a call, if it has one.
-    pub(crate) fn type_of_target(&self, lines: &mut Lines, call: &Call) -> Option<EntityType> {
-        match &call.target {
-            None => None,
-            Some(target) => self.type_of(lines, self.context, Position::Plain, target),
         }
     }
 }

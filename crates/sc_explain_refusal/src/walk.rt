@@ -1,27 +1,18 @@
 //! The walk through the text of a class to the part that a rule fails at, with the names that are known there.
 
-use crate::site::{Found, Part, Place};
+use crate::site::{Found, Part, Place, Search};
 use crate::types::type_judged;
-use sc_rules::entity_types::EntityType;
-use sc_rules::{Context, Position, Role, Rule};
-use sc_text::Span;
-use sc_tree::{Declaration, Expr, Head, Instr, Routine};
+use sc_rules::{Context, Position, Role};
+use sc_tree::{Expr, Head, Instr, Routine};
 use sc_typing::{Entity, RoutineContext, add_formals, add_locals, block_type, blocks};
 
 /// A walk through a routine, or through an invariant, to the part of the text at which a rule fails.
 #[derive(Drop)]
 pub(crate) struct Walk<'s> {
-    pub text: &'s str,
-    pub rule: Rule,
-    pub span: Span,
+    pub search: Search<'s>,
     pub routine: RoutineContext<'s, 's>,
     /// The names that are known at the part that the walk has reached, or at the one that is found.
     pub names: Vec<Entity<'s>>,
-    /// The position of that part in a body.
-    pub place: Place,
-    /// The part of the class's text that the one that is found belongs to.
-    pub context: Context,
-    pub found: Found<'s>,
 }
 
 impl<'s> Walk<'s> {
@@ -30,32 +21,27 @@ impl<'s> Walk<'s> {
         let routine = &self.routine;
         let added = add_formals(routine.tables, routine.formals, &mut self.names);
         if added.is_err() {
-            self.found = Found::OutOfMemory;
+            self.search.found = Found::OutOfMemory;
         }
-        self.pass_clauses(Context::Require, &text.precondition);
+        self.search
+            .pass_clauses(Context::Require, &text.precondition);
         let known = self.names.len();
-        self.add_locals(&text.locals);
-        self.pass_instructions(&text.body);
-        self.forget(known);
-        self.pass_clauses(Context::Ensure, &text.postcondition)
-    }
-
-    fn add_locals(&mut self, locals: &'s [Declaration]) {
-        if let Found::Nothing = self.found {
+        if let Found::Nothing = self.search.found {
             let routine = &self.routine;
-            let added = add_locals(routine.tables, routine.formals, locals, &mut self.names);
+            let added = add_locals(
+                routine.tables,
+                routine.formals,
+                &text.locals,
+                &mut self.names,
+            );
             if added.is_err() {
-                self.found = Found::OutOfMemory;
+                self.search.found = Found::OutOfMemory;
             }
         }
-    }
-
-    /// Takes names out of scope after their part, down to this number, unless the part that is looked for was found
-    /// there.
-    fn forget(&mut self, known: usize) {
-        if let Found::Nothing = self.found {
-            self.names.truncate(known);
-        }
+        self.pass_instructions(&text.body);
+        forget(self.search.found, &mut self.names, known);
+        self.search
+            .pass_clauses(Context::Ensure, &text.postcondition)
     }
 
     /// Passes instructions. After them the names in scope are as before.
@@ -78,13 +64,13 @@ impl<'s> Walk<'s> {
             }
             Instr::Loop(_, initial, until, body) => {
                 self.pass_instructions(initial);
-                self.place = Place::Until;
-                self.pass_condition(Context::Body, until);
-                self.place = Place::Instruction;
+                self.search.spot.place = Place::Until;
+                self.search.pass_condition(Context::Body, until);
+                self.search.spot.place = Place::Instruction;
                 self.pass_instructions(body)
             }
             Instr::Block(_, heads, body) => self.pass_block(heads, body),
-            _ => self.pass_simple(instruction),
+            _ => self.search.pass_simple(instruction),
         }
     }
 
@@ -92,51 +78,50 @@ impl<'s> Walk<'s> {
     #[cycle(instructions)]
     fn pass_block(&mut self, heads: &'s [Head], body: &'s [Instr]) {
         let known = self.names.len();
-        self.pass_heads(heads);
+        self.search.pass_heads(heads);
         for head in heads {
             self.add_block_name(known, head);
         }
         self.pass_instructions(body);
-        self.forget(known)
+        forget(self.search.found, &mut self.names, known)
     }
 
     /// Passes a condition and the instructions under it, with the names that the condition binds.
     #[cycle(instructions)]
     fn pass_branch(&mut self, body: &'s [Instr], condition: &'s Expr) {
         let known = self.names.len();
-        self.pass(Context::Body, condition.span(), Part::Condition(condition));
-        self.place = Place::Condition;
+        let span = condition.span();
+        self.search
+            .pass(Context::Body, span, Part::Condition(condition));
+        self.search.spot.place = Place::Condition;
         self.pass_operands(condition);
-        self.place = Place::Instruction;
+        self.search.spot.place = Place::Instruction;
         self.pass_instructions(body);
-        self.forget(known)
+        forget(self.search.found, &mut self.names, known)
     }
 
     /// Brings a name of a separate block into scope, with the type of its head and this number of names in scope
     /// around it.
     fn add_block_name(&mut self, known: usize, head: &'s Head) {
-        if let Found::Nothing = self.found {
+        if let Found::Nothing = self.search.found {
             let outer = self.names.get(..known).unwrap_or(&[]);
             let judged = self
                 .routine
                 .expression(Context::Body, Position::Plain, outer, &head.value);
             match type_judged(judged) {
-                Ok(Ok(given)) => self.push_block_name(head, given),
-                Ok(Err(_)) => self.found = Found::Faulty,
-                Err(_) => self.found = Found::OutOfMemory,
+                Ok(Ok(given)) => {
+                    let added = self.names.push(Entity {
+                        name: head.name.as_str(),
+                        entity_type: block_type(blocks(&self.names), given),
+                        role: Role::Block,
+                    });
+                    if added.is_err() {
+                        self.search.found = Found::OutOfMemory
+                    }
+                }
+                Ok(Err(_)) => self.search.found = Found::Faulty,
+                Err(_) => self.search.found = Found::OutOfMemory,
             }
-        }
-    }
-
-    fn push_block_name(&mut self, head: &'s Head, given: Option<EntityType>) {
-        let entity_type = block_type(blocks(&self.names), given);
-        let added = self.names.push(Entity {
-            name: head.name.as_str(),
-            entity_type,
-            role: Role::Block,
-        });
-        if added.is_err() {
-            self.found = Found::OutOfMemory
         }
     }
 
@@ -145,27 +130,35 @@ impl<'s> Walk<'s> {
     fn pass_operands(&mut self, e: &'s Expr) {
         match e {
             Expr::Binary(span, operator, left, right) if operator.is_and_then() => {
-                self.pass(Context::Body, *span, Part::Binary(*operator, left, right));
+                let part = Part::Binary(*operator, left, right);
+                self.search.pass(Context::Body, *span, part);
                 self.pass_operands(left);
                 self.pass_operands(right)
             }
             Expr::ObjectTest(_, _, tested, _) => {
-                self.pass_expression(Context::Body, tested);
+                self.search.pass_expression(Context::Body, tested);
                 self.learn(e)
             }
-            _ => self.pass_expression(Context::Body, e),
+            _ => self.search.pass_expression(Context::Body, e),
         }
     }
 
     /// Makes the name known that an object test gives.
     fn learn(&mut self, e: &'s Expr) {
-        if let Found::Nothing = self.found {
+        if let Found::Nothing = self.search.found {
             let judged = self.routine.condition(Context::Body, &mut self.names, e);
             match type_judged(judged) {
                 Ok(Ok(_)) => {}
-                Ok(Err(_)) => self.found = Found::Faulty,
-                Err(_) => self.found = Found::OutOfMemory,
+                Ok(Err(_)) => self.search.found = Found::Faulty,
+                Err(_) => self.search.found = Found::OutOfMemory,
             }
         }
+    }
+}
+
+/// Takes names out of scope after their part, down to this number, unless the part that is looked for was found there.
+fn forget<'s>(found: Found<'_>, names: &mut Vec<Entity<'s>>, known: usize) {
+    if let Found::Nothing = found {
+        names.truncate(known);
     }
 }

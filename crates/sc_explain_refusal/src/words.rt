@@ -1,56 +1,80 @@
-//! Parts of a text and types in words, as they are seen at a part of a routine.
+//! The part at fault and types, as sentences name them.
 
-use crate::walk::Walk;
-use sc_class::ClassId;
-use sc_explain_text::Lines;
-use sc_rules::Role;
+use crate::fresh::fresh_name;
+use crate::site::Place;
+use sc_class::{ClassId, Tables};
+use sc_explain_text::{Lines, word_at};
 use sc_rules::entity_types::{EntityType, Reserved, Tag};
+use sc_rules::{Context, Role};
 use sc_text::Span;
+use sc_tree::Declaration;
 use sc_typing::Entity;
 
-impl<'s> Walk<'s> {
+/// The part of a text that is at fault, and where it stands.
+#[derive(Clone, Copy)]
+pub struct Spot<'s> {
+    pub text: &'s str,
+    pub span: Span,
+    /// The name at fault.
+    pub name: &'s str,
+    /// The part, if it can be shown; else nothing.
+    pub part: &'s str,
+    /// The part of the class's text that it belongs to.
+    pub context: Context,
+    /// Its position in a body.
+    pub place: Place,
+}
+
+impl<'s> Spot<'s> {
+    /// This part of a text, as an instruction of a body would stand there.
+    pub fn of(text: &'s str, span: Span) -> Spot<'s> {
+        Spot {
+            text,
+            span,
+            name: word_at(text, span),
+            part: part_of(text, span),
+            context: Context::Body,
+            place: Place::Instruction,
+        }
+    }
+
     /// Adds a text on the part at fault, which takes the place of `~`.
-    pub(crate) fn say(&self, lines: &mut Lines, template: &str) {
-        fill_part(lines, template, part_of(self.text, self.span))
+    pub fn say(self, lines: &mut Lines, template: &str) {
+        fill_part(lines, template, self.part)
     }
 
-    /// Adds a type in quotes, as it is declared, with the name of the formal or the block whose handler it names, and
-    /// the words after it.
-    pub(crate) fn push_type(&self, lines: &mut Lines, given: EntityType, behind: &str) {
-        let class = self.class_name(given.class);
-        match given.tag {
-            Tag::With(reserved) => {
-                lines.fill(template_of(given), &[self.name_of(reserved), class])
-            }
-            _ => lines.fill_name(template_of(given), class),
-        }
-        lines.push(behind)
-    }
-
-    /// The name of a class, as its text has it.
-    pub(crate) fn class_name(&self, class: ClassId) -> &str {
-        match class {
-            ClassId::Any => "ANY",
-            ClassId::None => "NONE",
-            ClassId::Integer => "INTEGER",
-            ClassId::Boolean => "BOOLEAN",
-            ClassId::Declared(number) => match self.routine.tables.class(number) {
-                None => "..",
-                Some(class) => part_of(self.text, class.name.span),
-            },
+    /// The part of the text at fault, or a word in its place.
+    pub fn shown(self) -> &'s str {
+        if self.part.is_empty() {
+            ".."
+        } else {
+            self.part
         }
     }
 
-    /// The name of the formal or the block that something is reserved for.
-    fn name_of(&self, reserved: Reserved) -> &str {
-        match reserved {
-            Reserved::Formal(number) => match self.routine.formals.get(number) {
-                None => "..",
-                Some(formal) => part_of(self.text, formal.name.span),
-            },
-            Reserved::BlockName(number) => name_of_block(&self.names, number),
-        }
+    /// The first name that isn't known in the text, or the next one after `but` others.
+    pub fn fresh(self, but: usize) -> &'s str {
+        fresh_name(self.text, but)
     }
+}
+
+/// A type with the names that its declaration has.
+#[derive(Clone, Copy)]
+pub struct NamedType<'s> {
+    pub entity_type: EntityType,
+    pub class: &'s str,
+    /// The formal or the block whose handler it names, if it does.
+    pub handler: &'s str,
+}
+
+/// Adds a type in quotes, as it is declared, and the words after it.
+pub fn push_type(lines: &mut Lines, named: NamedType<'_>, behind: &str) {
+    let template = template_of(named.entity_type);
+    match named.entity_type.tag {
+        Tag::With(_) => lines.fill(template, &[named.handler, named.class]),
+        _ => lines.fill_name(template, named.class),
+    }
+    lines.push(behind)
 }
 
 /// How a type is declared, with `~` for its class, and before that for the name whose handler it names, if it does.
@@ -66,6 +90,37 @@ fn template_of(given: EntityType) -> &'static str {
         (Tag::None, _) if is_of_void => "`~`",
         (Tag::None, true) => "`~` of a handler that isn't known here",
         (Tag::None, false) => "`detachable ~` of a handler that isn't known here",
+    }
+}
+
+/// The name of a class, as its text has it.
+pub fn class_name<'s>(text: &'s str, tables: &Tables<'_>, class: ClassId) -> &'s str {
+    match class {
+        ClassId::Any => "ANY",
+        ClassId::None => "NONE",
+        ClassId::Integer => "INTEGER",
+        ClassId::Boolean => "BOOLEAN",
+        ClassId::Declared(number) => match tables.class(number) {
+            None => "..",
+            Some(class) => part_of(text, class.name.span),
+        },
+    }
+}
+
+/// The name of the formal or the block whose handler a tag names, if it names one's.
+pub fn handler_name<'s>(
+    text: &'s str,
+    formals: &[Declaration],
+    names: &[Entity<'s>],
+    tag: Tag,
+) -> &'s str {
+    match tag {
+        Tag::With(Reserved::Formal(number)) => match formals.get(number) {
+            None => "..",
+            Some(formal) => part_of(text, formal.name.span),
+        },
+        Tag::With(Reserved::BlockName(number)) => name_of_block(names, number),
+        _ => "",
     }
 }
 
@@ -85,9 +140,7 @@ fn name_of_block<'n>(names: &[Entity<'n>], number: usize) -> &'n str {
 
 /// The text of a part, if it is short, on one line, and closes what it opens; else nothing.
 pub fn part_of(text: &str, span: Span) -> &str {
-    let part = text
-        .get(span.start as usize..span.end as usize)
-        .unwrap_or("");
+    let part = word_at(text, span);
     if part.len() > 60 || !is_closed(part) {
         ""
     } else {

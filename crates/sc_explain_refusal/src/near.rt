@@ -1,0 +1,68 @@
+//! Which name was meant where one isn't known.
+
+use crate::walk::Walk;
+use crate::words::class_name;
+use sc_class::{ClassId, FeatureEntry};
+use sc_explain_text::{Lines, is_slip, push_instead_of, push_meant, push_near_word};
+use sc_typing::Entity;
+
+impl<'s> Walk<'s> {
+    /// Adds that the class has no feature of the name at fault, and which was meant.
+    pub(crate) fn push_lacking(&self, lines: &mut Lines, class: ClassId) {
+        let spot = self.search.spot;
+        let class_name = class_name(spot.text, self.routine.tables, class);
+        lines.fill_name("the class `~` has no feature ", class_name);
+        spot.say(lines, "`~`\n");
+        if !push_instead_of(lines, spot.name) {
+            self.push_near_feature(lines, class);
+        }
+    }
+
+    /// Adds that nothing is known of the name at fault, and a name that is known there and near to it, or what is written in
+    /// place of what it shows.
+    pub(crate) fn push_unknown(&self, lines: &mut Lines) {
+        let spot = self.search.spot;
+        spot.say(lines, "nothing that is known here has the name `~`\n");
+        let is_told = push_instead_of(lines, spot.name)
+            || push_near_entity(lines, &self.names, spot.name)
+            || self.push_near_feature(lines, ClassId::Declared(self.routine.class));
+        if !is_told {
+            push_near_word(lines, spot.name)
+        }
+    }
+
+    /// Adds a feature of the class whose name is near to the one at fault, and whether there is one.
+    fn push_near_feature(&self, lines: &mut Lines, class: ClassId) -> bool {
+        let routine = &self.routine;
+        match routine.tables.features(routine.alloc, class) {
+            Ok(features) => push_near_among(lines, &features, self.search.spot.name),
+            Err(_) => {
+                lines.lack();
+                true
+            }
+        }
+    }
+}
+
+/// Adds the first of these names that is near to one, and whether there is one.
+fn push_near_entity(lines: &mut Lines, names: &[Entity<'_>], name: &str) -> bool {
+    for known in names {
+        if is_slip(known.name.as_bytes(), name.as_bytes()) {
+            push_meant(lines, known.name);
+            return true;
+        }
+    }
+    false
+}
+
+/// Adds the first of these features whose name is near to one, and whether there is one.
+fn push_near_among(lines: &mut Lines, features: &[FeatureEntry<'_>], name: &str) -> bool {
+    for entry in features {
+        let known = entry.feature.name.as_str();
+        if is_slip(known.as_bytes(), name.as_bytes()) {
+            push_meant(lines, known);
+            return true;
+        }
+    }
+    false
+}
