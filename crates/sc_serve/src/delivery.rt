@@ -9,10 +9,12 @@ use crate::serve::{Answer, Exit, Fault, Recording, end_with};
 use sc_audit::{RecordLine, Unwritable, write_record, write_whole};
 use sc_source::files::Files;
 use sc_source::writing::Remains;
+use std::alloc::Global;
 use std::io::{self, ErrorKind, Write};
 
 /// Writes an answer, and answers the status that the program ends with.
 pub fn deliver<F: Files, O: Write, E: Write>(
+    alloc: Global,
     answer: &Answer<'_>,
     files: &F,
     out: &mut O,
@@ -21,13 +23,13 @@ pub fn deliver<F: Files, O: Write, E: Write>(
     ensures { IsDelivered answer.now (O.contents out.old) (O.contents out.new) result }
 {
     let told = match &answer.record {
-        None => print(answer, out, err),
+        None => print_alone(answer, out, err),
         Some(recording) => print_and_record(answer, recording, files, out, err),
     };
     match told {
         Ok(()) => status_of(answer.exit),
         Err(fault) => {
-            let status = end_with(&fault, err);
+            let status = end_with(alloc, fault, err);
             // An audit that failed comes first.
             match answer.exit {
                 Exit::Broken => status_of(Exit::Broken),
@@ -46,7 +48,6 @@ pub fn status_of(exit: Exit) -> u8
 
 /// Prints an answer, and writes its record to the file, also if no one reads what is printed. Memory is taken first, and
 /// the file is opened last.
-#[tactic(auto, using(crate::proofs::ServedLemmas::all_begins, crate::proofs::ServedLemmas::none_begins))]
 #[inline(never)]
 fn print_and_record<'a, F: Files, O: Write, E: Write>(
     answer: &Answer<'_>,
@@ -58,24 +59,54 @@ fn print_and_record<'a, F: Files, O: Write, E: Write>(
     ensures ok { OnOk result (Appends (O.contents out.old) (O.contents out.new) (written_of answer.now)) }
     ensures err { OnErr result (WritesBeginning (O.contents out.old) (O.contents out.new) (written_of answer.now)) }
 {
-    let opened = files.writer(recording.name);
-    match opened {
-        Err(error) if error.kind() == ErrorKind::OutOfMemory => Err(Fault::OutOfMemory),
-        Err(error) => {
-            print(answer, out, err)?;
-            Err(Fault::CannotRecord(recording.name, error, None))
+    match files.writer(recording.name) {
+        Ok(writer) => print_and_write(answer, recording, files, writer, out, err),
+        Err(error) => Err(print_unrecorded(answer, recording.name, error, out, err)),
+    }
+}
+
+/// Prints an answer, and writes its record by this writer.
+fn print_and_write<'a, F: Files, O: Write, E: Write>(
+    answer: &Answer<'_>,
+    recording: &Recording<'a>,
+    files: &F,
+    writer: F::Writer,
+    out: &mut O,
+    err: &mut E,
+) -> Result<(), Fault<'a>>
+    ensures ok { OnOk result (Appends (O.contents out.old) (O.contents out.new) (written_of answer.now)) }
+    ensures err { OnErr result (WritesBeginning (O.contents out.old) (O.contents out.new) (written_of answer.now)) }
+{
+    match print(answer, out, err) {
+        Ok(()) => write_recording(files, writer, recording),
+        Err(Unprinted::CannotWrite) => {
+            write_recording(files, writer, recording)?;
+            Err(Fault::CannotWrite)
         }
-        Ok(writer) => match print(answer, out, err) {
-            Ok(()) => write_recording(files, writer, recording),
-            Err(Fault::CannotWrite) => {
-                write_recording(files, writer, recording)?;
-                Err(Fault::CannotWrite)
-            }
-            Err(fault) => {
-                files.discard(writer);
-                Err(fault)
-            }
-        },
+        Err(Unprinted::OutOfMemory) => {
+            files.discard(writer);
+            Err(Fault::OutOfMemory)
+        }
+    }
+}
+
+/// Prints an answer whose record can't be written to the file of this name, since that failed with this error: the fault.
+/// Nothing is printed if memory ran out.
+fn print_unrecorded<'a, O: Write, E: Write>(
+    answer: &Answer<'_>,
+    name: &'a str,
+    error: io::Error,
+    out: &mut O,
+    err: &mut E,
+) -> Fault<'a>
+    ensures { WritesBeginning (O.contents out.old) (O.contents out.new) (written_of answer.now) }
+{
+    if error.kind() == ErrorKind::OutOfMemory {
+        return Fault::OutOfMemory;
+    }
+    match print(answer, out, err) {
+        Ok(()) => Fault::CannotRecord(name, error, None),
+        Err(unprinted) => fault_of(unprinted),
     }
 }
 
@@ -98,7 +129,17 @@ fn write_lines<F: Files>(
     mut writer: F::Writer,
     lines: &[RecordLine],
 ) -> Result<(), (io::Error, Remains)> {
-    let written = match write_record(&mut writer, lines) {
+    let written = write_record(&mut writer, lines);
+    put_in_place(files, writer, written)
+}
+
+/// Puts what was written in the place of what the file held, or gives it up if not all was written.
+pub fn put_in_place<F: Files>(
+    files: &F,
+    mut writer: F::Writer,
+    written: Result<(), Unwritable>,
+) -> Result<(), (io::Error, Remains)> {
+    let written = match written {
         Ok(()) => writer.flush(),
         Err(Unwritable(error)) => Err(error),
     };
@@ -108,9 +149,16 @@ fn write_lines<F: Files>(
     }
 }
 
-/// Prints an answer on standard output, and what it adds on standard error.
-#[tactic(auto, using(crate::proofs::ServedLemmas::all_begins, crate::proofs::ServedLemmas::none_begins))]
-fn print<'a, O: Write, E: Write>(
+/// Why an answer isn't printed.
+#[derive(Clone, Copy)]
+enum Unprinted {
+    /// Standard output is closed or full.
+    CannotWrite,
+    OutOfMemory,
+}
+
+/// Prints an answer for which no record is written.
+fn print_alone<'a, O: Write, E: Write>(
     answer: &Answer<'_>,
     out: &mut O,
     err: &mut E,
@@ -118,15 +166,40 @@ fn print<'a, O: Write, E: Write>(
     ensures ok { OnOk result (Appends (O.contents out.old) (O.contents out.new) (written_of answer.now)) }
     ensures err { OnErr result (WritesBeginning (O.contents out.old) (O.contents out.new) (written_of answer.now)) }
 {
-    match write_out(written_of(answer), out) {
-        Ok(()) => {}
-        Err(error) if error.kind() == ErrorKind::OutOfMemory => return Err(Fault::OutOfMemory),
-        Err(_) => return Err(Fault::CannotWrite),
+    match print(answer, out, err) {
+        Ok(()) => Ok(()),
+        Err(unprinted) => Err(fault_of(unprinted)),
     }
-    // Nobody is left to be told that `err` failed, but for the status where memory ran out.
+}
+
+/// Prints an answer on standard output, and what it adds on standard error.
+fn print<O: Write, E: Write>(answer: &Answer<'_>, out: &mut O, err: &mut E) -> Result<(), Unprinted>
+    ensures ok { OnOk result (Appends (O.contents out.old) (O.contents out.new) (written_of answer.now)) }
+    ensures err { OnErr result (WritesBeginning (O.contents out.old) (O.contents out.new) (written_of answer.now)) }
+{
+    if let Err(error) = write_out(written_of(answer), out) {
+        return Err(unprinted_by(error));
+    }
+    // Nothing can report that `err` failed. The status says so if it failed since memory ran out.
     match write_out(answer.note.as_slice(), err) {
-        Err(error) if error.kind() == ErrorKind::OutOfMemory => Err(Fault::OutOfMemory),
+        Err(error) if error.kind() == ErrorKind::OutOfMemory => Err(Unprinted::OutOfMemory),
         _ => Ok(()),
+    }
+}
+
+/// Why an answer isn't printed, if standard output failed with this error.
+fn unprinted_by(error: io::Error) -> Unprinted {
+    if error.kind() == ErrorKind::OutOfMemory {
+        Unprinted::OutOfMemory
+    } else {
+        Unprinted::CannotWrite
+    }
+}
+
+fn fault_of<'a>(unprinted: Unprinted) -> Fault<'a> {
+    match unprinted {
+        Unprinted::CannotWrite => Fault::CannotWrite,
+        Unprinted::OutOfMemory => Fault::OutOfMemory,
     }
 }
 

@@ -3,13 +3,18 @@
 ghost use Rattle.std.specs.Prelude.{◌≡◌, IfOk, None};
 ghost use Rattle.sc_serve.specs.Layouts.{IsPlain};
 
-use crate::serve::{Answer, Exit, Fault, answer_explained, answer_unread, examine};
-use sc_arguments::Command;
-use sc_audit::{Unwritable, write_whole};
+use crate::delivery::put_in_place;
+use crate::serve::{Answer, Exit, Fault, answer_explained, answer_unread, formatted_text};
+use crate::target::fault_of;
+use sc_audit::write_whole;
+use sc_explain_text::Lines;
 use sc_source::files::{Files, read_source};
-use sc_source::writing::Remains;
+use sc_source::source::Source;
 use std::alloc::{AllocError, Global};
-use std::io::{self, ErrorKind, Write};
+use std::io::{self, ErrorKind};
+
+/// The name of standard input.
+const INPUT: &str = "-";
 
 /// A file that would change, and its text in its layout.
 #[derive(Drop)]
@@ -55,17 +60,33 @@ fn read_file<'a, F: Files>(alloc: Global, files: &F, name: &'a str) -> Result<Re
     ensures { IfOk result IsPlain }
 {
     let names = [name];
-    let source = match read_source(alloc, files, &names) {
-        Ok(source) => source,
-        Err(fault) => return Ok(Read::Refused(answer_unread(alloc, &names, fault, false)?)),
-    };
-    match examine(alloc, &Command::Format, source.text()) {
-        Ok(answer) if is_same(source.text().as_bytes(), answer.text.as_slice()) => Ok(Read::Same),
-        Ok(answer) => Ok(Read::Changed(answer.text)),
+    match read_source(alloc, files, &names) {
+        Ok(source) => read_text(alloc, &source),
+        Err(fault) => Ok(Read::Refused(answer_unread(alloc, &names, fault, false)?)),
+    }
+}
+
+/// What is made of the text of a file.
+fn read_text<'a>(alloc: Global, source: &Source) -> Result<Read<'a>, Fault<'a>>
+    ensures { IfOk result IsPlain }
+{
+    match formatted_text(alloc, source.text()) {
+        Ok(text) => Ok(compared(source, text)),
         Err(rejection) => {
-            let answer = answer_explained(alloc, &source, &rejection, None)?;
+            let answer = answer_explained(alloc, source, &rejection, None)?;
             Ok(Read::Refused(answer))
         }
+    }
+}
+
+/// What is made of a file whose text in its layout is this.
+fn compared<'a>(source: &Source, text: Vec<u8>) -> Read<'a>
+    ensures { IsPlain result }
+{
+    if is_same(source.text().as_bytes(), text.as_slice()) {
+        Read::Same
+    } else {
+        Read::Changed(text)
     }
 }
 
@@ -110,57 +131,45 @@ fn is_same(source: &[u8], text: &[u8]) -> bool {
 
 /// The names of the files that would change, a line each.
 fn names_of(alloc: Global, changed: &[Changed<'_>]) -> Result<Vec<u8>, AllocError> {
-    let mut text = Vec::new(alloc);
+    let mut lines = Lines::new(alloc);
     for file in changed {
-        text.extend_from_slice(file.name.as_bytes())?;
-        text.push(b'\n')?;
+        lines.fill_name("~\n", file.name)
     }
-    Ok(text)
+    lines.finish()
 }
 
-/// Ok if none of them is standard input, which can't be written.
-fn expect_files<'a>(changed: &[Changed<'a>]) -> Result<(), Fault<'a>> {
+/// Whether one of them is standard input, which can't be written.
+fn has_input(changed: &[Changed<'_>]) -> bool {
     for file in changed {
-        if file.name == "-" {
-            let error = io::Error::from(ErrorKind::Unsupported);
-            return Err(Fault::CannotRecord(file.name, error, None));
+        if file.name == INPUT {
+            return true;
         }
     }
-    Ok(())
+    false
 }
 
 /// Writes each file in place. None is written if one of them is standard input.
 fn write_all<'a, F: Files>(files: &F, changed: &[Changed<'a>]) -> Result<(), Fault<'a>> {
-    expect_files(changed)?;
+    if has_input(changed) {
+        let error = io::Error::from(ErrorKind::Unsupported);
+        return Err(Fault::CannotRecord(INPUT, error, None));
+    }
     for file in changed {
-        match write_file(files, file) {
-            Ok(()) => {}
-            Err((error, _)) if error.kind() == ErrorKind::OutOfMemory => {
-                return Err(Fault::OutOfMemory);
-            }
-            Err((error, remains)) => {
-                return Err(Fault::CannotRecord(file.name, error, remains));
-            }
-        }
+        write_file(files, file)?;
     }
     Ok(())
 }
 
 /// Writes a file in place, whole or not at all.
-fn write_file<F: Files>(files: &F, file: &Changed<'_>) -> Result<(), (io::Error, Option<Remains>)> {
-    let mut writer = match files.writer(file.name) {
-        Ok(writer) => writer,
-        Err(error) => return Err((error, None)),
-    };
-    let written = match write_whole(&mut writer, file.text.as_slice()) {
-        Ok(()) => writer.flush(),
-        Err(Unwritable(error)) => Err(error),
-    };
-    match written {
-        Ok(()) => match files.commit(writer) {
-            Ok(()) => Ok(()),
-            Err((error, remains)) => Err((error, Some(remains))),
-        },
-        Err(error) => Err((error, Some(files.discard(writer)))),
+fn write_file<'a, F: Files>(files: &F, file: &Changed<'a>) -> Result<(), Fault<'a>> {
+    match files.writer(file.name) {
+        Ok(mut writer) => {
+            let written = write_whole(&mut writer, file.text.as_slice());
+            match put_in_place(files, writer, written) {
+                Ok(()) => Ok(()),
+                Err((error, remains)) => Err(fault_of(file.name, error, Some(remains))),
+            }
+        }
+        Err(error) => Err(fault_of(file.name, error, None)),
     }
 }

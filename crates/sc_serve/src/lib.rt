@@ -7,12 +7,15 @@
 #![tactic(auto)]
 
 mod delivery;
+mod explaining;
 mod json;
 mod layouts;
+mod numbered;
 mod progress;
 mod refusal;
 mod replaying;
 mod running;
+mod saying;
 mod searching;
 pub mod serve;
 mod target;

@@ -15,6 +15,7 @@ use sc_audit::{ReadFault, Record, read_record};
 use sc_code::Program;
 use sc_driver::replay;
 use sc_explain_run::{Limit, Played, run_note};
+use sc_explain_text::Lines;
 use sc_frontend::load_text;
 use sc_model::Status;
 use sc_source::files::{Files, NamedFile, read_source};
@@ -59,7 +60,11 @@ fn replay_source<'a, F: Files, T: Tell>(
     ensures unread { IfErr result (IsUnplayedRecord options.now.record.now) }
 {
     match load_text(alloc, source.text(), &options.root) {
-        Ok(program) => play_record(alloc, &program, files, options, source, teller),
+        Ok(program) => {
+            let answer = play_record(alloc, &program, files, options, source, teller);
+            drop(program);
+            answer
+        }
         Err(rejection) => {
             let explained = root_if(options.is_explained, &options.root);
             answer_explained(alloc, source, &rejection, explained)
@@ -133,7 +138,14 @@ fn tell_turns<T: Tell>(
     teller: &mut T,
 ) -> Result<(), AllocError> {
     let tracer = tracer_of(alloc, source, program, record.version, options.trace)?;
-    Tracing::new(teller, tracer).follow_all(record.lines.as_slice())
+    let mut tracing = Tracing::new(teller, tracer);
+    tracing.follow(record.lines.as_slice());
+    let is_lacking = tracing.is_lacking;
+    drop(tracing);
+    if is_lacking {
+        return Err(AllocError);
+    }
+    Ok(())
 }
 
 /// The note on a replay beside its report, if it is asked for.
@@ -173,11 +185,7 @@ fn answer_no_record<'a>(
 {
     match fault {
         ReadFault::BadRecord { line } => {
-            let note = if is_explained {
-                bad_line_note(alloc, name, line)?
-            } else {
-                Vec::new(alloc)
-            };
+            let note = bad_line_note(alloc, name, line, is_explained)?;
             answer_refused(alloc, b"refused A1 BadRecord\n", note)
         }
         ReadFault::Unreadable(error) => Err(Fault::CannotRead(name, FileFault::Unreadable(error))),
@@ -185,10 +193,20 @@ fn answer_no_record<'a>(
     }
 }
 
-/// In which line a file that should hold a record goes wrong.
-fn bad_line_note(alloc: Global, name: &str, line: usize) -> Result<Vec<u8>, AllocError> {
-    let told = format!(in alloc;
-        "{name}:{line}: the record goes wrong in this line\n`scoop explain A1` says more\n"
-    )?;
-    Ok(told.into_bytes())
+/// In which line a file that should hold a record goes wrong, if that is asked for.
+fn bad_line_note(
+    alloc: Global,
+    name: &str,
+    line: usize,
+    is_explained: bool,
+) -> Result<Vec<u8>, AllocError> {
+    let template = ":~: the record goes wrong in this line
+`scoop explain A1` says more
+";
+    let mut lines = Lines::new(alloc);
+    if is_explained {
+        lines.push(name);
+        lines.fill_number(template, line as u64)
+    }
+    lines.finish()
 }

@@ -1,14 +1,15 @@
 //! What is answered to `run`.
 
-ghost use Rattle.std.specs.Prelude.{◌≡◌, IfErr, IfOk, None, [], map};
+ghost use Rattle.std.specs.Prelude.{◌≡◌, ◌++◌, IfErr, IfOk, None, [], map, string_bytes};
 ghost use Rattle.sc_driver.specs.Execution.{IsThreadRun};
 ghost use Rattle.sc_lower.specs.Lowerings.{image_of};
 ghost use Rattle.sc_plant.specs.Bounded.{IsBoundedRun};
 ghost use Rattle.sc_plant.specs.Left.{world_of};
 ghost use Rattle.sc_world.specs.Reports as told;
 ghost use Rattle.std.specs.Option.{option_map};
-ghost use Rattle.sc_serve.specs.Answer.{IsJudged, IsRanOf, IsRunOfSource, IsRunOn, IsUnrun, IsUnrunOn, asked_of, bounds_of, kept_of};
+ghost use Rattle.sc_serve.specs.Answer.{IsJudged, IsRanOf, IsRunOfSource, IsRunOn, IsUnrun, IsUnrunOn, asked_of, audit_line, bounds_of, kept_of};
 
+use crate::numbered::numbered;
 use crate::progress::Tell;
 use crate::serve::{
     Answer, Exit, Fault, Recording, answer_explained, answer_unread, exit_of, root_if,
@@ -21,6 +22,7 @@ use sc_audit::RecordLine;
 use sc_code::Program;
 use sc_driver::{AuditFault, Ended, audit, run_program};
 use sc_explain_run::{Limit, Played, run_note};
+use sc_explain_text::Lines;
 use sc_frontend::load_text;
 use sc_lockpass::{HandlerNumber, Version};
 use sc_model::Status;
@@ -68,7 +70,11 @@ fn run_source<'a, R: Threads + Wait + Clock + Sync, T: Tell>(
     ensures unrun { IfErr result IsUnrun }
 {
     match load_text(alloc, source.text(), &options.root) {
-        Ok(program) => run_loaded(rt, alloc, &program, options, source, teller),
+        Ok(program) => {
+            let answer = run_loaded(rt, alloc, &program, options, source, teller);
+            drop(program);
+            answer
+        }
         Err(rejection) => {
             let explained = root_if(options.is_explained, &options.root);
             answer_explained(alloc, source, &rejection, explained)
@@ -91,10 +97,12 @@ fn run_loaded<'a, R: Threads + Wait + Clock + Sync, T: Tell>(
     ensures unrun { IfErr result IsUnrun }
 {
     let Ended { left, statuses, .. } = run_watched(rt, alloc, program, options, source, teller)?;
-    let (audited, exit) = judge(alloc, program, options, &left, statuses.as_slice())?;
-    let note = note_of(alloc, program, options, source, &left, statuses.as_slice())?;
-    let (mut text, lines) = left.into_report(alloc)?;
-    text.extend_from_slice(audited.as_slice())?;
+    let Assessment {
+        audited,
+        exit,
+        note,
+    } = assess(alloc, program, options, source, &left, statuses.as_slice())?;
+    let (text, lines) = report_with(alloc, left, audited.as_slice())?;
     Ok(Answer {
         text,
         object: None,
@@ -121,7 +129,9 @@ fn run_watched<'p, 'a, R: Threads + Wait + Clock + Sync, T: Tell>(
     let tracer = tracer_of(alloc, source, program, Version::Two, options.trace)?;
     let tracing = Tracing::new(teller, tracer);
     let mut watch = RunWatch::new(rt, tracing, options.is_explained);
-    run_bounded(rt, alloc, program, options, &mut watch)
+    let ended = run_bounded(rt, alloc, program, options, &mut watch);
+    drop(watch);
+    ended
 }
 
 /// Runs a program within the bounds that are asked for.
@@ -142,10 +152,63 @@ fn run_bounded<'p, 'a, R: Threads + Wait + Clock + Sync, T: Tell>(
         output: options.output_limit,
     };
     match run_program(rt, alloc, program, options.workers, bounds, watch) {
-        Ok(_) if watch.is_lacking() => Err(Fault::OutOfMemory),
-        Ok(ended) => Ok(ended),
-        Err(fault) => Err(fault_of(fault)),
+        Ok(ended) => {
+            if watch.tracing.is_lacking {
+                drop(ended);
+                return Err(Fault::OutOfMemory);
+            }
+            Ok(ended)
+        }
+        Err(fault) => {
+            let why = fault_of(&fault);
+            drop(fault);
+            Err(why)
+        }
     }
+}
+
+/// An assessment of what a run has left.
+#[derive(Drop)]
+struct Assessment {
+    /// What an audit adds to the report.
+    audited: Vec<u8>,
+    exit: Exit,
+    note: Vec<u8>,
+}
+
+/// Assesses what a run has left.
+fn assess(
+    alloc: Global,
+    program: &Program,
+    options: &RunOptions<'_>,
+    source: &Source,
+    left: &Left<'_>,
+    statuses: &[Status],
+) -> Result<Assessment, AllocError>
+    ensures { IfOk result (λ seen.
+        IsJudged (image_of program.now) options.now.is_audited left.now [] statuses.now seen.audited.items seen.exit) }
+{
+    let (audited, exit) = judge(alloc, program, options, left, statuses)?;
+    let note = note_of(alloc, program, options, source, left, statuses)?;
+    Ok(Assessment {
+        audited,
+        exit,
+        note,
+    })
+}
+
+/// The report on what a run has left, with what an audit adds to it, and the lines of the record.
+fn report_with(
+    alloc: Global,
+    left: Left<'_>,
+    audited: &[u8],
+) -> Result<(Vec<u8>, Vec<RecordLine>), AllocError>
+    ensures report { IfOk result (λ parts. parts.0.items ≡ told.report (world_of left.entry) ++ audited.now) }
+    ensures lines { IfOk result (λ parts. parts.1.items ≡ left.entry.lines.items) }
+{
+    let (mut text, lines) = left.into_report(alloc)?;
+    text.extend_from_slice(audited)?;
+    Ok((text, lines))
 }
 
 /// What an audit adds to the report, if one is asked for, and the status.
@@ -165,20 +228,27 @@ fn judge(
     }
     match audit(alloc, program, left) {
         Ok(()) => Ok((Vec::from_slice(alloc, b"audit yes\n")?, exit)),
-        Err(AuditFault::OutOfMemory) => Err(AllocError),
-        Err(AuditFault::BadRecord { line }) => {
-            let said = format!(in alloc; "audit A1 BadRecord {line}\n")?;
-            Ok((said.into_bytes(), Exit::Broken))
+        Err(fault) => Ok((audit_line(alloc, fault)?.into_bytes(), Exit::Broken)),
+    }
+}
+
+/// The line that reports what an audit found at fault.
+fn audit_line(alloc: Global, fault: AuditFault) -> Result<String, AllocError>
+    ensures { IfOk result (λ line. string_bytes line ≡ audit_line fault) }
+{
+    match fault {
+        AuditFault::BadRecord { line } => {
+            numbered(alloc, "audit A1 BadRecord ", line as u64, "\n")
         }
-        Err(AuditFault::Differs { handler }) => {
-            let said = format!(in alloc; "audit A2 Differs {handler}\n")?;
-            Ok((said.into_bytes(), Exit::Broken))
+        AuditFault::Differs { handler } => {
+            numbered(alloc, "audit A2 Differs ", handler as u64, "\n")
         }
+        AuditFault::OutOfMemory => Err(AllocError),
     }
 }
 
 /// Why a run isn't done.
-fn fault_of<'a>(fault: RunFault<'_>) -> Fault<'a>
+fn fault_of<'a>(fault: &RunFault<'_>) -> Fault<'a>
     ensures { IsUnrun result }
 {
     match fault {
@@ -200,15 +270,32 @@ fn has_refused(left: &Left<'_>) -> bool {
 
 /// How many bytes the handlers have printed together, where that is more than they may, and some have something to do still.
 fn printed_past(left: &Left<'_>, options: &RunOptions<'_>, statuses: &[Status]) -> Option<u64> {
-    let most = options.output_limit?;
-    if !statuses.iter().any(|status| matches!(status, Status::Busy)) {
-        return None;
+    match options.output_limit {
+        Some(most) if is_any_busy(statuses) => {
+            let printed = count_printed(left);
+            if printed > most { Some(printed) } else { None }
+        }
+        _ => None,
     }
-    let mut printed = 0u64;
+}
+
+/// Whether a handler has something to do still.
+fn is_any_busy(statuses: &[Status]) -> bool {
+    for status in statuses {
+        if matches!(status, Status::Busy) {
+            return true;
+        }
+    }
+    false
+}
+
+/// How many bytes the handlers have printed together.
+fn count_printed(left: &Left<'_>) -> u64 {
+    let mut printed: u64 = 0;
     for region in &left.regions {
         printed = printed.saturating_add(region.output().len() as u64);
     }
-    if printed > most { Some(printed) } else { None }
+    printed
 }
 
 /// The note on a run beside its report: that its handlers have printed too much; and the states of its handlers, if
@@ -221,39 +308,29 @@ fn note_of(
     left: &Left<'_>,
     statuses: &[Status],
 ) -> Result<Vec<u8>, AllocError> {
-    let mut note = Vec::new(alloc);
+    let mut lines = Lines::new(alloc);
     let mut limit = Limit::Turns(options.turns);
     if let Some(printed) = printed_past(left, options, statuses) {
         limit = Limit::Output;
-        push_output_note(alloc, &mut note, turns_of(left.lines.as_slice()), printed)?;
+        let turns = turns_of(left.lines.as_slice());
+        lines.fill_number("stopped by --output-limit after ~ turns", turns);
+        lines.fill_number(": the handlers have printed ~ bytes\n", printed)
     }
-    if !options.is_explained {
-        return Ok(note);
+    if options.is_explained {
+        let played = Played {
+            source,
+            program,
+            version: Version::Two,
+            lines: left.lines.as_slice(),
+            limit,
+            may_refuse: has_refused(left),
+        };
+        match run_note(alloc, played, statuses) {
+            Ok(note) => lines.push_bytes(note.as_slice()),
+            Err(_) => lines.lack(),
+        }
     }
-    let played = Played {
-        source,
-        program,
-        version: Version::Two,
-        lines: left.lines.as_slice(),
-        limit,
-        may_refuse: has_refused(left),
-    };
-    let explained = run_note(alloc, played, statuses)?;
-    note.extend_from_slice(explained.as_slice())?;
-    Ok(note)
-}
-
-/// Adds that a run was ended since its handlers have printed this number of bytes.
-fn push_output_note(
-    alloc: Global,
-    note: &mut Vec<u8>,
-    turns: u64,
-    printed: u64,
-) -> Result<(), AllocError> {
-    let told = format!(in alloc;
-        "stopped by --output-limit after {turns} turns: the handlers have printed {printed} bytes\n"
-    )?;
-    note.extend_from_slice(told.as_bytes())
+    lines.finish()
 }
 
 /// The record that is to be written, where a file is named for it.

@@ -14,6 +14,7 @@ use sc_arguments::{Format, SearchOptions, Sought};
 use sc_audit::RecordLine;
 use sc_code::Program;
 use sc_explain_run::{Limit, Played, order_note};
+use sc_explain_text::Lines;
 use sc_frontend::load_text;
 use sc_lockpass::Version;
 use sc_search::{Aim, Finding, Verdict, Watch, search};
@@ -56,7 +57,11 @@ fn search_source<'a, W: Watch>(
     ensures unanswered { IfErr result (λ fault. fault ≡ out_of_memory) }
 {
     match load_text(alloc, source.text(), &options.root) {
-        Ok(program) => search_loaded(alloc, &program, options, source, watch),
+        Ok(program) => {
+            let answer = search_loaded(alloc, &program, options, source, watch);
+            drop(program);
+            answer
+        }
         Err(rejection) => {
             let explained = root_if(options.is_explained, &options.root);
             answer_explained(alloc, source, &rejection, explained)
@@ -79,10 +84,10 @@ fn search_loaded<'a, W: Watch>(
 {
     let aim = aim_of(options.sought);
     let verdict = search(alloc, program, Version::Two, aim, options.states, watch)?;
-    let text = verdict_text(alloc, options, &verdict)?;
-    let object = object_of(alloc, options, &verdict)?;
+    let VerdictText { text, object, note } = write_verdict(
+        alloc, program, options, source, &verdict,
+    )?;
     let exit = exit_of(&verdict);
-    let note = note_of(alloc, program, options, source, &verdict.finding)?;
     Ok(Answer {
         text,
         object,
@@ -90,6 +95,31 @@ fn search_loaded<'a, W: Watch>(
         note,
         record: recording_of(options.record, verdict.finding),
     })
+}
+
+/// A verdict in words.
+#[derive(Drop)]
+struct VerdictText {
+    text: Vec<u8>,
+    object: Option<Vec<u8>>,
+    note: Vec<u8>,
+}
+
+/// Writes a verdict.
+fn write_verdict(
+    alloc: Global,
+    program: &Program,
+    options: &SearchOptions<'_>,
+    source: &Source,
+    verdict: &Verdict,
+) -> Result<VerdictText, AllocError>
+    ensures text { IfOk result (λ told. IsTold options.now.sought options.now.lists_outcomes verdict.now told.text.items) }
+    ensures object { options.now.format ≡ Format.Text → IfOk result (λ told. told.object ≡ None) }
+{
+    let text = verdict_text(alloc, options, verdict)?;
+    let object = object_of(alloc, options, verdict)?;
+    let note = note_of(alloc, program, options, source, &verdict.finding)?;
+    Ok(VerdictText { text, object, note })
 }
 
 fn aim_of(sought: Sought) -> Aim
@@ -167,8 +197,9 @@ fn note_of(
 ) -> Result<Vec<u8>, AllocError> {
     match (lines_of(finding), options.record) {
         (None, Some(name)) => {
-            let told = format!(in alloc; "no order was found, so nothing is written to {name}\n")?;
-            Ok(told.into_bytes())
+            let mut lines = Lines::new(alloc);
+            lines.fill_name("no order was found, so nothing is written to ~\n", name);
+            lines.finish()
         }
         (Some(lines), _) if options.is_explained => {
             let played = Played {

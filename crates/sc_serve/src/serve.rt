@@ -2,36 +2,35 @@
 
 ghost use Rattle.std.specs.Prelude.{◌≡◌, ◌⊎◌, [], IfErr, IfOk, None, OnOk, map};
 ghost use Rattle.sc_serve.specs.Answer as spec;
-ghost use Rattle.std.specs.List.{list_any};
 ghost use Rattle.std.specs.Option.{option_map};
 ghost use Rattle.sc_frontend.specs.Texts.{IsUnreadable};
 ghost use Rattle.sc_serve.specs.Answer.{IsAnswerOn, IsAnswerTo, IsInLayout, IsRefusalOf, IsRejectedFor, IsUnansweredOn, IsUnread, too_long};
 ghost use Rattle.sc_serve.specs.Served.{Answers, IsExplained, IsFormatted, IsGivenUp, IsHelp, IsResponse, IsServed, format_asked, format_of};
 
 use crate::delivery::deliver;
+use crate::explaining::{explanation, too_long_note};
 use crate::json::answer_object;
 use crate::layouts::answer_layout;
 use crate::progress::{Progress, Tell};
 use crate::refusal::Refusal;
 use crate::replaying::answer_replay;
 use crate::running::answer_run;
+use crate::saying::words_of;
 use crate::searching::answer_search;
 use crate::target::check_target;
 use sc_arguments::{Command, Format, Invocation, UsageFault, ask_for_help, read_arguments};
 use sc_audit::RecordLine;
 use sc_class::Root;
-use sc_explain_refusal::{Related, diagnose};
-use sc_explain_text::{Lines, find, left_out, list};
+use sc_explain_text::{find, left_out, list};
 use sc_format::format_text;
 use sc_frontend::{Rejection, check_text, print_text};
 use sc_model::Status;
 use sc_search::Watch;
-use sc_source::excerpt;
 use sc_source::files::{Files, read_source};
 use sc_source::reading::FileFault;
-use sc_source::source::{JoinFault, Place, Source, name_at};
+use sc_source::source::{JoinFault, Source, name_at};
 use sc_source::writing::Remains;
-use sc_text::{LexFault, Span};
+use sc_text::LexFault;
 use std::alloc::{AllocError, Global};
 use std::convert::AsStr;
 use std::io::{self, ErrorKind, Write};
@@ -85,11 +84,21 @@ impl<'a> Answer<'a> {
         ensures record { result.record ≡ None }
         ensures object { result.object ≡ None }
     {
+        Answer::noted(text, exit, Vec::new(alloc))
+    }
+
+    /// With this note.
+    pub fn noted(text: Vec<u8>, exit: Exit, note: Vec<u8>) -> Self
+        ensures text { result.text ≡ text }
+        ensures exit { result.exit ≡ exit }
+        ensures record { result.record ≡ None }
+        ensures object { result.object ≡ None }
+    {
         Answer {
             text,
             object: None,
             exit,
-            note: Vec::new(alloc),
+            note,
             record: None,
         }
     }
@@ -148,123 +157,53 @@ pub fn serve<
     let response = respond(rt, arguments, files, &mut progress, is_terminal);
     progress.clear();
     match response {
-        Ok(answer) => deliver(&answer, files, out, err),
-        Err(fault) => end_with(&fault, err),
+        Ok(answer) => deliver(rt.alloc(), &answer, files, out, err),
+        Err(fault) => end_with(rt.alloc(), fault, err),
     }
 }
 
 /// Says on `err` why the program ends without an answer, and answers its status.
-pub fn end_with<E: Write>(fault: &Fault<'_>, err: &mut E) -> u8
+pub fn end_with<E: Write>(alloc: Global, fault: Fault<'_>, err: &mut E) -> u8
     ensures { IsGivenUp result }
 {
-    // The program ends in any case: nobody is left to be told that `err` failed. Its status still says so
-    // where it failed since memory ran out.
-    match (fault, say(fault, err)) {
-        (Fault::Usage(UsageFault::OutOfMemory) | Fault::OutOfMemory, _) => Exit::Broken as u8,
-        (Fault::NoThread | Fault::LogsDiffer, _) => Exit::Broken as u8,
-        (_, Err(error)) if error.kind() == ErrorKind::OutOfMemory => Exit::Broken as u8,
-        _ => Exit::Usage as u8,
-    }
-}
-
-fn say<E: Write>(fault: &Fault<'_>, err: &mut E) -> io::Result<()> {
-    match fault {
-        Fault::Usage(UsageFault::Arguments(error)) => write!(err, "{error}"),
-        Fault::NoCode(word) => writeln!(err, "no code {word}\n`scoop explain` lists the codes"),
-        Fault::CannotRead(name, fault) => say_unread(name, fault, err),
-        Fault::CannotRecord(name, error, remains) => say_unwritten(name, error, remains, err),
-        Fault::NoRecord(name) => writeln!(
-            err,
-            "{name} is there and is no record: name another file"
-        ),
-        _ => writeln!(err, "{}", words_of(fault)),
-    }?;
-    err.flush()
-}
-
-/// The words of a fault that always has the same ones.
-fn words_of(fault: &Fault<'_>) -> &'static str {
-    match fault {
-        Fault::Usage(UsageFault::NoCommand) => "no command",
-        Fault::Usage(UsageFault::BadRoot) => "bad root",
-        Fault::Usage(UsageFault::TracedWorkers) => {
-            "a run by several workers can't be traced: leave out --workers or --trace"
+    // The program ends in any case, and nothing can report that `err` failed. The status still says so if
+    // it failed since memory ran out.
+    let is_written = match words_of(alloc, &fault) {
+        Ok(words) => write_words(words.as_slice(), err),
+        Err(_) => {
+            write_words(b"out of memory\n", err);
+            false
         }
-        Fault::Usage(UsageFault::TwoReadings) => "the arguments can be read in two ways",
-        Fault::CannotWrite => "cannot write standard output",
-        Fault::NoThread => "no thread",
-        Fault::LogsDiffer => "logs differ",
-        Fault::NotText => "an argument isn't UTF-8",
-        _ => "out of memory",
-    }
+    };
+    let status = status_after(&fault, is_written);
+    drop(fault);
+    status
 }
 
-/// Says which file can't be read, and on a line what is wrong with it.
-fn say_unread<E: Write>(name: &str, fault: &FileFault, err: &mut E) -> io::Result<()> {
-    writeln!(err, "cannot read {name}")?;
+/// The status of a program without an answer. `is_written` is false if memory ran out.
+fn status_after(fault: &Fault<'_>, is_written: bool) -> u8
+    ensures { IsGivenUp result }
+{
     match fault {
-        FileFault::Unreadable(error) => say_error(why_unread(error.kind()), error, err),
-        FileFault::NotUtf8 { offset } => writeln!(err, "it isn't UTF-8 at offset {offset}"),
-        FileFault::TooLong => writeln!(err, "it is too long"),
-        FileFault::OutOfMemory => writeln!(err, "out of memory"),
+        Fault::NoThread | Fault::LogsDiffer => Exit::Broken as u8,
+        _ if is_written => Exit::Usage as u8,
+        _ => Exit::Broken as u8,
     }
 }
 
-/// Why a file can't be read; nothing where the error says it.
-fn why_unread(kind: ErrorKind) -> &'static str {
-    match kind {
-        ErrorKind::NotFound => "there is no such file",
-        ErrorKind::IsADirectory => "it is a folder",
-        ErrorKind::PermissionDenied => "there is no right to read it",
-        _ => "",
-    }
-}
-
-/// Says on a line why something can't be done with a file, in these words if there are any.
-fn say_error<E: Write>(words: &str, error: &io::Error, err: &mut E) -> io::Result<()> {
-    if words.is_empty() {
-        writeln!(err, "{error}")
-    } else {
-        writeln!(err, "{words}")
-    }
-}
-
-/// Says which file can't be written, why, and what is left in it.
-fn say_unwritten<E: Write>(
-    name: &str,
-    error: &io::Error,
-    remains: &Option<Remains>,
-    err: &mut E,
-) -> io::Result<()> {
-    writeln!(err, "cannot write {name}")?;
-    say_error(why_unwritten(error.kind()), error, err)?;
-    match remains {
-        None | Some(Remains::Unchanged) => writeln!(err, "it is as it was"),
-        Some(Remains::Beginning) => writeln!(err, "a beginning of the record may be written to it"),
-        Some(Remains::Beside(name)) => {
-            writeln!(
-                err,
-                "it is as it was, and a beginning of the record is left in {name}"
-            )
-        }
-    }
-}
-
-/// Why a file can't be written; nothing where the error says it.
-fn why_unwritten(kind: ErrorKind) -> &'static str {
-    match kind {
-        ErrorKind::NotFound | ErrorKind::NotADirectory => "there is no such folder",
-        ErrorKind::IsADirectory => "it is a folder",
-        ErrorKind::PermissionDenied => "there is no right to write it",
-        ErrorKind::StorageFull => "there is no room for it",
-        ErrorKind::FileTooLarge => "it would be larger than a file may be",
-        ErrorKind::Unsupported => "it is standard input",
-        _ => "",
+/// Writes these words. False if memory ran out.
+fn write_words<E: Write>(words: &[u8], err: &mut E) -> bool {
+    let written = match err.write_all(words) {
+        Ok(()) => err.flush(),
+        Err(error) => Err(error),
+    };
+    match written {
+        Ok(()) => true,
+        Err(error) => error.kind() != ErrorKind::OutOfMemory,
     }
 }
 
 /// The answer to the arguments: what they ask for, or help if they ask for that.
-#[tactic(auto, using(crate::proofs::ServedLemmas::response, crate::proofs::ServedLemmas::helped))]
 fn respond<'a, R: Threads + Wait + Clock + Sync + AllocGlobal, S: AsStr, F: Files, W: Watch + Tell>(
     rt: &R,
     arguments: &'a [S],
@@ -446,73 +385,8 @@ pub fn answer_explained<'a>(
     ensures object { IfOk result (λ answer. answer.object ≡ None) }
     ensures untold { IfErr result (λ fault. fault ≡ spec.out_of_memory) }
 {
-    let note = match explained {
-        Some(root) => explanation(alloc, source, root, rejection)?,
-        None => Vec::new(alloc),
-    };
+    let note = explanation(alloc, source, explained, rejection)?;
     answer_rejected(alloc, source, rejection, note)
-}
-
-/// The line of the source text in which something is refused, with carets, a sentence on the fault, the place that
-/// belongs to it, and what more can be said.
-fn explanation(
-    alloc: Global,
-    source: &Source,
-    root: &Root,
-    rejection: &Rejection,
-) -> Result<Vec<u8>, AllocError> {
-    let mut lines = Lines::new(alloc);
-    match Refusal::of(rejection) {
-        Some(refusal) => push_explanation(alloc, &mut lines, source, root, refusal),
-        None if matches!(rejection, Rejection::CodeTooLong) => {
-            lines.push("`scoop explain CodeTooLong` says more\n")
-        }
-        None => {}
-    }
-    lines.finish()
-}
-
-/// Adds the explanation of a refusal that has a code.
-fn push_explanation(
-    alloc: Global,
-    lines: &mut Lines,
-    source: &Source,
-    root: &Root,
-    refusal: Refusal,
-) {
-    if let Some(span) = refusal.span {
-        push_excerpt(alloc, lines, source, span)
-    }
-    match diagnose(alloc, source.text(), root, refusal.code, refusal.span) {
-        Ok(diagnosis) => {
-            lines.push_bytes(diagnosis.lines.as_slice());
-            if let Some(related) = diagnosis.related {
-                push_related(alloc, lines, source, related)
-            }
-        }
-        Err(_) => lines.lack(),
-    }
-    lines.push_all(&["`scoop explain ", refusal.code.code(), "` says more\n"])
-}
-
-/// Adds the line of a part of the source text, with carets.
-fn push_excerpt(alloc: Global, lines: &mut Lines, source: &Source, span: Span) {
-    match excerpt(alloc, source.text().as_bytes(), span) {
-        Ok(shown) => lines.push_bytes(shown.as_slice()),
-        Err(_) => lines.lack(),
-    }
-}
-
-/// Adds the place of a part of the source text that belongs to a fault, and its line with carets.
-fn push_related(alloc: Global, lines: &mut Lines, source: &Source, related: Related) {
-    if let Some(Place { file, line, column }) = source.place_of(related.span.start as usize) {
-        lines.push_all(&[file, ":"]);
-        lines.push_number(line as u64);
-        lines.push(":");
-        lines.push_number(column as u64);
-        lines.push_all(&[": ", related.what, "\n"]);
-        push_excerpt(alloc, lines, source, related.span)
-    }
 }
 
 /// What is answered where the named files have no source text, with which of them makes it too long where that is to be shown.
@@ -532,11 +406,7 @@ pub fn answer_unread<'a>(
     match fault {
         FileFault::TooLong => {
             let rejection = Rejection::Text(LexFault::SourceTooLong);
-            let note = if is_explained {
-                too_long_note(alloc, name_at(names, file))?
-            } else {
-                Vec::new(alloc)
-            };
+            let note = too_long_note(alloc, name_at(names, file), is_explained)?;
             answer_rejected(alloc, &Source::new(alloc), &rejection, note)
         }
         FileFault::OutOfMemory => Err(Fault::OutOfMemory),
@@ -545,18 +415,6 @@ pub fn answer_unread<'a>(
             Err(Fault::CannotRead(name, fault))
         }
     }
-}
-
-/// Which file makes the source text too long, and where more is said of that.
-fn too_long_note(alloc: Global, name: &str) -> Result<Vec<u8>, AllocError> {
-    let mut lines = Lines::new(alloc);
-    lines.push_all(&[
-        "with ",
-        name,
-        " the files have more than 1,048,576 bytes together, a line feed after each\n",
-    ]);
-    lines.push("`scoop explain L5` says more\n");
-    lines.finish()
 }
 
 /// The answer if nothing is made of the source text, with what is added on standard error.
@@ -574,7 +432,7 @@ fn answer_rejected<'a>(
     match Refusal::of(rejection) {
         Some(refusal) => {
             let line = refusal.line(alloc, source)?.into_bytes();
-            Ok(refused(line, note))
+            Ok(Answer::noted(line, Exit::Refused, note))
         }
         None => match rejection {
             Rejection::CodeTooLong => answer_refused(alloc, b"refused CodeTooLong\n", note),
@@ -602,19 +460,13 @@ pub fn examine<'a>(alloc: Global, command: &Command, text: &str) -> Result<Answe
         Command::Print => {
             let printed = print_text(alloc, text)?;
             let note = left_out(alloc, text)?;
-            Ok(Answer {
-                text: printed,
-                object: None,
-                exit: Exit::Done,
-                note,
-                record: None,
-            })
+            Ok(Answer::noted(printed, Exit::Done, note))
         }
     }
 }
 
 /// The source text in its layout, if it spells a system.
-fn formatted_text(alloc: Global, text: &str) -> Result<Vec<u8>, Rejection>
+pub(crate) fn formatted_text(alloc: Global, text: &str) -> Result<Vec<u8>, Rejection>
     ensures laid { IfOk result (λ output. IsInLayout text.now output.items) }
     ensures refused { IfErr result (IsUnreadable text.now) }
 {
@@ -635,50 +487,26 @@ pub(crate) fn answer_refused<'a>(
     ensures err { IfErr result (λ fault. fault ≡ spec.out_of_memory) }
 {
     let text = Vec::from_slice(alloc, line)?;
-    Ok(refused(text, note))
-}
-
-/// The answer of a text that reports a refusal.
-fn refused<'a>(text: Vec<u8>, note: Vec<u8>) -> Answer<'a>
-    ensures text { result.text ≡ text }
-    ensures exit { result.exit ≡ Exit.Refused }
-    ensures record { result.record ≡ None }
-    ensures object { result.object ≡ None }
-{
-    Answer {
-        text,
-        object: None,
-        exit: Exit::Refused,
-        note,
-        record: None,
-    }
+    Ok(Answer::noted(text, Exit::Refused, note))
 }
 
 /// What the program ends with where the handlers are left like that.
 pub fn exit_of(statuses: &[Status]) -> Exit
     ensures { result ≡ spec.exit_of statuses.now }
 {
-    if have_failed(statuses) {
+    let mut have_failed = false;
+    let mut are_unfinished = false;
+    for status in statuses {
+        have_failed = have_failed | has_failed(*status);
+        are_unfinished = are_unfinished | is_unfinished(*status);
+    }
+    if have_failed {
         Exit::Failed
-    } else if are_unfinished(statuses) {
+    } else if are_unfinished {
         Exit::Unfinished
     } else {
         Exit::Done
     }
-}
-
-/// Whether one of the handlers has failed.
-fn have_failed(statuses: &[Status]) -> bool
-    ensures { result ≡ list_any spec.has_failed statuses.now }
-{
-    statuses.iter().any(|status| has_failed(*status))
-}
-
-/// Whether one of the handlers is waiting or busy.
-fn are_unfinished(statuses: &[Status]) -> bool
-    ensures { result ≡ list_any spec.is_unfinished statuses.now }
-{
-    statuses.iter().any(|status| is_unfinished(*status))
 }
 
 fn has_failed(status: Status) -> bool

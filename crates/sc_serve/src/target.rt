@@ -10,6 +10,7 @@ use sc_arguments::Invocation;
 use sc_lockpass::Version;
 use sc_source::files::Files;
 use sc_source::reading::{FileFault, read_beginning};
+use sc_source::writing::Remains;
 use std::alloc::Global;
 use std::io::{self, ErrorKind};
 
@@ -53,19 +54,36 @@ fn check_record<'a, F: Files>(
     let Some(name) = asked else {
         return Ok(());
     };
-    if names.iter().any(|read| files.is_replaced(name, read)) {
+    if is_read(files, name, names) {
         return Err(Fault::NoRecord(name));
     }
     match may_replace(alloc, files, name) {
         Ok(true) => probe(files, name),
         Ok(false) => Err(Fault::NoRecord(name)),
         Err(FileFault::OutOfMemory) => Err(Fault::OutOfMemory),
-        // That it can't be written is told rather than that it can't be read.
-        Err(fault) => {
-            probe(files, name)?;
-            Err(Fault::CannotRead(name, fault))
+        Err(fault) => Err(probed_fault(files, name, fault)),
+    }
+}
+
+/// Why a record can't be written to the file of this name, which can't be read. That it can't be written either is
+/// reported first.
+fn probed_fault<'a, F: Files>(files: &F, name: &'a str, fault: FileFault) -> Fault<'a>
+    ensures { IsUnwritable (Some name.now) result }
+{
+    match probe(files, name) {
+        Ok(()) => Fault::CannotRead(name, fault),
+        Err(unwritten) => unwritten,
+    }
+}
+
+/// Whether writing the file `written` would replace one of the files `names`, which are read.
+fn is_read<F: Files>(files: &F, written: &str, names: &[&str]) -> bool {
+    for read in names {
+        if files.is_replaced(written, *read) {
+            return true;
         }
     }
+    false
 }
 
 /// Whether a record may replace the file of this name, as far as its bytes say.
@@ -78,8 +96,16 @@ fn may_replace<F: Files>(alloc: Global, files: &F, name: &str) -> Result<bool, F
             let beginning = read_beginning(alloc, &mut reader, HEADING_BYTES)?;
             Ok(begins_replaceable(beginning.as_slice()))
         }
-        Err(error) if error.kind() == ErrorKind::OutOfMemory => Err(FileFault::OutOfMemory),
-        Err(error) => Err(FileFault::Unreadable(error)),
+        Err(error) => Err(unreadable(error)),
+    }
+}
+
+/// Why what a file holds isn't known, if opening it failed with this error.
+fn unreadable(error: io::Error) -> FileFault {
+    if error.kind() == ErrorKind::OutOfMemory {
+        FileFault::OutOfMemory
+    } else {
+        FileFault::Unreadable(error)
     }
 }
 
@@ -110,7 +136,17 @@ fn probe<'a, F: Files>(files: &F, name: &'a str) -> Result<(), Fault<'a>>
 {
     match files.probe(name) {
         Ok(()) => Ok(()),
-        Err((error, _)) if error.kind() == ErrorKind::OutOfMemory => Err(Fault::OutOfMemory),
-        Err((error, remains)) => Err(Fault::CannotRecord(name, error, Some(remains))),
+        Err((error, remains)) => Err(fault_of(name, error, Some(remains))),
+    }
+}
+
+/// Why a file of this name isn't written, if that failed with this error.
+pub fn fault_of<'a>(name: &'a str, error: io::Error, remains: Option<Remains>) -> Fault<'a>
+    ensures { IsUnwritable (Some name.now) result }
+{
+    if error.kind() == ErrorKind::OutOfMemory {
+        Fault::OutOfMemory
+    } else {
+        Fault::CannotRecord(name, error, remains)
     }
 }

@@ -12,13 +12,14 @@ use std::alloc::{AllocError, Global};
 /// Reports the turns of a run that people follow.
 #[derive(Drop)]
 pub struct Tracing<'w, 'r, T> {
-    teller: &'w mut T,
+    /// Shows the report.
+    pub teller: &'w mut T,
     /// Makes the turns once more, if they are to be reported.
     tracer: Option<Tracer<'r>>,
     /// How many lines of the record were gone through.
     seen: usize,
     /// Whether memory was refused to what was to be reported.
-    is_lacking: bool,
+    pub is_lacking: bool,
 }
 
 impl<'w, 'r, T: Tell> Tracing<'w, 'r, T> {
@@ -37,21 +38,6 @@ impl<'w, 'r, T: Tell> Tracing<'w, 'r, T> {
         self.tracer.is_some()
     }
 
-    /// Whether there is a terminal, on which it is shown how far a run is.
-    pub fn is_shown(&self) -> bool {
-        self.teller.is_shown()
-    }
-
-    /// Shows there how far it is.
-    pub fn show_run(&mut self, turns: u64, handlers: usize) {
-        self.teller.show_run(turns, handlers)
-    }
-
-    /// Whether memory was refused to what was to be reported.
-    pub fn is_lacking(&self) -> bool {
-        self.is_lacking
-    }
-
     /// Reports the lines of a record that weren't gone through, if turns are reported.
     pub fn follow(&mut self, lines: &[RecordLine]) {
         if !self.is_told() {
@@ -61,18 +47,6 @@ impl<'w, 'r, T: Tell> Tracing<'w, 'r, T> {
             self.tell_line(*line);
         }
         self.seen = lines.len();
-    }
-
-    /// Reports the lines of a whole record.
-    ///
-    /// # Errors
-    /// Memory was refused to what was to be reported.
-    pub fn follow_all(&mut self, lines: &[RecordLine]) -> Result<(), AllocError> {
-        self.follow(lines);
-        if self.is_lacking {
-            return Err(AllocError);
-        }
-        Ok(())
     }
 
     fn tell_line(&mut self, line: RecordLine) {

@@ -3,8 +3,10 @@
 ghost use Rattle.std.specs.Prelude.{◌≡◌, ◌++◌, IfOk, OnOk};
 ghost use Rattle.sc_serve.specs.Search as spec;
 
+use crate::numbered::push_number;
 use sc_arguments::Sought;
 use sc_audit::RecordLine;
+use sc_explain_text::Lines;
 use sc_search::{End, Finding, Length, Order, Verdict};
 use std::alloc::{AllocError, Global};
 
@@ -21,9 +23,7 @@ pub fn verdict_lines(
     push_finding(alloc, &mut lines, sought, verdict)?;
     push_length(alloc, &mut lines, verdict.length)?;
     push_outcomes(alloc, &mut lines, &verdict.finding, verdict.ends.len())?;
-    let states = verdict.states;
-    let told = format!(in alloc; "states {states}\n")?;
-    lines.extend_from_slice(told.as_bytes())?;
+    push_number(alloc, &mut lines, "states ", verdict.states as u64, "\n")?;
     Ok(lines)
 }
 
@@ -80,9 +80,9 @@ fn push_found(
 ) -> Result<(), AllocError>
     ensures { OnOk result (lines.new.items ≡ lines.old.items ++ spec.found_line what.now order.now) }
 {
+    lines.extend_from_slice(what.as_bytes())?;
     let turns = turns_of(order.lines.as_slice());
-    let told = format!(in alloc; "{what} after {turns} turns\n")?;
-    lines.extend_from_slice(told.as_bytes())
+    push_number(alloc, lines, " after ", turns, " turns\n")
 }
 
 /// Adds whether orders end, as far as that is known.
@@ -90,10 +90,13 @@ fn push_length(alloc: Global, lines: &mut Vec<u8>, length: Length) -> Result<(),
     ensures { OnOk result (lines.new.items ≡ lines.old.items ++ spec.length_line length) }
 {
     match length {
-        Length::AtMost(turns) => {
-            let told = format!(in alloc; "orders end after {turns} turns at most\n")?;
-            lines.extend_from_slice(told.as_bytes())
-        }
+        Length::AtMost(turns) => push_number(
+            alloc,
+            lines,
+            "orders end after ",
+            turns as u64,
+            " turns at most\n",
+        ),
         Length::Endless => lines.extend_from_slice(b"some order goes on for ever\n"),
         Length::Unknown => Ok(()),
     }
@@ -109,25 +112,22 @@ fn push_outcomes(
     ensures { OnOk result (lines.new.items ≡ lines.old.items ++ spec.outcomes_line finding.now count) }
 {
     match finding {
-        Finding::Nothing => {
-            let told = format!(in alloc; "outcomes {count}\n")?;
-            lines.extend_from_slice(told.as_bytes())
-        }
+        Finding::Nothing => push_number(alloc, lines, "outcomes ", count as u64, "\n"),
         Finding::Stuck(_) | Finding::Fails(_) | Finding::Refused(_) | Finding::Undecided => Ok(()),
     }
 }
 
 /// Each outcome: after how many turns it comes, and its report.
 pub fn outcome_lines(alloc: Global, ends: &[End]) -> Result<Vec<u8>, AllocError> {
-    let mut lines = Vec::new(alloc);
-    for (index, end) in ends.iter().enumerate() {
-        let number = index + 1;
-        let turns = turns_of(end.order.lines.as_slice());
-        let heading = format!(in alloc; "outcome {number} after {turns} turns\n")?;
-        lines.extend_from_slice(heading.as_bytes())?;
-        lines.extend_from_slice(end.report.as_slice())?;
+    let mut lines = Lines::new(alloc);
+    let mut number: u64 = 0;
+    for end in ends {
+        number = number.saturating_add(1);
+        lines.fill_number("outcome ~", number);
+        lines.fill_number(" after ~ turns\n", turns_of(end.order.lines.as_slice()));
+        lines.push_bytes(end.report.as_slice());
     }
-    Ok(lines)
+    lines.finish()
 }
 
 /// How many turns these lines are, all together.

@@ -28,7 +28,8 @@ struct Pace {
 #[derive(Drop)]
 pub struct RunWatch<'w, 'r, C, T> {
     clock: &'w C,
-    tracing: Tracing<'w, 'r, T>,
+    /// Reports the turns.
+    pub tracing: Tracing<'w, 'r, T>,
     /// None if it isn't shown how far the run is.
     pace: Option<Pace>,
 }
@@ -37,18 +38,13 @@ impl<'w, 'r, C: Clock, T: Tell> RunWatch<'w, 'r, C, T> {
     /// Before the first turn. How far the run is isn't shown if turns are reported, if it isn't asked for, or if
     /// there is no clock.
     pub fn new(clock: &'w C, tracing: Tracing<'w, 'r, T>, shows: bool) -> Self {
-        let is_shown = shows && !tracing.is_told() && tracing.is_shown();
+        let is_shown = shows && !tracing.is_told() && tracing.teller.is_shown();
         let pace = if is_shown { pace_of(clock) } else { None };
         RunWatch {
             clock,
             tracing,
             pace,
         }
-    }
-
-    /// Whether memory was refused to what was to be reported.
-    pub fn is_lacking(&self) -> bool {
-        self.tracing.is_lacking()
     }
 
     fn is_due(&mut self) -> bool {
@@ -89,7 +85,7 @@ impl<'w, 'r, C: Clock, T: Tell> Watch for RunWatch<'w, 'r, C, T> {
         if self.is_due() {
             let turns = turns_of(lines);
             let handlers = left.core.handler_count();
-            self.tracing.show_run(turns, handlers)
+            self.tracing.teller.show_run(turns, handlers)
         }
     }
 

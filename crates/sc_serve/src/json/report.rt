@@ -1,7 +1,8 @@
 //! Reports as objects of JSON.
 
-use crate::json::number_of;
-use crate::json::writer::Writer;
+use crate::json::quoting::push_quoted;
+use sc_explain_text::Lines;
+use std::alloc::Global;
 
 /// Reads a report from its beginning.
 #[derive(Drop)]
@@ -10,7 +11,7 @@ struct Reader<'t> {
 }
 
 /// The parts of a handler's line.
-#[derive(Clone, Copy)]
+#[derive(Drop)]
 struct Line<'t> {
     number: &'t str,
     status: &'t str,
@@ -20,73 +21,94 @@ struct Line<'t> {
 }
 
 /// Writes a report: each handler with its status, the code of its failure, how many requests it refused, and its
-/// output; how the run has stopped; and the answer of its audit, if there is one.
-pub fn push_report(json: &mut Writer, name: &str, text: &[u8]) {
-    let mut reader = Reader { rest: text };
-    let mut handlers = Writer::new(json.alloc);
-    push_handlers(&mut handlers, &mut reader);
-    let stopped = reader.told_behind("stopped ");
-    let audit = reader.told_behind("audit ");
-    json.open(name, "{");
-    json.text("answer", Some("report"));
-    json.text("audit", audit);
-    json.value("handlers", &handlers);
-    json.text("stopped", stopped);
-    json.close("}")
+/// output; how the run has stopped; and the answer of its audit, if there is one. Only outputs may need escapes.
+pub fn push_report(alloc: Global, lines: &mut Lines, report: &[u8]) {
+    let mut reader = Reader { rest: report };
+    let mut handlers = Lines::new(alloc);
+    push_handlers(alloc, &mut handlers, &mut reader);
+    let stopped = reader.line_after("stopped ");
+    match reader.line_after("audit ") {
+        Some(audit) => lines.fill_name(r#"{"answer":"report","audit":"~","handlers":["#, audit),
+        None => lines.push(r#"{"answer":"report","audit":null,"handlers":["#),
+    }
+    lines.push_lines(&handlers);
+    match stopped {
+        Some(stopped) => lines.fill_name(r#"],"stopped":"~"}"#, stopped),
+        None => lines.push(r#"],"stopped":null}"#),
+    }
 }
 
 /// Writes the handlers with which a report begins.
-fn push_handlers(json: &mut Writer, reader: &mut Reader<'_>) {
-    json.open("", "[");
+fn push_handlers(alloc: Global, lines: &mut Lines, reader: &mut Reader<'_>) {
+    let mut before = "";
     for _ in 0..reader.rest.len() {
-        let Some(line) = reader.told_behind("handler ").and_then(line_told) else {
+        let Some(told) = reader.line_after("handler ") else {
             break;
         };
-        let output = reader.take(line.length);
-        push_handler(json, line, output)
+        let Some(line) = line_told(told) else {
+            break;
+        };
+        lines.push(before);
+        push_handler(alloc, lines, &line, reader.take(line.length));
+        before = ",";
     }
-    json.close("]")
 }
 
-fn push_handler(json: &mut Writer, line: Line<'_>, output: &[u8]) {
-    json.open("", "{");
-    json.text("cause", line.cause);
-    json.number("number", number_of(line.number));
-    json.bytes("output", output);
-    json.number("refused", number_of(line.refused));
-    json.text("status", Some(line.status));
-    json.close("}")
+/// Writes a handler. Bytes of its output that aren't UTF-8 get a mark.
+fn push_handler(alloc: Global, lines: &mut Lines, line: &Line<'_>, output: &[u8]) {
+    match line.cause {
+        Some(cause) => lines.fill_name(r#"{"cause":"~","#, cause),
+        None => lines.push(r#"{"cause":null,"#),
+    }
+    lines.fill_name(r#""number":~,"output":"#, line.number);
+    push_quoted(alloc, lines, String::from_utf8_lossy(alloc, output));
+    lines.fill(
+        r#","refused":~,"status":"~"}"#,
+        &[line.refused, line.status],
+    )
 }
 
 /// The parts of a handler's line after its first word: `NUMBER STATUS refused COUNT output BYTES`; the status may
 /// have a code after it.
 fn line_told(told: &str) -> Option<Line<'_>> {
-    let (standing, counts) = told.split_once(" refused ")?;
-    let (number, status) = standing.split_once(' ')?;
-    let (refused, length) = counts.split_once(" output ")?;
-    let (status, cause) = match status.split_once(' ') {
+    if let Some((standing, counts)) = told.split_once(" refused ")
+        && let Some((number, status)) = standing.split_once(' ')
+        && let Some((refused, length)) = counts.split_once(" output ")
+        && let Ok(length) = length.parse::<usize>()
+    {
+        let (status, cause) = status_and_cause(status);
+        Some(Line {
+            number,
+            status,
+            cause,
+            refused,
+            length,
+        })
+    } else {
+        None
+    }
+}
+
+fn status_and_cause(told: &str) -> (&str, Option<&str>) {
+    match told.split_once(' ') {
         Some((status, cause)) => (status, Some(cause)),
-        None => (status, None),
-    };
-    Some(Line {
-        number,
-        status,
-        cause,
-        refused,
-        length: length.parse::<usize>().ok()?,
-    })
+        None => (told, None),
+    }
 }
 
 impl<'t> Reader<'t> {
     /// The rest of the next line after these words, or None if it doesn't begin so: then it is still the next one.
-    fn told_behind(&mut self, words: &str) -> Option<&'t str> {
-        let told = self.rest.strip_prefix(words.as_bytes())?;
-        let length = told.iter().position(|byte| *byte == b'\n')?;
-        self.rest = told.get(length + 1..)?;
-        str::from_utf8(told.get(..length)?).ok()
+    fn line_after(&mut self, words: &str) -> Option<&'t str> {
+        match self.rest.strip_prefix(words.as_bytes()) {
+            Some(told) => {
+                self.rest = told;
+                str::from_utf8(self.take(line_length(told))).ok()
+            }
+            None => None,
+        }
     }
 
-    /// Takes this number of bytes, without the line feed after them.
+    /// Takes this number of bytes, and the line feed after them.
     fn take(&mut self, length: usize) -> &'t [u8] {
         let (taken, rest) = self
             .rest
@@ -95,4 +117,16 @@ impl<'t> Reader<'t> {
         self.rest = rest.strip_prefix(b"\n").unwrap_or(rest);
         taken
     }
+}
+
+/// How many bytes the first line of a text has, without its line feed.
+fn line_length(text: &[u8]) -> usize {
+    let mut length = 0_usize;
+    for byte in text {
+        if *byte == b'\n' {
+            break;
+        }
+        length = length.saturating_add(1);
+    }
+    length
 }

@@ -1,11 +1,11 @@
 //! The verdict of a search as an object of JSON.
 
 use crate::json::report::push_report;
-use crate::json::writer::Writer;
 use crate::searching::lines_of;
 use crate::verdict::turns_of;
 use sc_arguments::{SearchOptions, Sought};
 use sc_audit::RecordLine;
+use sc_explain_text::Lines;
 use sc_search::{End, Finding, Length, Verdict};
 use std::alloc::{AllocError, Global};
 
@@ -15,100 +15,88 @@ pub fn search_object(
     options: &SearchOptions<'_>,
     verdict: &Verdict,
 ) -> Result<Vec<u8>, AllocError> {
-    let lines = lines_of(&verdict.finding);
-    let (endless, longest) = length_values(verdict.length);
-    let mut json = Writer::new(alloc);
-    json.open("", "{");
-    json.truth(
-        "all_outcomes",
-        Some(has_all_outcomes(options.sought, verdict)),
-    );
-    json.text("answer", Some(answer_of(&verdict.finding)));
-    json.truth("endless", endless);
-    json.number("longest", longest);
-    push_order(&mut json, lines);
-    json.number("outcomes", Some(verdict.ends.len() as u64));
-    json.truth("proved", Some(is_proved(verdict)));
-    push_reports(&mut json, options, verdict.ends.as_slice());
-    json.number("states", Some(verdict.states as u64));
-    json.number("turns", turns_in(lines));
-    json.close("}");
-    json.finish()
+    let mut lines = Lines::new(alloc);
+    let order = lines_of(&verdict.finding);
+    lines.push(answer_of(options.sought, verdict));
+    push_length(&mut lines, verdict.length);
+    lines.push(r#","order":"#);
+    push_order(&mut lines, order);
+    lines.fill_number(outcomes_of(verdict), verdict.ends.len() as u64);
+    push_reports(alloc, &mut lines, options, verdict.ends.as_slice());
+    lines.fill_number(r#","states":~"#, verdict.states as u64);
+    match order {
+        Some(order) => lines.fill_number(",\"turns\":~}\n", turns_of(order)),
+        None => lines.push(",\"turns\":null}\n"),
+    }
+    lines.finish()
 }
 
-/// Whether the outcomes that were met are all that there are. A search that goes on after failures and isn't whole may leave
-/// out some in which a handler fails.
-fn has_all_outcomes(sought: Sought, verdict: &Verdict) -> bool {
+/// What was found, and whether the outcomes that were met are all that there are. A search that goes on after failures and
+/// isn't whole may leave out some in which a handler fails.
+fn answer_of(sought: Sought, verdict: &Verdict) -> &'static str {
     match verdict.finding {
-        Finding::Nothing => verdict.is_whole || !matches!(sought, Sought::Stuck | Sought::Refused),
-        Finding::Stuck(_) | Finding::Fails(_) | Finding::Refused(_) | Finding::Undecided => false,
+        Finding::Nothing
+            if verdict.is_whole || !matches!(sought, Sought::Stuck | Sought::Refused) => {
+            r#"{"all_outcomes":true,"answer":"none""#
+        }
+        Finding::Nothing => r#"{"all_outcomes":false,"answer":"none""#,
+        Finding::Stuck(_) => r#"{"all_outcomes":false,"answer":"stuck""#,
+        Finding::Fails(_) => r#"{"all_outcomes":false,"answer":"fails""#,
+        Finding::Refused(_) => r#"{"all_outcomes":false,"answer":"refused""#,
+        Finding::Undecided => r#"{"all_outcomes":false,"answer":"undecided""#,
     }
 }
 
-fn answer_of(finding: &Finding) -> &'static str {
-    match finding {
-        Finding::Nothing => "none",
-        Finding::Stuck(_) => "stuck",
-        Finding::Fails(_) => "fails",
-        Finding::Refused(_) => "refused",
-        Finding::Undecided => "undecided",
-    }
-}
-
-/// Whether the answer is more than what was met: an order that was found is there, and where none was found every order was
-/// played.
-fn is_proved(verdict: &Verdict) -> bool {
-    match verdict.finding {
-        Finding::Nothing => verdict.is_whole,
-        Finding::Stuck(_) | Finding::Fails(_) | Finding::Refused(_) => true,
-        Finding::Undecided => false,
-    }
-}
-
-/// How many turns the lines of an order are, if there is one.
-fn turns_in(lines: Option<&[RecordLine]>) -> Option<u64> {
-    match lines {
-        Some(lines) => Some(turns_of(lines)),
-        None => None,
-    }
-}
-
-/// Whether some order goes on for ever, and how many turns an order has at most, as far as that is known.
-fn length_values(length: Length) -> (Option<bool>, Option<u64>) {
+/// Writes whether some order goes on for ever, and how many turns an order has at most, as far as that is known.
+fn push_length(lines: &mut Lines, length: Length) {
     match length {
-        Length::AtMost(turns) => (Some(false), Some(turns as u64)),
-        Length::Endless => (Some(true), None),
-        Length::Unknown => (None, None),
+        Length::AtMost(turns) => {
+            lines.fill_number(r#","endless":false,"longest":~"#, turns as u64)
+        }
+        Length::Endless => lines.push(r#","endless":true,"longest":null"#),
+        Length::Unknown => lines.push(r#","endless":null,"longest":null"#),
+    }
+}
+
+/// The number of outcomes, whether the answer is more than what was met, and the name of the reports. An order that was
+/// found is there, and if none was found every order has to be played.
+fn outcomes_of(verdict: &Verdict) -> &'static str {
+    match verdict.finding {
+        Finding::Nothing if !verdict.is_whole => r#","outcomes":~,"proved":false,"reports":"#,
+        Finding::Undecided => r#","outcomes":~,"proved":false,"reports":"#,
+        _ => r#","outcomes":~,"proved":true,"reports":"#,
     }
 }
 
 /// Writes an order: the lines of its record, each as a list of a handler and its number of turns; null if there is
 /// none.
-fn push_order(json: &mut Writer, lines: Option<&[RecordLine]>) {
-    let Some(lines) = lines else {
-        return json.text("order", None);
+fn push_order(lines: &mut Lines, order: Option<&[RecordLine]>) {
+    let Some(order) = order else {
+        return lines.push("null");
     };
-    json.open("order", "[");
-    for line in lines {
-        json.open("", "[");
-        json.number("", Some(line.handler as u64));
-        json.number("", Some(line.turns as u64));
-        json.close("]")
+    lines.push("[");
+    let mut template = "[~,";
+    for line in order {
+        lines.fill_number(template, line.handler as u64);
+        lines.fill_number("~]", line.turns as u64);
+        template = ",[~,";
     }
-    json.close("]")
+    lines.push("]")
 }
 
 /// Writes the outcomes, each with an order and its report; null if they aren't to be listed.
-fn push_reports(json: &mut Writer, options: &SearchOptions<'_>, ends: &[End]) {
+fn push_reports(alloc: Global, lines: &mut Lines, options: &SearchOptions<'_>, ends: &[End]) {
     if !options.lists_outcomes {
-        return json.text("reports", None);
+        return lines.push("null");
     }
-    json.open("reports", "[");
+    lines.push("[");
+    let mut before = r#"{"order":"#;
     for end in ends {
-        json.open("", "{");
-        push_order(json, Some(end.order.lines.as_slice()));
-        push_report(json, "report", end.report.as_slice());
-        json.close("}")
+        lines.push(before);
+        push_order(lines, Some(end.order.lines.as_slice()));
+        lines.push(r#","report":"#);
+        push_report(alloc, lines, end.report.as_slice());
+        before = r#"},{"order":"#;
     }
-    json.close("]")
+    lines.push(if ends.is_empty() { "]" } else { "}]" })
 }

@@ -6,8 +6,8 @@ use Rattle.sc_serve.proofs.replaying.replay_source.Goals as goal
 -- a record is played with its program
 pub returns-in-Ok-clause-answer : goal.returns-in-Ok-clause-answer
 returns-in-Ok-clause-answer g c =
-    replayed (root_of c.args.options.now.root) _ c.args.source.now (image_of c.in-Ok.program) c.play_record.result
-    (rw c.text.ensures at c.in-Ok.ensures.loaded) c.play_record.ensures.answer
+    replayed (root_of c.args.options.now.root) _ c.args.source.now (image_of c.in-Ok.program) c.play_record-answer.result
+    (rw c.text.ensures at c.in-Ok.ensures.loaded) c.play_record-answer.ensures.answer
 
 -- or something is at fault in it
 pub returns-in-Err-clause-answer : goal.returns-in-Err-clause-answer

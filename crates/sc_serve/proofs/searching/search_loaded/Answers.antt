@@ -10,7 +10,7 @@ returns-clause-answer g c =
       ends = c.in_ok-verdict.ensures.ends;
       whole = rw c.aim_of-aim.ensures at c.in_ok-verdict.ensures.whole;
       why = rw c.aim_of-aim.ensures at c.in_ok-verdict.ensures.why;
-      told = c.in_ok-text.ensures;
+      told = c.in_ok-text.ensures.text;
       status = c.exit_of-exit.ensures;
       kept = c.recording_of.ensures;
     }

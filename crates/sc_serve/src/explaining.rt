@@ -1,0 +1,86 @@
+//! What is added to a refusal on standard error: its line of the text, a sentence, and where more is said.
+
+use crate::refusal::Refusal;
+use sc_class::Root;
+use sc_explain_refusal::{Related, diagnose};
+use sc_explain_text::Lines;
+use sc_frontend::Rejection;
+use sc_source::excerpt;
+use sc_source::source::{Place, Source};
+use sc_text::Span;
+use std::alloc::{AllocError, Global};
+
+/// The line of the source text in which something is refused, with carets, a sentence on the fault, the place that
+/// belongs to it, and what more can be said, for a system with a root; nothing if there is none.
+pub fn explanation(
+    alloc: Global,
+    source: &Source,
+    explained: Option<&Root>,
+    rejection: &Rejection,
+) -> Result<Vec<u8>, AllocError> {
+    let mut lines = Lines::new(alloc);
+    if let Some(root) = explained {
+        match Refusal::of(rejection) {
+            Some(refusal) => push_explanation(alloc, &mut lines, source, root, refusal),
+            None if matches!(rejection, Rejection::CodeTooLong) => {
+                lines.push("`scoop explain CodeTooLong` says more\n")
+            }
+            None => {}
+        }
+    }
+    lines.finish()
+}
+
+/// Adds the explanation of a refusal that has a code.
+fn push_explanation(
+    alloc: Global,
+    lines: &mut Lines,
+    source: &Source,
+    root: &Root,
+    refusal: Refusal,
+) {
+    if let Some(span) = refusal.span {
+        push_excerpt(alloc, lines, source, span)
+    }
+    match diagnose(alloc, source.text(), root, refusal.code, refusal.span) {
+        Ok(diagnosis) => {
+            lines.push_bytes(diagnosis.lines.as_slice());
+            if let Some(related) = diagnosis.related {
+                push_related(alloc, lines, source, related)
+            }
+        }
+        Err(_) => lines.lack(),
+    }
+    lines.fill_name("`scoop explain ~` says more\n", refusal.code.code())
+}
+
+/// Adds the line of a part of the source text, with carets.
+fn push_excerpt(alloc: Global, lines: &mut Lines, source: &Source, span: Span) {
+    match excerpt(alloc, source.text().as_bytes(), span) {
+        Ok(shown) => lines.push_bytes(shown.as_slice()),
+        Err(_) => lines.lack(),
+    }
+}
+
+/// Adds the place of a part of the source text that belongs to a fault, and its line with carets.
+fn push_related(alloc: Global, lines: &mut Lines, source: &Source, related: Related) {
+    if let Some(Place { file, line, column }) = source.place_of(related.span.start as usize) {
+        lines.push(file);
+        lines.fill_number(":~:", line as u64);
+        lines.push_number(column as u64);
+        lines.fill_name(": ~\n", related.what);
+        push_excerpt(alloc, lines, source, related.span)
+    }
+}
+
+/// Which file makes the source text too long, and where more is said of that, if it is asked for.
+pub fn too_long_note(alloc: Global, name: &str, is_explained: bool) -> Result<Vec<u8>, AllocError> {
+    let template = "with ~ the files have more than 1,048,576 bytes together, a line feed after each
+`scoop explain L5` says more
+";
+    let mut lines = Lines::new(alloc);
+    if is_explained {
+        lines.fill_name(template, name)
+    }
+    lines.finish()
+}
