@@ -9,12 +9,10 @@ use crate::serve::{Answer, Exit, Fault, Recording, end_with};
 use sc_audit::{RecordLine, Unwritable, write_record, write_whole};
 use sc_source::files::Files;
 use sc_source::writing::Remains;
-use std::alloc::Global;
 use std::io::{self, ErrorKind, Write};
 
 /// Writes an answer, and answers the status that the program ends with.
 pub fn deliver<F: Files, O: Write, E: Write>(
-    alloc: Global,
     answer: &Answer<'_>,
     files: &F,
     out: &mut O,
@@ -29,7 +27,7 @@ pub fn deliver<F: Files, O: Write, E: Write>(
     match told {
         Ok(()) => status_of(answer.exit),
         Err(fault) => {
-            let status = end_with(alloc, fault, err);
+            let status = end_with(&fault, err);
             // An audit that failed comes first.
             match answer.exit {
                 Exit::Broken => status_of(Exit::Broken),

@@ -12,6 +12,7 @@ use std::alloc::{AllocError, Global};
 
 /// The line of the source text in which something is refused, with carets, a sentence on the fault, the place that
 /// belongs to it, and what more can be said, for a system with a root; nothing if there is none.
+#[inline(never)]
 pub fn explanation(
     alloc: Global,
     source: &Source,

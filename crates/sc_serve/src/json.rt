@@ -15,6 +15,7 @@ use std::alloc::{AllocError, Global};
 pub use verdict::search_object;
 
 /// The object of the lines that answer a check, a run or a replay.
+#[inline(never)]
 pub fn answer_object(alloc: Global, text: &[u8]) -> Result<Vec<u8>, AllocError> {
     let mut lines = Lines::new(alloc);
     match text.strip_prefix(b"refused ") {

@@ -129,6 +129,7 @@ fn play<'a, T: Tell>(
 }
 
 /// Reports the turns of a record, if that is asked for.
+#[inline(never)]
 fn tell_turns<T: Tell>(
     alloc: Global,
     program: &Program,

@@ -1,6 +1,6 @@
 //! What is answered to `run`.
 
-ghost use Rattle.std.specs.Prelude.{◌≡◌, ◌++◌, IfErr, IfOk, None, [], map, string_bytes};
+ghost use Rattle.std.specs.Prelude.{◌≡◌, IfErr, IfOk, None, [], map, string_bytes};
 ghost use Rattle.sc_driver.specs.Execution.{IsThreadRun};
 ghost use Rattle.sc_lower.specs.Lowerings.{image_of};
 ghost use Rattle.sc_plant.specs.Bounded.{IsBoundedRun};
@@ -70,11 +70,7 @@ fn run_source<'a, R: Threads + Wait + Clock + Sync, T: Tell>(
     ensures unrun { IfErr result IsUnrun }
 {
     match load_text(alloc, source.text(), &options.root) {
-        Ok(program) => {
-            let answer = run_loaded(rt, alloc, &program, options, source, teller);
-            drop(program);
-            answer
-        }
+        Ok(program) => run_loaded(rt, alloc, &program, options, source, teller),
         Err(rejection) => {
             let explained = root_if(options.is_explained, &options.root);
             answer_explained(alloc, source, &rejection, explained)
@@ -102,7 +98,8 @@ fn run_loaded<'a, R: Threads + Wait + Clock + Sync, T: Tell>(
         exit,
         note,
     } = assess(alloc, program, options, source, &left, statuses.as_slice())?;
-    let (text, lines) = report_with(alloc, left, audited.as_slice())?;
+    let (mut text, lines) = left.into_report(alloc)?;
+    text.extend_from_slice(audited.as_slice())?;
     Ok(Answer {
         text,
         object: None,
@@ -129,9 +126,7 @@ fn run_watched<'p, 'a, R: Threads + Wait + Clock + Sync, T: Tell>(
     let tracer = tracer_of(alloc, source, program, Version::Two, options.trace)?;
     let tracing = Tracing::new(teller, tracer);
     let mut watch = RunWatch::new(rt, tracing, options.is_explained);
-    let ended = run_bounded(rt, alloc, program, options, &mut watch);
-    drop(watch);
-    ended
+    run_bounded(rt, alloc, program, options, &mut watch)
 }
 
 /// Runs a program within the bounds that are asked for.
@@ -152,18 +147,9 @@ fn run_bounded<'p, 'a, R: Threads + Wait + Clock + Sync, T: Tell>(
         output: options.output_limit,
     };
     match run_program(rt, alloc, program, options.workers, bounds, watch) {
-        Ok(ended) => {
-            if watch.tracing.is_lacking {
-                drop(ended);
-                return Err(Fault::OutOfMemory);
-            }
-            Ok(ended)
-        }
-        Err(fault) => {
-            let why = fault_of(&fault);
-            drop(fault);
-            Err(why)
-        }
+        Ok(_) if watch.tracing.is_lacking => Err(Fault::OutOfMemory),
+        Ok(ended) => Ok(ended),
+        Err(fault) => Err(fault_of(fault)),
     }
 }
 
@@ -177,6 +163,7 @@ struct Assessment {
 }
 
 /// Assesses what a run has left.
+#[inline(never)]
 fn assess(
     alloc: Global,
     program: &Program,
@@ -195,20 +182,6 @@ fn assess(
         exit,
         note,
     })
-}
-
-/// The report on what a run has left, with what an audit adds to it, and the lines of the record.
-fn report_with(
-    alloc: Global,
-    left: Left<'_>,
-    audited: &[u8],
-) -> Result<(Vec<u8>, Vec<RecordLine>), AllocError>
-    ensures report { IfOk result (λ parts. parts.0.items ≡ told.report (world_of left.entry) ++ audited.now) }
-    ensures lines { IfOk result (λ parts. parts.1.items ≡ left.entry.lines.items) }
-{
-    let (mut text, lines) = left.into_report(alloc)?;
-    text.extend_from_slice(audited)?;
-    Ok((text, lines))
 }
 
 /// What an audit adds to the report, if one is asked for, and the status.
@@ -248,7 +221,7 @@ fn audit_line(alloc: Global, fault: AuditFault) -> Result<String, AllocError>
 }
 
 /// Why a run isn't done.
-fn fault_of<'a>(fault: &RunFault<'_>) -> Fault<'a>
+fn fault_of<'a>(fault: RunFault<'_>) -> Fault<'a>
     ensures { IsUnrun result }
 {
     match fault {

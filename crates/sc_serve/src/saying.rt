@@ -1,32 +1,36 @@
-//! Why there is no answer, in words.
+//! Why there is no answer, in words. They are written as they come and take no memory, since there may be none left.
 
 use crate::serve::Fault;
 use sc_arguments::UsageFault;
-use sc_explain_text::Lines;
 use sc_source::reading::FileFault;
 use sc_source::writing::Remains;
-use std::alloc::{AllocError, Global};
-use std::io::{self, ErrorKind};
+use std::io::{self, ErrorKind, Write};
 
-/// The words that say why the program ends without an answer.
-///
-/// # Errors
-/// Memory ran out, here or before.
-pub fn words_of(alloc: Global, fault: &Fault<'_>) -> Result<Vec<u8>, AllocError> {
-    let mut lines = Lines::new(alloc);
+/// A message that is written as it is made. After an error nothing more of it is written.
+#[derive(Drop)]
+struct Message<'e, E> {
+    err: &'e mut E,
+    /// What kind of error writing has failed with, if it has.
+    failure: Option<ErrorKind>,
+}
+
+/// Says on `err` why the program ends without an answer. False if that failed since memory ran out.
+#[inline(never)]
+pub fn say<E: Write>(fault: &Fault<'_>, err: &mut E) -> bool {
+    let mut message = Message { err, failure: None };
     match fault {
         Fault::Usage(UsageFault::Arguments(error)) => {
-            push_text(&mut lines, error.to_string(alloc))
+            let written = write!(message.err, "{error}");
+            message.note(written)
         }
-        Fault::CannotRead(name, fault) => push_unread(alloc, &mut lines, name, fault),
+        Fault::CannotRead(name, fault) => push_unread(&mut message, name, fault),
         Fault::CannotRecord(name, error, remains) => {
-            push_unwritten(alloc, &mut lines, name, error, remains)
+            push_unwritten(&mut message, name, error, remains)
         }
-        Fault::NoCode(name) | Fault::NoRecord(name) => lines.fill_name(template_of(fault), name),
-        Fault::Usage(UsageFault::OutOfMemory) | Fault::OutOfMemory => lines.lack(),
-        _ => lines.push(template_of(fault)),
+        Fault::NoCode(name) | Fault::NoRecord(name) => message.fill_name(template_of(fault), name),
+        _ => message.push(template_of(fault)),
     }
-    lines.finish()
+    message.finish()
 }
 
 /// The words of a fault that always has the same ones, but for a name in place of `~`.
@@ -48,24 +52,70 @@ fn template_of(fault: &Fault<'_>) -> &'static str {
     }
 }
 
-/// Adds a text, if there was memory for it.
-fn push_text(lines: &mut Lines, text: Result<String, AllocError>) {
-    match text {
-        Ok(text) => lines.push(text.as_str()),
-        Err(_) => lines.lack(),
+impl<'e, E: Write> Message<'e, E> {
+    /// Adds these words.
+    fn push(&mut self, words: &str) {
+        if self.failure.is_none() {
+            let written = self.err.write_all(words.as_bytes());
+            self.note(written)
+        }
+    }
+
+    /// Adds a text in which this name takes the place of `~`.
+    fn fill_name(&mut self, template: &str, name: &str) {
+        match template.split_once('~') {
+            Some((before, after)) => {
+                self.push(before);
+                self.push(name);
+                self.push(after)
+            }
+            None => self.push(template),
+        }
+    }
+
+    /// Adds these words and this number, on a line.
+    fn push_number(&mut self, words: &str, number: usize) {
+        if self.failure.is_none() {
+            let written = writeln!(self.err, "{words}{number}");
+            self.note(written)
+        }
+    }
+
+    /// Adds an error, on a line.
+    fn push_error(&mut self, error: &io::Error) {
+        if self.failure.is_none() {
+            let written = writeln!(self.err, "{error}");
+            self.note(written)
+        }
+    }
+
+    /// Notes with what writing failed, if it did.
+    fn note(&mut self, written: io::Result<()>) {
+        if let Err(error) = written {
+            self.failure = Some(error.kind())
+        }
+    }
+
+    /// Sees to it that nothing of the message is held back. False if it isn't written since memory ran out.
+    fn finish(&mut self) -> bool {
+        if self.failure.is_none() {
+            let written = self.err.flush();
+            self.note(written)
+        }
+        !matches!(self.failure, Some(ErrorKind::OutOfMemory))
     }
 }
 
 /// Adds which file can't be read, and on a line what is wrong with it.
-fn push_unread(alloc: Global, lines: &mut Lines, name: &str, fault: &FileFault) {
-    lines.fill_name("cannot read ~\n", name);
+fn push_unread<E: Write>(message: &mut Message<'_, E>, name: &str, fault: &FileFault) {
+    message.fill_name("cannot read ~\n", name);
     match fault {
-        FileFault::Unreadable(error) => push_error(alloc, lines, why_unread(error.kind()), error),
+        FileFault::Unreadable(error) => push_cause(message, why_unread(error.kind()), error),
         FileFault::NotUtf8 { offset } => {
-            lines.fill_number("it isn't UTF-8 at offset ~\n", *offset as u64)
+            message.push_number("it isn't UTF-8 at offset ", *offset)
         }
-        FileFault::TooLong => lines.push("it is too long\n"),
-        FileFault::OutOfMemory => lines.push("out of memory\n"),
+        FileFault::TooLong => message.push("it is too long\n"),
+        FileFault::OutOfMemory => message.push("out of memory\n"),
     }
 }
 
@@ -80,29 +130,29 @@ fn why_unread(kind: ErrorKind) -> &'static str {
 }
 
 /// Adds on a line why something can't be done with a file, in these words if there are any.
-fn push_error(alloc: Global, lines: &mut Lines, words: &str, error: &io::Error) {
+fn push_cause<E: Write>(message: &mut Message<'_, E>, words: &str, error: &io::Error) {
     if words.is_empty() {
-        push_text(lines, error.to_string(alloc));
-        lines.push("\n")
+        message.push_error(error)
     } else {
-        lines.push(words)
+        message.push(words)
     }
 }
 
 /// Adds which file can't be written, why, and what is left in it.
-fn push_unwritten(
-    alloc: Global,
-    lines: &mut Lines,
+fn push_unwritten<E: Write>(
+    message: &mut Message<'_, E>,
     name: &str,
     error: &io::Error,
     remains: &Option<Remains>,
 ) {
-    lines.fill_name("cannot write ~\n", name);
-    push_error(alloc, lines, why_unwritten(error.kind()), error);
+    message.fill_name("cannot write ~\n", name);
+    push_cause(message, why_unwritten(error.kind()), error);
     match remains {
-        None | Some(Remains::Unchanged) => lines.push("it is as it was\n"),
-        Some(Remains::Beginning) => lines.push("a beginning of the record may be written to it\n"),
-        Some(Remains::Beside(name)) => lines.fill_name(
+        None | Some(Remains::Unchanged) => message.push("it is as it was\n"),
+        Some(Remains::Beginning) => {
+            message.push("a beginning of the record may be written to it\n")
+        }
+        Some(Remains::Beside(name)) => message.fill_name(
             "it is as it was, and a beginning of the record is left in ~\n",
             name.as_str(),
         ),

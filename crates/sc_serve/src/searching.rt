@@ -106,6 +106,7 @@ struct VerdictText {
 }
 
 /// Writes a verdict.
+#[inline(never)]
 fn write_verdict(
     alloc: Global,
     program: &Program,

@@ -15,7 +15,7 @@ use crate::progress::{Progress, Tell};
 use crate::refusal::Refusal;
 use crate::replaying::answer_replay;
 use crate::running::answer_run;
-use crate::saying::words_of;
+use crate::saying::say;
 use crate::searching::answer_search;
 use crate::target::check_target;
 use sc_arguments::{Command, Format, Invocation, UsageFault, ask_for_help, read_arguments};
@@ -33,7 +33,7 @@ use sc_source::writing::Remains;
 use sc_text::LexFault;
 use std::alloc::{AllocError, Global};
 use std::convert::AsStr;
-use std::io::{self, ErrorKind, Write};
+use std::io::{self, Write};
 use std::sync::Wait;
 use std::thread::Threads;
 use std::time::Clock;
@@ -157,49 +157,30 @@ pub fn serve<
     let response = respond(rt, arguments, files, &mut progress, is_terminal);
     progress.clear();
     match response {
-        Ok(answer) => deliver(rt.alloc(), &answer, files, out, err),
-        Err(fault) => end_with(rt.alloc(), fault, err),
+        Ok(answer) => deliver(&answer, files, out, err),
+        Err(fault) => end_with(&fault, err),
     }
 }
 
 /// Says on `err` why the program ends without an answer, and answers its status.
-pub fn end_with<E: Write>(alloc: Global, fault: Fault<'_>, err: &mut E) -> u8
+pub fn end_with<E: Write>(fault: &Fault<'_>, err: &mut E) -> u8
     ensures { IsGivenUp result }
 {
     // The program ends in any case, and nothing can report that `err` failed. The status still says so if
     // it failed since memory ran out.
-    let is_written = match words_of(alloc, &fault) {
-        Ok(words) => write_words(words.as_slice(), err),
-        Err(_) => {
-            write_words(b"out of memory\n", err);
-            false
-        }
-    };
-    let status = status_after(&fault, is_written);
-    drop(fault);
-    status
+    let is_written = say(fault, err);
+    status_after(fault, is_written)
 }
 
-/// The status of a program without an answer. `is_written` is false if memory ran out.
+/// The status of a program without an answer. `is_written` is false if memory ran out as the reason was written.
 fn status_after(fault: &Fault<'_>, is_written: bool) -> u8
     ensures { IsGivenUp result }
 {
     match fault {
+        Fault::Usage(UsageFault::OutOfMemory) | Fault::OutOfMemory => Exit::Broken as u8,
         Fault::NoThread | Fault::LogsDiffer => Exit::Broken as u8,
         _ if is_written => Exit::Usage as u8,
         _ => Exit::Broken as u8,
-    }
-}
-
-/// Writes these words. False if memory ran out.
-fn write_words<E: Write>(words: &[u8], err: &mut E) -> bool {
-    let written = match err.write_all(words) {
-        Ok(()) => err.flush(),
-        Err(error) => Err(error),
-    };
-    match written {
-        Ok(()) => true,
-        Err(error) => error.kind() != ErrorKind::OutOfMemory,
     }
 }
 

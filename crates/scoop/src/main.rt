@@ -31,7 +31,7 @@ fn main(rt: HostRuntime) -> ExitCode {
             &mut err,
             is_terminal,
         ),
-        Err(fault) => serve::end_with(rt.alloc(), fault, &mut err),
+        Err(fault) => serve::end_with(&fault, &mut err),
     };
     ExitCode::from(status)
 }

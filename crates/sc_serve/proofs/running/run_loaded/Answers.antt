@@ -2,7 +2,7 @@ use Rattle.std.proofs.Common.{refl}
 use Rattle.sc_lower.specs.Lowerings.{image_of}
 use Rattle.sc_world.specs.Reports.{report}
 use Rattle.sc_plant.specs.Left.{world_of}
-use Rattle.sc_serve.proofs.RunReports.{judged_after}
+use Rattle.sc_serve.proofs.RunReports.{judged_after, reported}
 use Rattle.sc_serve.proofs.running.run_loaded.Goals as goal
 
 -- the report of what the run left, with what its audit adds, and its record
@@ -11,7 +11,8 @@ returns-clause-answer g c =
     let left = c.in_ok-left.field-0.left in
     let text = report (world_of left) in
     let judged = rw c.as_slice.ensures.value at c.in_ok-audited.ensures in
-    let all = rw c.as_slice-2.ensures.value at c.in_ok-text.ensures.report in
+    let all = reported text _ _ _ _ c.in_ok-text.ensures.report c.as_slice-2.ensures.value
+    c.in_ok-extend_from_slice.ensures.items in
     record {
       turns = c.in_ok-left.field-0.turns;
       lines = left.lines.items;

@@ -5,8 +5,8 @@ use Rattle.sc_serve.proofs.running.run_source.Goals as goal
 -- its program is run
 pub returns-in-Ok-clause-answer : goal.returns-in-Ok-clause-answer
 returns-in-Ok-clause-answer g c =
-    ran c.args.options.now c.args.source.now (image_of c.in-Ok.program) c.run_loaded-answer.result
-    (rw c.text.ensures at c.in-Ok.ensures.loaded) c.run_loaded-answer.ensures.answer
+    ran c.args.options.now c.args.source.now (image_of c.in-Ok.program) c.run_loaded.result
+    (rw c.text.ensures at c.in-Ok.ensures.loaded) c.run_loaded.ensures.answer
 
 -- or something is at fault in it
 pub returns-in-Err-clause-answer : goal.returns-in-Err-clause-answer
