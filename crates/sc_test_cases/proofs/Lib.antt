@@ -1,0 +1,2 @@
+pub mod DoneHandlers
+pub mod TestLists
