@@ -1,9 +1,10 @@
 -- What words say, worked out.
 use Rattle.std.proofs.Common.{◌≡◌, [], ◌∷◌, Some, None, true, false, codes, refl}
-use Rattle.sc_arguments.specs.Asked.{asks_for_help, format_in, sought_named}
+use Rattle.sc_arguments.specs.Asked.{asks_for_help, format_in, sought_named, test_format_named}
 use Rattle.sc_arguments.specs.Words.{given_in, has_option, value_of}
 use Rattle.sc_arguments.specs.declared.arguments.format.Format.TheVariants.{Json, Text}
 use Rattle.sc_arguments.specs.declared.arguments.searching.Sought.TheVariants.{Any, Fails, Refused, Stuck}
+use Rattle.sc_arguments.specs.declared.arguments.testing.TestFormat.TheVariants as tests
 
 -- ---- the value of an option
 
@@ -99,3 +100,17 @@ by_no_file = refl
 
 by_no_value : asks_for_help (codes "scoop" ∷ codes "run" ∷ codes "--record" ∷ codes "-h" ∷ codes "a.e" ∷ []) ≡ false
 by_no_value = refl
+
+-- ---- tests
+
+value_of_a_class : given_in false (codes "--root-class" ∷ codes "A" ∷ codes "a.e" ∷ []) ≡ codes "a.e" ∷ []
+value_of_a_class = refl
+
+class_is_no_root : value_of (codes "--root") (codes "--root-class" ∷ codes "A" ∷ []) ≡ None
+class_is_no_root = refl
+
+lines_of_a_protocol : test_format_named (codes "tap") ≡ tests.Tap
+lines_of_a_protocol = refl
+
+lines_of_any_other : test_format_named (codes "xml") ≡ tests.Text
+lines_of_any_other = refl

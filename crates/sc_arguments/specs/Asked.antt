@@ -17,6 +17,9 @@ use Rattle.sc_arguments.specs.declared.arguments.format.Format.TheVariants.{Json
 use Rattle.sc_arguments.specs.declared.arguments.searching.SearchOptions.{SearchOptions}
 use Rattle.sc_arguments.specs.declared.arguments.searching.Sought.{Sought}
 use Rattle.sc_arguments.specs.declared.arguments.searching.Sought.TheVariants.{Any, Fails, Refused, Stuck}
+use Rattle.sc_arguments.specs.declared.arguments.testing.TestFormat.{TestFormat}
+use Rattle.sc_arguments.specs.declared.arguments.testing.TestFormat.TheVariants as tests
+use Rattle.sc_arguments.specs.declared.arguments.testing.TestOptions.{TestOptions}
 
 -- ---- what options say
 
@@ -40,6 +43,13 @@ IsRootIn words root =
 -- the format that `--format` names, or else text
 abbrev pub format_in : List (List ℕ) → Format
 format_in words = format_named (value_or (codes "--format") (codes "text") words)
+
+-- the format of the answer to `test` that the word names: that of `json`, `tap` or `junit`, or else text
+abbrev pub test_format_named : List ℕ → TestFormat
+test_format_named word =
+    if bytes_eq word (codes "json") then tests.Json
+    else if bytes_eq word (codes "tap") then tests.Tap
+    else if bytes_eq word (codes "junit") then tests.Junit else tests.Text
 
 -- `limit` is the number that the value of the option writes, up to 10 ^ 12, or none if the option isn't used.
 abbrev pub IsLimitBy : Option (List ℕ) → Option ℕ → Type 0
@@ -73,6 +83,15 @@ pub record AreSearchOptions (words : List (List ℕ)) (options : SearchOptions) 
   pub record_name : option_map (λ name. name.now) options.record ≡ value_of (codes "--record") words
   pub lists_outcomes : options.lists_outcomes ≡ has_option (codes "--outcomes") words
 
+pub record AreTestOptions (words : List (List ℕ)) (options : TestOptions) : Type 0 where
+  pub class : option_map (λ name. name.now) options.class ≡ value_of (codes "--root-class") words
+  pub format : options.format ≡ test_format_named (value_or (codes "--format") (codes "text") words)
+  pub workers : WritesUpTo 8 (value_or (codes "--workers") (codes "1") words) options.workers
+  pub turns : WritesUpTo 10000000 (value_or (codes "--turns") (codes "1000000") words) options.turns
+  pub is_searched : options.is_searched ≡ has_option (codes "--search") words
+  pub states : WritesUpTo 10000000 (value_or (codes "--states") (codes "100000") words) options.states
+  pub folder : option_map (λ name. name.now) options.folder ≡ value_of (codes "--record") words
+
 -- ---- what a command asks for
 
 abbrev pub texts_of : List (Bor (List ℕ)) → List (List ℕ)
@@ -100,6 +119,8 @@ IsAskedOf name words (invocation.Replay options names) =
     × AreReplayOptions words options
 IsAskedOf name words (invocation.Search options names) =
     (name ≡ codes "search") × AreGivenIn words names.items × AreSearchOptions words options
+IsAskedOf name words (invocation.Test options names) =
+    (name ≡ codes "test") × AreGivenIn words names.items × AreTestOptions words options
 IsAskedOf name words (invocation.Explain word) =
     (name ≡ codes "explain") × (option_map (λ w. w.now) word ≡ slice_get (given_in false words) 0)
 

@@ -10,9 +10,9 @@ ends_options word = bytes_eq word (codes "--")
 -- the word is an option whose value is the next word
 abbrev pub has_value : List ℕ → Bool
 has_value word =
-    bytes_eq word (codes "--root") || (bytes_eq word (codes "--workers") || (bytes_eq word (codes "--turns")
-    || (bytes_eq word (codes "--output-limit") || (bytes_eq word (codes "--record") || (bytes_eq word (codes "--format")
-    || (bytes_eq word (codes "--for") || bytes_eq word (codes "--states")))))))
+    bytes_eq word (codes "--root") || (bytes_eq word (codes "--root-class") || (bytes_eq word (codes "--workers")
+    || (bytes_eq word (codes "--turns") || (bytes_eq word (codes "--output-limit") || (bytes_eq word (codes "--record")
+    || (bytes_eq word (codes "--format") || (bytes_eq word (codes "--for") || bytes_eq word (codes "--states"))))))))
 
 -- The word is an option: it begins with `-`. A `-` alone is a file.
 abbrev pub is_option : List ℕ → Bool

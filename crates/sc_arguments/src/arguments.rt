@@ -8,6 +8,7 @@ mod numbers;
 mod options;
 mod root_option;
 mod searching;
+mod testing;
 mod tracing;
 mod words;
 
@@ -26,6 +27,7 @@ use crate::arguments::options::{
 };
 use crate::arguments::root_option::read_root;
 use crate::arguments::searching::{SEARCH, read_search};
+use crate::arguments::testing::{TEST, read_tests};
 use crate::arguments::tracing::{read_trace, read_trace_by};
 use crate::arguments::words::{has_option, value_of, value_or};
 use clap::ArgMatches;
@@ -37,6 +39,7 @@ use sc_class::Root;
 pub use searching::{SearchOptions, Sought};
 use std::alloc::{AllocError, Global};
 use std::convert::AsStr;
+pub use testing::{TestFormat, TestOptions};
 use thiserror::Error;
 pub use tracing::Trace;
 
@@ -51,6 +54,8 @@ pub enum Invocation<'a> {
     Replay(ReplayOptions<'a>, Vec<&'a str>),
     /// To play the system of these files in every order of turns.
     Search(SearchOptions<'a>, Vec<&'a str>),
+    /// To play the tests of the system of these files.
+    Test(TestOptions<'a>, Vec<&'a str>),
     /// To put each of these files in its layout, or if that isn't said, to name those that aren't.
     Layout(bool, Vec<&'a str>),
     /// To explain this code or name, or to list all codes.
@@ -150,15 +155,15 @@ impl From<AllocError> for UsageFault {
     }
 }
 
-const DEFAULT_TURNS: &str = "1000000";
+pub const DEFAULT_TURNS: &str = "1000000";
 
 /// The most turns that a run may make.
-const MOST_TURNS: u32 = 10_000_000;
+pub const MOST_TURNS: u32 = 10_000_000;
 
-const DEFAULT_WORKERS: &str = "1";
+pub const DEFAULT_WORKERS: &str = "1";
 
 /// The most threads that may play the handlers.
-const MOST_WORKERS: u8 = 8;
+pub const MOST_WORKERS: u8 = 8;
 
 const ABOUT: &str = "Checks and runs systems of SCOOP classes";
 
@@ -296,9 +301,9 @@ const EXPLAIN_HELP: &str =
 const RUN_EXPLAIN_HELP: &str =
     "Shows where a refusal stands, or says why handlers failed or wait, on standard error; the default where that is a terminal";
 
-const TURNS_HELP: &str = "The most turns that are played, 1 to 10000000";
+pub const TURNS_HELP: &str = "The most turns that are played, 1 to 10000000";
 
-const WORKERS_HELP: &str = "How many threads play the handlers, 1 to 8";
+pub const WORKERS_HELP: &str = "How many threads play the handlers, 1 to 8";
 
 const AUDIT_HELP: &str = "Plays the record by one thread, and says whether that ends in the same";
 
@@ -314,7 +319,7 @@ struct Described {
 }
 
 /// The commands of the program.
-const COMMANDS: [Described; 7] = [
+const COMMANDS: [Described; 8] = [
     Described {
         name: "check",
         about: CHECK_ABOUT,
@@ -357,6 +362,7 @@ const COMMANDS: [Described; 7] = [
         ],
     },
     SEARCH,
+    TEST,
     Described {
         name: "print",
         about: PRINT_ABOUT,
@@ -490,6 +496,10 @@ fn read_command<'a, S: AsStr>(
         "search" => {
             let search = read_search(alloc, words, is_explained)?;
             Ok(Invocation::Search(search, given))
+        }
+        "test" => {
+            let tests = read_tests(words, options)?;
+            Ok(Invocation::Test(tests, given))
         }
         "explain" => Ok(Invocation::Explain(given.first().copied())),
         _ => Err(UsageFault::NoCommand),

@@ -8,5 +8,5 @@ mod arguments;
 
 pub use arguments::{
     CheckOptions, Command, Format, Invocation, ReplayOptions, RunOptions, SearchOptions, Sought,
-    Trace, UsageFault, ask_for_help, read_arguments,
+    TestFormat, TestOptions, Trace, UsageFault, ask_for_help, read_arguments,
 };

@@ -49,10 +49,10 @@ pub enum Sought {
 
 const DEFAULT_SOUGHT: &str = "any";
 
-const DEFAULT_STATES: &str = "100000";
+pub const DEFAULT_STATES: &str = "100000";
 
 /// The most states that a search may keep.
-const MOST_STATES: u32 = 10_000_000;
+pub const MOST_STATES: u32 = 10_000_000;
 
 const SOUGHT: [&str; 4] = ["stuck", "fails", "refused", "any"];
 
@@ -98,7 +98,7 @@ Exit status:
   5  memory ran out
   6  none found, or undecided: the states were used up";
 
-const STATES_HELP: &str = "The most states that are kept, 1 to 10000000";
+pub const STATES_HELP: &str = "The most states that are kept, 1 to 10000000";
 
 const FOUND_HELP: &str = "Writes the record of the order that is found to this file";
 

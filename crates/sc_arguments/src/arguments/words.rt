@@ -99,6 +99,7 @@ pub fn has_value(word: &str) -> bool
     ensures { result ≡ spec.has_value word.now }
 {
     word == "--root"
+        || word == "--root-class"
         || word == "--workers"
         || word == "--turns"
         || word == "--output-limit"
