@@ -3,3 +3,4 @@ pub mod Headings
 mod RunReports
 pub mod SearchLemmas
 pub mod ServedLemmas
+pub mod TestLemmas

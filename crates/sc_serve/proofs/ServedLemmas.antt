@@ -17,9 +17,11 @@ use Rattle.sc_arguments.specs.declared.arguments.RunOptions.{RunOptions}
 use Rattle.sc_arguments.specs.declared.arguments.format.Format.{Format}
 use Rattle.sc_arguments.specs.declared.arguments.format.Format.TheVariants.{Text}
 use Rattle.sc_arguments.specs.declared.arguments.searching.SearchOptions.{SearchOptions}
+use Rattle.sc_arguments.specs.declared.arguments.testing.TestOptions.{TestOptions}
 use Rattle.sc_class.specs.View.{root_of}
 use Rattle.sc_serve.specs.Answer.{IsAnswerOn, IsReplayOn, IsRunOn}
 use Rattle.sc_serve.specs.Search.{IsSearchOn}
+use Rattle.sc_serve.specs.Tests.{IsTestOn, IsTestShaped}
 use Rattle.sc_serve.specs.Served.{Answers, IsDelivered, IsExplained, IsFormatted, IsGivenUp, IsHelp, IsResponse, IsServed, format_asked, held_by, named}
 use Rattle.sc_serve.specs.declared.serve.Answer.{Answer}
 use Rattle.sc_serve.specs.declared.serve.Exit.TheVariants.{Done}
@@ -52,6 +54,12 @@ pub search_answered : (bytes_of : List ℕ → Option (List ℕ)) (options : Sea
 search_answered bytes_of options names (Ok answer) is plain = (is, plain)
 search_answered bytes_of options names (Err fault) is plain = tt
 
+pub tests_answered : (bytes_of : List ℕ → Option (List ℕ)) (options : TestOptions) (names : Vec (Bor (List ℕ)) Global) (r : Result Answer Fault) →
+    IfOk r (λ answer. IsTestOn options (named names.items) (held_by bytes_of names.items) answer.text.items answer.exit) →
+    IfOk r (IsTestShaped options) → IfOk r (Answers bytes_of (invocation.Test options names))
+tests_answered bytes_of options names (Ok answer) is shaped = (is, shaped.unrecorded, shaped.object)
+tests_answered bytes_of options names (Err fault) is shaped = tt
+
 -- ---- an object in place of lines
 
 -- what is said of one answer is said of another that has the same
@@ -81,6 +89,8 @@ formatted bytes_of (invocation.Search options names) format answer (Ok told) e i
       answer.exit told.exit answer.record told.record same.text same.exit same.kept is.0,
   λ text. same.object (e ∙ text) ∙ is.1 text,
 )
+formatted bytes_of (invocation.Test options names) format answer (Ok told) e is same =
+    (rw (same.text, same.exit) is.0, same.kept ∙ is.1, λ text. same.object (e ∙ text) ∙ is.2 text)
 formatted bytes_of (invocation.Layout is_written names) format answer (Ok told) e is same =
     (same.kept ∙ is.0, same.object e ∙ is.1)
 formatted bytes_of (invocation.Explain word) format answer (Ok told) e is same =

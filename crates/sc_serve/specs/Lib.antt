@@ -4,3 +4,4 @@ pub mod Refusal
 pub mod Replaced
 pub mod Search
 pub mod Served
+pub mod Tests

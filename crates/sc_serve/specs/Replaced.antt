@@ -33,6 +33,7 @@ recorded_to (invocation.OnFiles what names) = None
 recorded_to (invocation.Run options names) = option_map (λ n. n.now) options.record
 recorded_to (invocation.Replay options names) = None
 recorded_to (invocation.Search options names) = option_map (λ n. n.now) options.record
+recorded_to (invocation.Test options names) = None
 recorded_to (invocation.Layout is_written names) = None
 recorded_to (invocation.Explain word) = None
 

@@ -17,6 +17,7 @@ use Rattle.sc_class.specs.View.{root_of}
 use Rattle.sc_explain_text.specs.Page.{IsPageOf}
 use Rattle.sc_serve.specs.Answer.{IsAnswerOn, IsReplayOn, IsRunOn}
 use Rattle.sc_serve.specs.Search.{IsSearchOn}
+use Rattle.sc_serve.specs.Tests.{IsTestOn, shape_of}
 use Rattle.sc_serve.specs.declared.serve.Answer.{Answer}
 use Rattle.sc_serve.specs.declared.serve.Exit.{Exit}
 use Rattle.sc_serve.specs.declared.serve.Exit.TheVariants.{Broken, Done, Failed, Refused, Undecided, Unfinished, Usage}
@@ -34,6 +35,7 @@ format_asked (invocation.OnFiles what names) = format_of what
 format_asked (invocation.Run options names) = options.format
 format_asked (invocation.Replay options names) = options.format
 format_asked (invocation.Search options names) = options.format
+format_asked (invocation.Test options names) = shape_of options.format
 format_asked (invocation.Layout is_written names) = Text
 format_asked (invocation.Explain word) = Text
 
@@ -70,6 +72,9 @@ Answers bytes_of (invocation.Replay options names) answer =
 Answers bytes_of (invocation.Search options names) answer =
     IsSearchOn options (named names.items) (held_by bytes_of names.items) answer.text.items answer.exit answer.record
     × IsAs options.format answer
+Answers bytes_of (invocation.Test options names) answer =
+    IsTestOn options (named names.items) (held_by bytes_of names.items) answer.text.items answer.exit
+    × (answer.record ≡ None) × IsAs (shape_of options.format) answer
 Answers bytes_of (invocation.Layout is_written names) answer = (answer.record ≡ None) × (answer.object ≡ None)
 Answers bytes_of (invocation.Explain word) answer = IsExplained (option_map (λ w. w.now) word) answer
 

@@ -8,6 +8,7 @@
 
 mod delivery;
 mod explaining;
+mod folder;
 mod json;
 mod layouts;
 mod numbered;
@@ -19,6 +20,8 @@ mod saying;
 mod searching;
 pub mod serve;
 mod target;
+mod testing;
 mod tracing;
+mod trial;
 mod verdict;
 mod watching;

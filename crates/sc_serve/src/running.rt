@@ -221,7 +221,7 @@ fn audit_line(alloc: Global, fault: AuditFault) -> Result<String, AllocError>
 }
 
 /// Why a run isn't done.
-fn fault_of<'a>(fault: RunFault<'_>) -> Fault<'a>
+pub fn fault_of<'a>(fault: RunFault<'_>) -> Fault<'a>
     ensures { IsUnrun result }
 {
     match fault {

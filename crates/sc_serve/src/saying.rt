@@ -168,6 +168,7 @@ fn why_unwritten(kind: ErrorKind) -> &'static str {
         ErrorKind::StorageFull => "there is no room for it\n",
         ErrorKind::FileTooLarge => "it would be larger than a file may be\n",
         ErrorKind::Unsupported => "it is standard input\n",
+        ErrorKind::AlreadyExists => "a file in it is no record\n",
         _ => "",
     }
 }

@@ -218,7 +218,7 @@ fn note_of(
 }
 
 /// Where the order that was found ends.
-fn limit_of(finding: &Finding) -> Limit {
+pub fn limit_of(finding: &Finding) -> Limit {
     match finding {
         Finding::Stuck(_) => Limit::Stuck,
         Finding::Nothing | Finding::Fails(_) | Finding::Refused(_) | Finding::Undecided => {

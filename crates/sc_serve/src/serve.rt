@@ -18,6 +18,7 @@ use crate::running::answer_run;
 use crate::saying::say;
 use crate::searching::answer_search;
 use crate::target::check_target;
+use crate::testing::{answer_tests, shape_of};
 use sc_arguments::{Command, Format, Invocation, UsageFault, ask_for_help, read_arguments};
 use sc_audit::RecordLine;
 use sc_class::Root;
@@ -257,6 +258,9 @@ fn answer_unformatted<'a, R: Threads + Wait + Clock + Sync, F: Files, W: Watch +
         Invocation::Search(options, names) => {
             answer_search(alloc, options, files, names.as_slice(), watch)
         }
+        Invocation::Test(options, names) => {
+            answer_tests(rt, alloc, options, files, names.as_slice(), watch)
+        }
         Invocation::Layout(is_written, names) => {
             answer_layout(alloc, *is_written, files, names.as_slice())
         }
@@ -273,6 +277,7 @@ fn format_asked(invocation: &Invocation<'_>) -> Format
         Invocation::Run(options, _) => options.format,
         Invocation::Replay(options, _) => options.format,
         Invocation::Search(options, _) => options.format,
+        Invocation::Test(options, _) => shape_of(options.format),
         Invocation::Layout(..) | Invocation::Explain(_) => Format::Text,
     }
 }

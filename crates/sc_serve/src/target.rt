@@ -35,14 +35,14 @@ pub fn check_target<'a, F: Files>(
         Invocation::Search(options, names) => {
             check_record(alloc, files, options.record, names.as_slice())
         }
-        Invocation::OnFiles(..) | Invocation::Layout(..) => Ok(()),
+        Invocation::OnFiles(..) | Invocation::Layout(..) | Invocation::Test(..) => Ok(()),
         Invocation::Replay(..) | Invocation::Explain(_) => Ok(()),
     }
 }
 
 /// Checks that the record of the name `asked`, if there is one, can be written. It may replace only an empty file or
 /// another record, and none of the files of `names`, which are read.
-fn check_record<'a, F: Files>(
+pub fn check_record<'a, F: Files>(
     alloc: Global,
     files: &F,
     asked: Option<&'a str>,

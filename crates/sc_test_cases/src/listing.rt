@@ -22,6 +22,7 @@ use std::alloc::{AllocError, Global};
 /// # Errors
 ///
 /// The text isn't grammatical, its classes have a fault, or memory ran out.
+#[inline(never)]
 pub fn tests_of_text(alloc: Global, text: &str, class: Option<&str>) -> Result<Vec<Root>, Rejection>
     ensures tests { let chosen = option_map (λ name. name.now) class.entry in
         IfOk result (λ tests. AreTestsOf text.now chosen (map root_of tests.items)) }

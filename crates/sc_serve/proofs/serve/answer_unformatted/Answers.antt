@@ -1,6 +1,6 @@
 use Rattle.std.proofs.Common.{IfOk, subst, sym}
 use Rattle.sc_arguments.specs.declared.arguments.Invocation.{Invocation}
-use Rattle.sc_serve.proofs.ServedLemmas.{files_answered, replay_answered, run_answered, search_answered}
+use Rattle.sc_serve.proofs.ServedLemmas.{files_answered, replay_answered, run_answered, search_answered, tests_answered}
 use Rattle.sc_serve.specs.Served.{Answers}
 use Rattle.sc_serve.proofs.serve.answer_unformatted.Goals as goal
 
@@ -41,3 +41,11 @@ pub returns-in-Layout : goal.returns-in-Layout
 returns-in-Layout g c =
     let P : Invocation → Type 0 = λ what. IfOk c.answer_layout.result (Answers (g.F.Files.bytes_of c.args.files.now) what) in
     subst P (sym c.in-Layout.is) c.answer_layout.ensures
+
+-- what is answered where tests are played
+pub returns-in-Test : goal.returns-in-Test
+returns-in-Test g c =
+    let P : Invocation → Type 0 = λ what. IfOk c.answer_tests.result (Answers (g.F.Files.bytes_of c.args.files.now) what) in
+    subst P (sym c.in-Test.is)
+    (tests_answered (g.F.Files.bytes_of c.args.files.now) c.in-Test.options c.in-Test.names c.answer_tests.result
+    (rw c.as_slice-in-Test.ensures.value at c.answer_tests.ensures.answer) c.answer_tests.ensures.shaped)

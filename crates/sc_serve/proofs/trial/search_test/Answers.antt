@@ -1,0 +1,14 @@
+use Rattle.sc_serve.proofs.trial.search_test.Goals as goal
+
+-- how the test came out by the verdict, with the order that was found
+pub returns : goal.returns
+returns g c =
+    record {
+      verdict = c.in_ok-verdict.verdict;
+      found = c.in_ok-verdict.ensures.found;
+      first = c.in_ok-verdict.ensures.first;
+      whole = c.in_ok-verdict.ensures.whole;
+      why = c.in_ok-verdict.ensures.why;
+      judged = c.outcome_of.ensures;
+      kept = c.order_of.ensures;
+    }
