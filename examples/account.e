@@ -4,6 +4,7 @@
 -- invariant holds for each account that is left alone: it is tested where a call with a target, or a creation, ends.
 --
 --     ./scoop run examples/account.e
+--     ./scoop test examples/account.e
 
 class APPLICATION
 
@@ -62,5 +63,36 @@ feature
 invariant
 
 	never_overdrawn: balance >= 0
+
+end
+
+class TESTS
+
+create test_deposit, test_withdraw
+
+feature
+
+	test_deposit
+		local
+			account: ACCOUNT
+		do
+			create account.open (100)
+			account.deposit (50)
+			check
+				account.balance = 150
+			end
+		end
+
+	test_withdraw
+			-- All of it can be taken.
+		local
+			account: ACCOUNT
+		do
+			create account.open (100)
+			account.withdraw (100)
+			check
+				account.balance = 0
+			end
+		end
 
 end

@@ -4,6 +4,7 @@
 -- names the reserved barrier; in between the barrier is free for the others.
 --
 --     ./scoop run examples/barrier.e
+--     ./scoop test --search examples/barrier.e
 
 class APPLICATION
 
@@ -90,6 +91,37 @@ feature
 		require
 			b.is_open
 		do
+		end
+
+end
+
+class TESTS
+
+create test_two
+
+feature
+
+	test_two
+			-- Both workers pass, whichever of them comes first.
+		local
+			barrier: separate BARRIER
+			one, other: separate WORKER
+		do
+			create barrier.make (2)
+			create one.make (1, barrier)
+			create other.make (2, barrier)
+			separate one as a, other as b do
+				a.run
+				b.run
+				check
+					a.number = 1 and b.number = 2
+				end
+			end
+			separate barrier as b do
+				check
+					b.arrived = 2
+				end
+			end
 		end
 
 end

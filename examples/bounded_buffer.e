@@ -5,6 +5,7 @@
 -- notify anybody. The buffer is a ring of objects of its own handler.
 --
 --     ./scoop run examples/bounded_buffer.e
+--     ./scoop test --search examples/bounded_buffer.e
 
 class APPLICATION
 
@@ -197,6 +198,53 @@ feature
 			print (x.item)
 			print ("%N")
 			x.remove
+		end
+
+end
+
+class TESTS
+
+create test_ring, test_together
+
+feature
+
+	test_ring
+			-- Values leave in the order in which they came.
+		local
+			buffer: BUFFER
+		do
+			create buffer.make (2)
+			buffer.put (1)
+			buffer.put (2)
+			buffer.remove
+			buffer.put (3)
+			check
+				buffer.item = 2 and buffer.count = 2
+			end
+		end
+
+	test_together
+			-- A producer and a consumer are done, whichever comes first.
+		local
+			buffer: separate BUFFER
+			producer: separate PRODUCER
+			consumer: separate CONSUMER
+		do
+			create buffer.make (1)
+			create producer.make (buffer, 2)
+			create consumer.make (buffer, 2)
+			separate producer as p, consumer as c do
+				p.run
+				c.run
+				check
+					p.most = c.most
+				end
+			end
+			separate buffer as b do
+				check
+					b.count = 0
+				end
+			end
 		end
 
 end

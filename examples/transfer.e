@@ -4,6 +4,7 @@
 -- for: a transfer that isn't covered begins once it is.
 --
 --     ./scoop run examples/transfer.e
+--     ./scoop test --search examples/transfer.e
 
 class APPLICATION
 
@@ -67,5 +68,67 @@ feature
 invariant
 
 	balance >= 0
+
+end
+
+class TESTS
+
+inherit APPLICATION
+
+create test_transfer, test_late_deposit
+
+feature
+
+	test_transfer
+		do
+			create here.open (100)
+			create there.open (0)
+			transfer (here, there, 70)
+			hold (here, there, 30, 70)
+		end
+
+	test_late_deposit
+			-- A transfer that isn't covered begins once a deposit has come.
+		local
+			giver: separate GIVER
+		do
+			create here.open (0)
+			create there.open (0)
+			create giver.make (here)
+			separate giver as g do
+				g.give (70)
+			end
+			transfer (here, there, 70)
+			hold (here, there, 0, 70)
+		end
+
+	hold (a, b: separate ACCOUNT; first, second: INTEGER)
+		do
+			check
+				a.balance = first and b.balance = second
+			end
+		end
+
+end
+
+class GIVER
+
+create make
+
+feature
+
+	account: separate ACCOUNT
+
+	make (a: separate ACCOUNT)
+		do
+			account := a
+		end
+
+	give (sum: INTEGER)
+		do
+			separate account as a do
+				a.deposit (sum)
+			end
+		end
 
 end
