@@ -9,17 +9,21 @@ _scoop() {
         before=${COMP_WORDS[COMP_CWORD - 2]}=
     fi
     if [ "$COMP_CWORD" = 1 ]; then
-        mapfile -t COMPREPLY < <(compgen -W 'check run replay search print format explain help --help --version' -- "$word")
+        mapfile -t COMPREPLY < <(compgen -W 'check run replay search test print format explain help --help --version' -- "$word")
         return
     fi
     case ${before%=} in
-    --root | --turns | --output-limit | --workers | --states) return ;;
+    --root | --root-class | --turns | --output-limit | --workers | --states) return ;;
     --for)
         mapfile -t COMPREPLY < <(compgen -W 'stuck fails refused any' -- "$word")
         return
         ;;
     --format)
-        mapfile -t COMPREPLY < <(compgen -W 'text json' -- "$word")
+        if [ "$command" = test ]; then
+            mapfile -t COMPREPLY < <(compgen -W 'text json tap junit' -- "$word")
+        else
+            mapfile -t COMPREPLY < <(compgen -W 'text json' -- "$word")
+        fi
         return
         ;;
     --trace)
@@ -38,11 +42,12 @@ _scoop() {
     run:-*) mapfile -t COMPREPLY < <(compgen -W '--workers --turns --output-limit --record --audit --trace --trace=print --root --explain --no-explain --format --help' -- "$word") ;;
     replay:-*) mapfile -t COMPREPLY < <(compgen -W '--trace --trace=print --root --explain --no-explain --format --help' -- "$word") ;;
     search:-*) mapfile -t COMPREPLY < <(compgen -W '--for --states --record --outcomes --explain --no-explain --format --root --help' -- "$word") ;;
+    test:-*) mapfile -t COMPREPLY < <(compgen -W '--root-class --workers --turns --search --states --record --explain --no-explain --format --help' -- "$word") ;;
     format:-*) mapfile -t COMPREPLY < <(compgen -W '--write --check --help' -- "$word") ;;
     print:-* | explain:-*) mapfile -t COMPREPLY < <(compgen -W '--help' -- "$word") ;;
     # (where the program would have to be built first, nobody waits for it)
     explain:*) mapfile -t COMPREPLY < <(compgen -W "$(timeout 2 "${COMP_WORDS[0]}" explain 2>/dev/null)" -- "$word") ;;
-    help:*) mapfile -t COMPREPLY < <(compgen -W 'check run replay search print format explain' -- "$word") ;;
+    help:*) mapfile -t COMPREPLY < <(compgen -W 'check run replay search test print format explain' -- "$word") ;;
     replay:*) mapfile -t COMPREPLY < <(compgen -f -- "$word") ;;
     *) mapfile -t COMPREPLY < <(compgen -f -X '!*.e' -- "$word"; compgen -d -- "$word") ;;
     esac
