@@ -5,6 +5,7 @@ ghost use Rattle.sc_lower.specs.Lowerings.{image_of};
 ghost use Rattle.sc_world.specs.Reports as told;
 ghost use Rattle.sc_plant.specs.Bounded.{IsBoundedRun};
 ghost use Rattle.sc_plant.specs.Left.{IsOutOfMemory, SaysWhy, world_of};
+ghost use Rattle.sc_plant.specs.Order.{GoesInOrder, round_robin};
 ghost use Rattle.sc_driver.specs.Execution.{IsThreadRun};
 
 use sc_code::Program;
@@ -54,6 +55,7 @@ pub fn run_program<'p, R: Threads + Wait + Sync, W: Watch>(
         ∥ IsThreadRun (image_of program.now) ended.turns ended.left.lines.items report ended.statuses.items ∥₁) }
     ensures err { IfErr result (SaysWhy (image_of program.now)) }
     ensures alone { workers ≤ 1 → IfErr result IsOutOfMemory }
+    ensures order { workers ≤ 1 → IfOk result (λ ended. GoesInOrder round_robin (image_of program.now) ended.left) }
 {
     runs_are_one_threads();
     let (left, turns) = run_watched(rt, alloc, program, workers, bounds, &Ungated, watch)?;

@@ -303,6 +303,10 @@ pub ok_goes : {T E : Type 0} (r : Result T E) (P Q : T → Type 0) (S : Type 0) 
 ok_goes (Ok t) P Q S p q goes = goes t p q
 ok_goes (Err e) P Q S p q goes = tt
 
+pub if_ok_goes : {T E : Type 0} (r : Result T E) (P Q S : T → Type 0) → IfOk r P → IfOk r Q → ((t : T) → P t → Q t → S t) → IfOk r S
+if_ok_goes (Ok t) P Q S p q goes = goes t p q
+if_ok_goes (Err e) P Q S p q goes = tt
+
 pub err_goes : {T E : Type 0} (r : Result T E) (P S : Type 0) → OnErr r P → (P → S) → OnErr r S
 err_goes (Ok t) P S p goes = tt
 err_goes (Err e) P S p goes = goes p

@@ -1,9 +1,12 @@
 -- In which order one thread plays.
-use Rattle.std.specs.Prelude.{◌≡◌, ◌≤◌, ℕ, List, [], ◌∷◌, Option, Some}
+use Rattle.std.specs.Prelude.{◌≡◌, ◌<◌, ◌≤◌, ◌⊎◌, ℕ, List, [], ◌∷◌, Option, Some}
+use Rattle.std.specs.List.{All}
 use Rattle.sc_lockpass.specs.declared.version.Version.TheVariants.{Two}
 use Rattle.sc_code.specs.declared.program.Image.{Image}
 use Rattle.sc_region.specs.declared.job.Job.{Job}
+use Rattle.sc_region.specs.declared.job.Want.TheVariants as want
 use Rattle.sc_handler.specs.declared.settlement.Settlement.{Settlement}
+use Rattle.sc_request.specs.declared.center.Core as coded
 use Rattle.sc_request.specs.Cores.{center_of, log_of}
 use Rattle.sc_request.specs.Logs as core
 use Rattle.sc_request.specs.Logs.{Center, picked, settles}
@@ -24,12 +27,23 @@ round_robin = record { next = core.next; most = 256 }
 abbrev pub after : Settlement → Center → Center
 after e c = settles max_handlers e.handler e.job e.turns e.want (picked e.handler e.job c)
 
--- The settlements lead from one center to the other. Each is that of the handler that comes next then.
+-- A task has as many turns as it may have, unless the last of them asks something.
+abbrev pub IsWhole : Order → Settlement → Type 0
+IsWhole o e = e.want ≡ want.Continue → e.turns ≡ o.most
+
+-- The settlements lead from one center to the other. Each is that of the handler that comes next then, and each but the
+-- last is whole: that one may be cut short by the end of the run.
 abbrev pub LeadInOrder : Order → Center → List Settlement → Center → Type 0
 LeadInOrder o c [] d = c ≡ d
 LeadInOrder o c (e ∷ es) d =
-    (o.next c ≡ Some (e.handler, e.job)) × (e.turns ≤ o.most) × LeadInOrder o (after e c) es d
+    (o.next c ≡ Some (e.handler, e.job)) × (e.turns ≤ o.most) × (IsWhole o e ⊎ (es ≡ [])) × LeadInOrder o (after e c) es d
 
 -- A run of the program has gone in this order, from its opening on.
 abbrev pub GoesInOrder : Order → Image → Left → Type 0
 GoesInOrder o p left = LeadInOrder o (opened p Two).center (log_of left.core) (center_of left.core)
+
+-- A run of the program with so many turns left has come to this core in this order. If any are left, no task was cut
+-- short.
+pub record ComesInOrder (o : Order) (p : Image) (turns : ℕ) (core : coded.Core) : Type 0 where
+  pub leads : LeadInOrder o (opened p Two).center (log_of core) (center_of core)
+  pub whole : 0 < turns → All (IsWhole o) (log_of core)

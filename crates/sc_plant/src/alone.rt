@@ -1,7 +1,7 @@
 //! Runs on one thread, without locks.
 //!
 //! That a handler's settlements lead to its region is kept on the way, so the regions need no logs.
-ghost use Rattle.std.specs.Prelude.{◌≡◌, ◌≤◌, ◌↔◌, ◌<◌, IfErr, IfOk, IfSome, IsTrue, OnErr, OnOk, Some, false, is_some, length, true, vec_capacity, vec_len};
+ghost use Rattle.std.specs.Prelude.{◌≡◌, ◌≤◌, ◌↔◌, ◌<◌, ◌-◌, ℕ, IfErr, IfOk, IfSome, IsTrue, OnErr, OnOk, Some, false, is_some, length, true, vec_capacity, vec_len};
 ghost use Rattle.std.specs.Bool.{OnTrue};
 ghost use Rattle.std.specs.Option.{option_map};
 ghost use Rattle.sc_lockpass.specs.declared.version.Version.TheVariants.{Two};
@@ -16,7 +16,7 @@ ghost use Rattle.sc_plant.specs.Alone.{AreNew, IsBack, IsCutOff, IsOnWay, IsPlay
 ghost use Rattle.sc_plant.specs.Bounded.{EndsBehind, IsBoundedRun};
 ghost use Rattle.sc_recording.specs.Ending.{IsOver};
 ghost use Rattle.sc_plant.specs.Left.{IsOutOfMemory, IsStopped, LeavesNothing, SaysWhy, TellsLeft};
-ghost use Rattle.sc_plant.specs.Order.{GoesInOrder, round_robin};
+ghost use Rattle.sc_plant.specs.Order.{ComesInOrder, GoesInOrder, round_robin};
 
 use crate::bounds::Bounds;
 use crate::gate::Gate;
@@ -74,7 +74,7 @@ fn play_opened<'p, R: Wait, G: Gate, W: Watch>(
     requires count { length left.regions.items ≡ 512 }
     requires version { left.core.state.rights.version ≡ Two }
     ensures ok { (p : Image) → IsOnWay p left.entry → IfOk result (λ ended. IsBoundedRun p bounds ended.1 ended.0) }
-    ensures order { (p : Image) → GoesInOrder round_robin p left.entry → IfOk result (λ ended. GoesInOrder round_robin p ended.0) }
+    ensures order { (p : Image) → ((n : ℕ) → ComesInOrder round_robin p n left.entry.core) → IfOk result (λ ended. GoesInOrder round_robin p ended.0) }
     ensures err { (p : Image) → IsOnWay p left.entry → IfErr result (SaysWhy p) }
     ensures left { IfErr result TellsLeft }
     ensures memory { IfErr result IsOutOfMemory }
@@ -88,7 +88,7 @@ fn play_opened<'p, R: Wait, G: Gate, W: Watch>(
 /// What is there before the first turn.
 pub fn open_left<'p>(alloc: Global, program: &'p Program) -> Result<Left<'p>, AllocError>
     ensures on { IfOk result (IsOnWay program.now.image) }
-    ensures order { IfOk result (GoesInOrder round_robin program.now.image) }
+    ensures order { IfOk result (λ left. (n : ℕ) → ComesInOrder round_robin program.now.image n left.core) }
 {
     let regions = open_regions(alloc, program)?;
     let core = open_core(alloc, program, Version::Two)?;
@@ -134,7 +134,7 @@ pub fn play_all<R: Wait, G: Gate, W: Watch>(
     requires count { length left.old.regions.items ≡ 512 }
     requires version { left.old.core.state.rights.version ≡ Two }
     ensures on { OnOk result ((p : Image) → IsOnWay p left.old → IsOnWay p left.new) }
-    ensures order { OnOk result ((p : Image) → GoesInOrder round_robin p left.old → GoesInOrder round_robin p left.new) }
+    ensures order { OnOk result ((p : Image) → ((n : ℕ) → ComesInOrder round_robin p n left.old.core) → GoesInOrder round_robin p left.new) }
     ensures over { IfOk result (λ over. over.1 ≡ true → IsOver over.0 (center_of left.new.core) left.new.lines.items) }
     ensures ends { IfOk result (λ over. over.1 ≡ true → EndsBehind bounds over.0 left.new.regions.items) }
     ensures whole { stretch ≡ Over → IfOk result (λ over. over.1 ≡ true) }
@@ -179,7 +179,7 @@ fn is_over(left: &mut Left<'_>, limit: u32) -> bool
     ensures version { left.new.core.state.rights.version ≡ left.old.core.state.rights.version }
     ensures regions { left.new.regions ≡ left.old.regions }
     ensures on { (p : Image) → IsOnWay p left.old → IsOnWay p left.new }
-    ensures order { (p : Image) → GoesInOrder round_robin p left.old → GoesInOrder round_robin p left.new }
+    ensures order { (p : Image) (n : ℕ) → ComesInOrder round_robin p n left.old.core → ComesInOrder round_robin p n left.new.core }
 {
     let Left { core, lines, .. } = left;
     is_idle_or_full(core, lines.as_slice(), limit)
@@ -193,7 +193,7 @@ pub fn ended(left: &mut Left<'_>, bounds: Bounds) -> Option<u32>
     ensures count { length left.new.regions.items ≡ length left.old.regions.items }
     ensures version { left.new.core.state.rights.version ≡ left.old.core.state.rights.version }
     ensures on { (p : Image) → IsOnWay p left.old → IsOnWay p left.new }
-    ensures order { (p : Image) → GoesInOrder round_robin p left.old → GoesInOrder round_robin p left.new }
+    ensures order { (p : Image) (n : ℕ) → ComesInOrder round_robin p n left.old.core → ComesInOrder round_robin p n left.new.core }
 {
     if is_over(left, bounds.turns) {
         return Some(bounds.turns);
@@ -209,7 +209,7 @@ fn over_at(left: &mut Left<'_>, turns: u32) -> Option<u32>
     ensures version { left.new.core.state.rights.version ≡ left.old.core.state.rights.version }
     ensures regions { left.new.regions ≡ left.old.regions }
     ensures on { (p : Image) → IsOnWay p left.old → IsOnWay p left.new }
-    ensures order { (p : Image) → GoesInOrder round_robin p left.old → GoesInOrder round_robin p left.new }
+    ensures order { (p : Image) (n : ℕ) → ComesInOrder round_robin p n left.old.core → ComesInOrder round_robin p n left.new.core }
 {
     if is_over(left, turns) {
         return Some(turns);
@@ -231,7 +231,7 @@ fn end_behind<W: Watch>(
     ensures count { length left.new.regions.items ≡ length left.old.regions.items }
     ensures version { left.new.core.state.rights.version ≡ left.old.core.state.rights.version }
     ensures on { (p : Image) → IsOnWay p left.old → IsOnWay p left.new }
-    ensures order { (p : Image) → GoesInOrder round_robin p left.old → GoesInOrder round_robin p left.new }
+    ensures order { (p : Image) (n : ℕ) → ComesInOrder round_robin p n left.old.core → ComesInOrder round_robin p n left.new.core }
 {
     if made == 0 {
         return over_at(left, bounds.turns);
@@ -247,7 +247,7 @@ fn cut_behind(left: &mut Left<'_>, bounds: Bounds, tally: &mut Tally) -> Option<
     ensures count { length left.new.regions.items ≡ length left.old.regions.items }
     ensures version { left.new.core.state.rights.version ≡ left.old.core.state.rights.version }
     ensures on { (p : Image) → IsOnWay p left.old → IsOnWay p left.new }
-    ensures order { (p : Image) → GoesInOrder round_robin p left.old → GoesInOrder round_robin p left.new }
+    ensures order { (p : Image) (n : ℕ) → ComesInOrder round_robin p n left.old.core → ComesInOrder round_robin p n left.new.core }
 {
     if !tally.is_past(left, bounds.output) {
         return None;
@@ -262,7 +262,7 @@ fn cut_short(left: &mut Left<'_>, bounds: Bounds) -> Option<u32>
     ensures count { length left.new.regions.items ≡ length left.old.regions.items }
     ensures version { left.new.core.state.rights.version ≡ left.old.core.state.rights.version }
     ensures on { (p : Image) → IsOnWay p left.old → IsOnWay p left.new }
-    ensures order { (p : Image) → GoesInOrder round_robin p left.old → GoesInOrder round_robin p left.new }
+    ensures order { (p : Image) (n : ℕ) → ComesInOrder round_robin p n left.old.core → ComesInOrder round_robin p n left.new.core }
 {
     let Some(made) = turns_in(left.lines.as_slice()) else {
         return None;
@@ -292,7 +292,8 @@ fn play_next<G: Gate>(
     requires count { length left.old.regions.items ≡ 512 }
     requires version { left.old.core.state.rights.version ≡ Two }
     ensures on { OnOk result ((p : Image) → IsOnWay p left.old → IsOnWay p left.new) }
-    ensures order { OnOk result ((p : Image) → GoesInOrder round_robin p left.old → GoesInOrder round_robin p left.new) }
+    ensures order { IfOk result (λ made. (p : Image) (n m : ℕ) → limit ≤ n → (limit < n → limit ≡ 256) → m ≤ n - made
+        → ComesInOrder round_robin p n left.old.core → ComesInOrder round_robin p m left.new.core) }
     ensures err { OnErr result ((p : Image) → IsOnWay p left.old → IsStopped p left.new) }
     ensures count { length left.new.regions.items ≡ 512 }
     ensures version { left.new.core.state.rights.version ≡ Two }

@@ -11,4 +11,4 @@ pub returns-clause-on : goal.returns-clause-on
 returns-clause-on c = λ p way. c.cut_short.ensures.on p (c.is_over.ensures.on p way)
 
 pub returns-clause-order : goal.returns-clause-order
-returns-clause-order c = λ p goes. c.cut_short.ensures.order p (c.is_over.ensures.order p goes)
+returns-clause-order c = λ p n comes. c.cut_short.ensures.order p n (c.is_over.ensures.order p n comes)

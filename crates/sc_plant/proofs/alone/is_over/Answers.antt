@@ -1,4 +1,4 @@
-use Rattle.std.proofs.Common.{refl}
+use Rattle.std.proofs.Common.{refl, arith}
 use Rattle.sc_plant.proofs.OnWay.{stays_on}
 use Rattle.sc_plant.proofs.Ordered.{stays_in_order}
 use Rattle.sc_plant.proofs.alone.is_over.Goals as goal
@@ -8,4 +8,5 @@ returns-clause-on c = λ p.
     stays_on p c.args.left.now _ c.is_idle_or_full.ensures.center c.is_idle_or_full.ensures.log refl refl refl c.is_idle_or_full.ensures.version
 
 pub returns-clause-order : goal.returns-clause-order
-returns-clause-order c = λ p. stays_in_order p c.args.left.now.core c.is_idle_or_full.new.core c.is_idle_or_full.ensures.center c.is_idle_or_full.ensures.log
+returns-clause-order c = λ p n.
+    stays_in_order p n n c.args.left.now.core c.is_idle_or_full.new.core (omega arith) c.is_idle_or_full.ensures.center c.is_idle_or_full.ensures.log

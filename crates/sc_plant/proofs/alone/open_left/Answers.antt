@@ -1,15 +1,15 @@
 use Rattle.std.proofs.Common.{◌<◌, List, Some, refl, sym, ap, subst, ◌∙◌, arith}
 use Rattle.std.proofs.lemmas.List.Elements.{All-nil}
 use Rattle.sc_handler.specs.declared.settlement.Settlement.{Settlement}
+use Rattle.sc_request.specs.Cores.{log_of}
 use Rattle.sc_request.specs.Logs.{Center}
-use Rattle.sc_request.specs.Cores.{center_of, log_of}
 use Rattle.sc_lockpass.specs.declared.version.Version.TheVariants.{Two}
-use Rattle.sc_world.specs.Worlds.{max_handlers, opened}
+use Rattle.sc_world.specs.Worlds.{max_handlers}
 use Rattle.sc_recording.specs.Due.{AreBelow}
 use Rattle.sc_recording.specs.Recorded.{lines_of}
-use Rattle.sc_plant.specs.Order.{LeadInOrder, round_robin}
 use Rattle.sc_plant.proofs.OnWay.{new_own}
 use Rattle.sc_plant.proofs.Openings.{plays_opened}
+use Rattle.sc_plant.proofs.Ordered.{opens_in_order}
 use Rattle.sc_plant.proofs.alone.open_left.Goals as goal
 
 pub returns-clause-on : goal.returns-clause-on
@@ -29,7 +29,4 @@ returns-clause-on c =
     }
 
 pub returns-clause-order : goal.returns-clause-order
-returns-clause-order c =
-    let opening : Center = (opened c.args.program.now.image Two).center in
-    subst (λ (es : List Settlement). LeadInOrder round_robin opening es (center_of c.in_ok-core.core)) (sym c.in_ok-core.ensures.log)
-    (sym c.in_ok-core.ensures.center)
+returns-clause-order c = λ n. opens_in_order c.args.program.now.image n c.in_ok-core.core c.in_ok-core.ensures.log c.in_ok-core.ensures.center

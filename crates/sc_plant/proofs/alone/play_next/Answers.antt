@@ -1,8 +1,8 @@
-use Rattle.std.proofs.Common.{◌<◌, ◌++◌, ◌∷◌, [], List, inl, inr, refl, sym, ap, ◌∙◌}
+use Rattle.std.proofs.Common.{◌<◌, ◌-◌, ◌++◌, ◌∷◌, [], List, inl, inr, refl, sym, ap, ◌∙◌, arith}
 use Rattle.std.proofs.lemmas.Option.{slice_get_read}
 use Rattle.sc_audit.specs.declared.line.RecordLine.{RecordLine}
 use Rattle.sc_world.proofs.Outs.{on-err}
-use Rattle.sc_plant.proofs.OnWay.{advances, err_goes, goes_on, goes_stopped, ok_goes, put_back_stopped, stays_on, way_stopped}
+use Rattle.sc_plant.proofs.OnWay.{advances, err_goes, goes_on, goes_stopped, if_ok_goes, ok_goes, put_back_stopped, stays_on, way_stopped}
 use Rattle.sc_recording.proofs.Dues.{is_out, none_next, picked_next}
 use Rattle.sc_recording.proofs.PuttingBack.{put_back_out, put_back_state}
 use Rattle.sc_plant.proofs.Ordered.{goes_in_order, stays_in_order}
@@ -71,15 +71,15 @@ returns-clause-err g c =
     ])
 
 pub returns-in_default-clause-order : goal.returns-in_default-clause-order
-returns-in_default-clause-order g c = λ p.
-    stays_in_order p c.args.left.now.core c.pick_with_room.new.core
+returns-in_default-clause-order g c = λ p n m within most fewer.
+    stays_in_order p n m c.args.left.now.core c.pick_with_room.new.core (omega (arith, fewer))
     (none_next c.args.left.now.core c.pick_with_room.new.core (sym c.in_default.is ∙ c.in_ok-handler.ensures.handler)
     c.in_ok-handler.ensures.center) c.pick_with_room.ensures.log
 
 pub returns-clause-order : goal.returns-clause-order
 returns-clause-order g c =
-    ok_goes c.play_picked.result _ _ _ c.play_picked.ensures.ok c.play_picked.ensures.whole
-    (λ turns made whole p.
-    goes_in_order p c.args.left.now.core c.pick_with_room.new.core c.play_picked.new.core c.in-Some.handler turns c.args.limit
-    c.play_picked.new.asked c.index_mut-region.result.now c.play_picked.new.region c.requires.few (sym c.in-Some.is ∙ c.in_ok-handler.ensures.handler)
-    c.in_ok-handler.ensures.center c.pick_with_room.ensures.log made.played)
+    if_ok_goes c.play_picked.result _ _ _ c.play_picked.ensures.ok c.play_picked.ensures.whole
+    (λ turns made whole p n m within most fewer.
+    goes_in_order p n m c.args.left.now.core c.pick_with_room.new.core c.play_picked.new.core c.in-Some.handler turns c.args.limit
+    c.play_picked.new.asked c.index_mut-region.result.now c.play_picked.new.region c.requires.few within most fewer whole
+    (sym c.in-Some.is ∙ c.in_ok-handler.ensures.handler) c.in_ok-handler.ensures.center c.pick_with_room.ensures.log made.played)

@@ -11,4 +11,4 @@ returns-clause-ok g c = λ p way.
     }
 
 pub returns-clause-order : goal.returns-clause-order
-returns-clause-order g c = λ p goes. c.in-Ok.ensures.order p goes
+returns-clause-order g c = λ p opens. c.in-Ok.ensures.order p opens
