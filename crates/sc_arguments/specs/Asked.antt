@@ -106,6 +106,10 @@ AreGivenIn words names = texts_of names ≡ given_in false words
 abbrev pub IsAskedOf : List ℕ → List (List ℕ) → Invocation → Type 0
 IsAskedOf name words (invocation.OnFiles (command.Check options) names) =
     (name ≡ codes "check") × AreGivenIn words names.items × AreCheckOptions words options
+    × (has_option (codes "--all") words ≡ false)
+IsAskedOf name words (invocation.CheckAll options names) =
+    (name ≡ codes "check") × AreGivenIn words names.items × AreCheckOptions words options
+    × (has_option (codes "--all") words ≡ true)
 IsAskedOf name words (invocation.OnFiles command.Print names) = (name ≡ codes "print") × AreGivenIn words names.items
 IsAskedOf name words (invocation.OnFiles command.Format names) =
     (name ≡ codes "format") × AreGivenIn words names.items × (has_option (codes "--write") words ≡ false)

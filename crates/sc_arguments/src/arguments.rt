@@ -1,5 +1,6 @@
 //! The arguments of a command line: what is asked for, and of which files.
 
+mod checking;
 mod format;
 mod formatting;
 mod given;
@@ -17,6 +18,7 @@ ghost use Rattle.sc_arguments.specs.Asked.{AreCheckOptions, AreReplayOptions, Ar
 ghost use Rattle.sc_arguments.specs.Usage as spec;
 ghost use Rattle.sc_arguments.specs.Words.{given_in};
 
+use crate::arguments::checking::{CHECK, read_checking};
 use crate::arguments::format::read_format;
 use crate::arguments::formatting::{FORMATTING, read_formatting};
 use crate::arguments::given::given_in;
@@ -48,6 +50,8 @@ pub use tracing::Trace;
 pub enum Invocation<'a> {
     /// To do something with the system of these files.
     OnFiles(Command, Vec<&'a str>),
+    /// To check every part of the system of these files, and to warn.
+    CheckAll(CheckOptions, Vec<&'a str>),
     /// To check the system of these files and run it.
     Run(RunOptions<'a>, Vec<&'a str>),
     /// To play a record with the system of these files.
@@ -183,17 +187,6 @@ Exit status:
   5  memory or a thread is refused, or what the threads did doesn't agree
   6  a search found nothing and proved nothing: its states were used up";
 
-const CHECK_AFTER_HELP: &str = "\
-Limits:
-  1048576 bytes of all files together, 64 constructs around a token, 256 classes,
-  256 features of a class, 16 formals and 256 locals of a routine
-
-Exit status:
-  0  the system is well formed
-  1  it is refused: `scoop explain CODE` says why
-  2  an argument, a file or the output is at fault
-  5  memory ran out";
-
 const RUN_AFTER_HELP: &str = "\
 Limits:
   those of `scoop check`, and 16777216 instructions of its code; 512 handlers; 65536
@@ -236,14 +229,6 @@ Exit status:
   0  done
   2  there is no such code, or the output is at fault
   5  memory ran out";
-
-const CHECK_ABOUT: &str = "Says whether a system is well formed";
-
-const CHECK_LONG_ABOUT: &str = "\
-Says whether a system is well formed.
-
-Writes `ok`, or one line with the first rule that is broken and where:
-`refused CODE Name FILE:LINE:COLUMN`.";
 
 const RUN_ABOUT: &str = "Runs a system, and reports what became of each handler";
 
@@ -295,9 +280,6 @@ Says what a code stands for, and why: the code of a refusal or of a failure.
 Each page has a smallest text that is refused, or that fails, and the nearest
 one that isn't. Without a code all codes are listed with their names.";
 
-const EXPLAIN_HELP: &str =
-    "Shows where a refusal stands, on standard error; the default where that is a terminal";
-
 const RUN_EXPLAIN_HELP: &str =
     "Shows where a refusal stands, or says why handlers failed or wait, on standard error; the default where that is a terminal";
 
@@ -320,22 +302,7 @@ struct Described {
 
 /// The commands of the program.
 const COMMANDS: [Described; 8] = [
-    Described {
-        name: "check",
-        about: CHECK_ABOUT,
-        long_about: CHECK_LONG_ABOUT,
-        after_help: CHECK_AFTER_HELP,
-        takes: &[
-            Taken {
-                help: EXPLAIN_HELP,
-                ..EXPLAIN
-            },
-            NO_EXPLAIN,
-            FORMAT,
-            ROOT,
-            FILES,
-        ],
-    },
+    CHECK,
     Described {
         name: "run",
         about: RUN_ABOUT,
@@ -484,7 +451,7 @@ fn read_command<'a, S: AsStr>(
     match name {
         "check" => {
             let check = read_check(alloc, words, is_explained)?;
-            Ok(Invocation::OnFiles(Command::Check(check), given))
+            Ok(read_checking(words, check, given))
         }
         "print" => Ok(Invocation::OnFiles(Command::Print, given)),
         "format" => Ok(read_formatting(words, given)),

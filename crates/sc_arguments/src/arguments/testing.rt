@@ -81,9 +81,9 @@ Limits:
   those of `scoop run`
 
 Exit status:
-  0  every test passes
+  0  every test passes, or there is none
   1  the system is refused
-  2  there is no test; or an argument, a file or the output is at fault
+  2  an argument, a file or the output is at fault
   3  a test fails
   5  memory or a thread is refused
   6  no test fails, and a search is undecided";

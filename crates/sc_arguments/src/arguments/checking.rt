@@ -1,0 +1,85 @@
+//! The command `check`: whether the first fault is asked for, or those of all parts.
+
+ghost use Rattle.std.specs.Prelude.{◌≡◌, codes, false, map};
+ghost use Rattle.sc_arguments.specs.Asked.{AreCheckOptions, IsAskedOf, texts_of};
+ghost use Rattle.sc_arguments.specs.Words.{given_in};
+
+use crate::arguments::options::{EXPLAIN, FILES, FLAG, FORMAT, NO_EXPLAIN, ROOT, Taken};
+use crate::arguments::words::has_option;
+use crate::arguments::{CheckOptions, Command, Described, Invocation};
+use std::convert::AsStr;
+
+const CHECK_ABOUT: &str = "Says whether a system is well formed";
+
+const CHECK_LONG_ABOUT: &str = "\
+Says whether a system is well formed.
+
+Writes `ok`, or one line with the first rule that is broken and where:
+`refused CODE Name FILE:LINE:COLUMN`. With `--all` the check goes on: there is
+such a line for each declared type, clause, instruction and expression in which a
+rule is broken. If the text isn't grammatical, or its classes are at fault, there is
+one line still. On standard error `--all` warns of what is allowed and is hardly
+meant: `warning: MESSAGE FILE:LINE:COLUMN`.";
+
+const CHECK_AFTER_HELP: &str = "\
+Limits:
+  1048576 bytes of all files together, 64 constructs around a token, 256 classes,
+  256 features of a class, 16 formals and 256 locals of a routine
+
+Exit status:
+  0  the system is well formed
+  1  it is refused: `scoop explain CODE` says why
+  2  an argument, a file or the output is at fault
+  5  memory ran out";
+
+const ALL_HELP: &str =
+    "Lists a broken rule of each declared type, clause, instruction and expression, and warns";
+
+const CHECK_EXPLAIN_HELP: &str =
+    "Shows where a refusal stands, on standard error; the default where that is a terminal";
+
+const CHECK_FORMAT_HELP: &str =
+    "How the answer is written: as lines, or as one object of JSON; with `--all` as one array";
+
+/// The command `check`.
+pub const CHECK: Described = Described {
+    name: "check",
+    about: CHECK_ABOUT,
+    long_about: CHECK_LONG_ABOUT,
+    after_help: CHECK_AFTER_HELP,
+    takes: &[
+        Taken {
+            name: "--all",
+            help: ALL_HELP,
+            ..FLAG
+        },
+        Taken {
+            help: CHECK_EXPLAIN_HELP,
+            ..EXPLAIN
+        },
+        NO_EXPLAIN,
+        Taken {
+            help: CHECK_FORMAT_HELP,
+            ..FORMAT
+        },
+        ROOT,
+        FILES,
+    ],
+};
+
+/// What the words after `check` ask for, if they have these options, and these files are given among them.
+pub fn read_checking<'a, S: AsStr>(
+    words: &[S],
+    options: CheckOptions,
+    given: Vec<&'a str>,
+) -> Invocation<'a>
+    ensures { let behind = map S.text words.now in
+        texts_of given.entry.items ≡ given_in false behind → AreCheckOptions behind options
+        → IsAskedOf (codes "check") behind result }
+{
+    if has_option(words, "--all") {
+        Invocation::CheckAll(options, given)
+    } else {
+        Invocation::OnFiles(Command::Check(options), given)
+    }
+}
