@@ -2,7 +2,7 @@
 
 use crate::class_helps::{push_left_out, push_near_class};
 use crate::declared::{other_class, other_entity};
-use crate::redefinition::{push_redefine, push_unfit};
+use crate::redefinition::{push_other_name, push_unfit};
 use crate::root::explain_root;
 use crate::sentences::text_of;
 use crate::site::{Found, Search};
@@ -83,10 +83,9 @@ impl<'s> Refusal<'s> {
                 None
             }
             Ok(Some(system)) => {
-                self.tell_of_system(alloc, lines, &system);
-                let other = self.other_declaration(&system);
+                let related = self.tell_of_system(alloc, lines, &system);
                 let_go(system);
-                other
+                related
             }
             Err(_) => {
                 lines.lack();
@@ -95,38 +94,51 @@ impl<'s> Refusal<'s> {
         }
     }
 
-    /// Adds what can be said if the text spells this system.
-    fn tell_of_system(&self, alloc: Global, lines: &mut Lines, system: &System) {
+    /// Adds what can be said if the text spells this system. Another place, if one goes with the fault.
+    fn tell_of_system(&self, alloc: Global, lines: &mut Lines, system: &System) -> Option<Related> {
         match self.code {
-            RefusalCode::NoRoot => explain_root(lines, self.text, &system.classes, self.root),
+            RefusalCode::NoRoot => {
+                explain_root(lines, self.text, &system.classes, self.root);
+                None
+            }
             RefusalCode::Rule(rule) => self.tell_of_rule(alloc, lines, system, rule),
             code => {
                 self.push_sentence(lines);
-                self.push_class_helps(lines, system, code)
+                self.push_class_helps(lines, system, code);
+                self.other_declaration(system)
             }
         }
     }
 
     /// Adds what the classes tell of the part at which a rule fails, or else the sentence. (Every class has `print`,
     /// so if that isn't known, its place is one that no class gives it.)
-    fn tell_of_rule(&self, alloc: Global, lines: &mut Lines, system: &System, rule: Rule) {
+    fn tell_of_rule(
+        &self,
+        alloc: Global,
+        lines: &mut Lines,
+        system: &System,
+        rule: Rule,
+    ) -> Option<Related> {
         let Refusal { text, span, .. } = *self;
         let name = word_at(text, span);
         let is_unknown = matches!(rule, Rule::UnknownName);
-        if !(is_unknown && name.eq_ignore_ascii_case("print")) {
+        let related = if is_unknown && name.eq_ignore_ascii_case("print") {
+            None
+        } else {
             let search = Search {
                 rule,
                 spot: Spot::of(text, span),
                 found: Found::Nothing,
             };
             search.push_told(alloc, lines, system, self.root)
-        }
+        };
         if lines.is_empty() {
             self.push_sentence(lines);
             if is_unknown {
                 push_near_class(lines, text, &system.classes, name)
             }
         }
+        related
     }
 
     /// Adds what helps in these classes.
@@ -136,7 +148,7 @@ impl<'s> Refusal<'s> {
             RefusalCode::UnknownParent => {
                 push_near_class(lines, text, &system.classes, word_at(text, span))
             }
-            RefusalCode::DuplicateFeature => push_redefine(lines, text, &system.classes, span),
+            RefusalCode::DuplicateFeature => push_other_name(lines, text, &system.classes, span),
             RefusalCode::BadRedefinition => push_unfit(lines, &system.classes, span),
             RefusalCode::LeftOut => push_left_out(lines, text, &system.classes, span),
             _ => {}
@@ -169,8 +181,20 @@ impl<'s> Refusal<'s> {
             RefusalCode::Rule(Rule::ResultType) if part.eq_ignore_ascii_case("result") => {
                 "`~` stands in a function alone\n"
             }
+            RefusalCode::Rule(Rule::TagName) => text_of_tag(part),
             code => text_of(code),
         };
         fill_part(lines, template, part)
+    }
+}
+
+/// What is said of a declared type with a mark or a tag that it can't have, and what helps.
+fn text_of_tag(declared: &str) -> &'static str {
+    if declared.split_once("<").is_some() {
+        "`~` has a tag that it can't have here\n\
+         help: a tag names an attached formal of the same routine, of a type `separate C`\n"
+    } else {
+        "`~` has a mark that it can't have here\n\
+         help: INTEGER and BOOLEAN stand without `detachable` and `separate`\n"
     }
 }

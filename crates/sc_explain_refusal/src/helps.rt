@@ -7,6 +7,13 @@ use sc_class::ClassId;
 use sc_explain_text::Lines;
 use sc_rules::entity_types::{EntityType, Tag};
 use sc_rules::{Context, Role};
+use sc_text::Span;
+use sc_tree::Declaration;
+use sc_typing::Formals;
+
+/// What helps where an invariant asks for more than it may.
+pub const OWN_ATTRIBUTES: &str =
+    "help: an invariant is a formula over attributes of its own object\n";
 
 /// What is between a type and another to which it doesn't conform.
 #[derive(Clone, Copy)]
@@ -45,8 +52,12 @@ impl<'s> Spot<'s> {
         }
     }
 
-    /// Adds how many actuals are taken, and how many are given, if that differs.
-    pub fn push_arity(self, lines: &mut Lines, taken: usize, given: usize) {
+    /// Adds how many actuals these formals take, and how many are given, if that differs, and what helps.
+    pub fn push_arity(self, lines: &mut Lines, formals: Formals<'_>, given: usize) {
+        let taken = match formals {
+            Formals::Declared(formals) => formals.len(),
+            Formals::Printed => 1,
+        };
         if taken == given {
             return;
         }
@@ -61,7 +72,39 @@ impl<'s> Spot<'s> {
             0 => ", and is given none\n",
             _ => ", and is given ~\n",
         };
-        lines.fill_number(template, given as u64)
+        lines.fill_number(template, given as u64);
+        match (formals, taken) {
+            (Formals::Printed, _) => {}
+            (Formals::Declared(_), 0) => {
+                lines.fill_name("help: it stands without parentheses: `~`\n", self.name)
+            }
+            (Formals::Declared(formals), _) => {
+                let declared = declared_part(self.text, formals);
+                if !declared.is_empty() {
+                    lines.fill("help: it is declared so: `~ (~)`\n", &[self.name, declared])
+                }
+            }
+        }
+    }
+
+    /// Adds that the part is of this type, and BOOLEAN is wanted, and what makes it one.
+    pub fn push_no_boolean(self, lines: &mut Lines, given: NamedType<'s>) {
+        self.push_given(lines, given, ", and BOOLEAN is wanted here\n");
+        let template = match given.entity_type.class {
+            ClassId::Integer => "help: compare it: `~ /= 0`\n",
+            _ if !given.entity_type.attached => "help: compare it: `~ /= Void`\n",
+            _ => return,
+        };
+        lines.fill_name(template, self.shown())
+    }
+
+    /// Adds that a local of this type would take what is assigned.
+    pub fn push_local(self, lines: &mut Lines, given: NamedType<'s>) {
+        lines.fill_name(
+            "help: declare it, as `local ~` or as an attribute, of type ",
+            self.name,
+        );
+        push_type(lines, given, "\n")
     }
 
     /// Adds that what is assigned isn't assignable, by what it means, and what helps.
@@ -130,9 +173,7 @@ impl<'s> Spot<'s> {
     pub fn push_question(self, lines: &mut Lines, given: NamedType<'s>, is_enough: bool) {
         let is_own = matches!(given.entity_type.tag, Tag::Own);
         let template = match (self.context, self.place) {
-            (Context::Invariant, _) => {
-                "help: an invariant is a formula over attributes of its own object\n"
-            }
+            (Context::Invariant, _) => OWN_ATTRIBUTES,
             (Context::Body | Context::Check, Place::Until) if is_own => {
                 "help: let a function ask: `if attached ~ as ~ then Result := .. end`\n"
             }
@@ -156,8 +197,10 @@ impl<'s> Spot<'s> {
 
     /// Adds how the handler of the part at fault is reserved, where that is of this type.
     fn push_reservation(self, lines: &mut Lines, given: NamedType<'s>) {
-        if !matches!(self.context, Context::Body | Context::Check) {
-            return self.push_formal(lines, given);
+        match self.context {
+            Context::Body | Context::Check => {}
+            Context::Invariant => return lines.push(OWN_ATTRIBUTES),
+            _ => return self.push_formal(lines, given),
         }
         let name = self.fresh(0);
         match self.place {
@@ -228,6 +271,20 @@ impl<'s> Spot<'s> {
                 &[first, self.name],
             ),
         }
+    }
+}
+
+/// The text of these formals, if it can be shown; else nothing.
+fn declared_part<'s>(text: &'s str, formals: &[Declaration]) -> &'s str {
+    match (formals.first(), formals.last()) {
+        (Some(first), Some(last)) => part_of(
+            text,
+            Span {
+                start: first.name.span.start,
+                end: last.declared_type.span.end,
+            },
+        ),
+        _ => "",
     }
 }
 

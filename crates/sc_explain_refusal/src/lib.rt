@@ -13,6 +13,7 @@ mod declared;
 mod diagnosis;
 mod fresh;
 mod helps;
+mod impurity;
 mod near;
 mod redefinition;
 mod root;

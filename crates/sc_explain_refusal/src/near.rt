@@ -5,6 +5,7 @@ use crate::words::class_name;
 use sc_class::{ClassId, FeatureEntry};
 use sc_explain_text::{Lines, is_slip, push_instead_of, push_meant, push_near_word};
 use sc_typing::Entity;
+use std::alloc::Global;
 
 impl<'s> Walk<'s> {
     /// Adds that the class has no feature of the name at fault, and which was meant.
@@ -19,16 +20,18 @@ impl<'s> Walk<'s> {
     }
 
     /// Adds that nothing is known of the name at fault, and a name that is known there and near to it, or what is written in
-    /// place of what it shows.
-    pub(crate) fn push_unknown(&self, lines: &mut Lines) {
+    /// place of what it shows. Returns whether there is either.
+    pub(crate) fn push_unknown(&self, lines: &mut Lines) -> bool {
         let spot = self.search.spot;
         spot.say(lines, "nothing that is known here has the name `~`\n");
         let is_told = push_instead_of(lines, spot.name)
             || push_near_entity(lines, &self.names, spot.name)
             || self.push_near_feature(lines, ClassId::Declared(self.routine.class));
-        if !is_told {
-            push_near_word(lines, spot.name)
+        if is_told {
+            return true;
         }
+        push_near_word(lines, spot.name);
+        is_near_word(self.routine.alloc, spot.name)
     }
 
     /// Adds a feature of the class whose name is near to the one at fault, and whether there is one.
@@ -42,6 +45,13 @@ impl<'s> Walk<'s> {
             }
         }
     }
+}
+
+/// Whether a word that every class knows is near to this one.
+fn is_near_word(alloc: Global, word: &str) -> bool {
+    let mut lines = Lines::new(alloc);
+    push_near_word(&mut lines, word);
+    !lines.is_empty()
 }
 
 /// Adds the first of these names that is near to one, and whether there is one.

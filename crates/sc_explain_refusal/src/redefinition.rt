@@ -3,33 +3,35 @@
 use crate::declared::{
     class_around, declared_in, feature_around, feature_named, inherits, parent_of, routine_of,
 };
+use crate::fresh::fresh_name;
 use sc_explain_text::{Lines, word_at};
 use sc_text::Span;
 use sc_tree::{Class, Feature, Name};
 
-/// Adds how a feature is declared that has the name of one of an ancestor or an heir, if the one at fault does.
-pub fn push_redefine(lines: &mut Lines, text: &str, classes: &[Class], span: Span) {
-    let Some((_, class)) = class_around(classes, span) else {
-        return;
-    };
-    let Some(feature) = feature_around(class, span) else {
-        return;
-    };
-    if feature.name.span != span {
-        return;
-    }
-    for other in classes {
-        if other.span != class.span
-            && let Some(known) = declared_in(other, feature.name.as_str())
-        {
-            if inherits(classes, class, other) {
-                return push_for_heir(lines, text, class, known, feature);
-            }
-            if inherits(classes, other, class) {
-                return push_for_heir(lines, text, other, feature, known);
+/// Adds how a feature is declared that has the name of one of an ancestor or an heir, if the one at fault does, or else
+/// which name it may have.
+pub fn push_other_name(lines: &mut Lines, text: &str, classes: &[Class], span: Span) {
+    if let Some((_, class)) = class_around(classes, span)
+        && let Some(feature) = feature_around(class, span)
+        && feature.name.span == span
+    {
+        for other in classes {
+            if other.span != class.span
+                && let Some(known) = declared_in(other, feature.name.as_str())
+            {
+                if inherits(classes, class, other) {
+                    return push_for_heir(lines, text, class, known, feature);
+                }
+                if inherits(classes, other, class) {
+                    return push_for_heir(lines, text, other, feature, known);
+                }
             }
         }
     }
+    lines.fill_name(
+        "help: choose another name, as `~`: each stands for one thing in a routine and its class\n",
+        fresh_name(text, 0),
+    )
 }
 
 /// Adds how a class declares a feature again that it inherits.

@@ -64,8 +64,11 @@ fn text_of_rule(rule: Rule) -> &'static str {
             "`~` is a formal's handler's, on which no object is made from here\n"
         }
         Rule::TagName => "`~` has a mark or a tag that it can't have here\n",
-        Rule::InvariantForm => "`~` is no formula over attributes of the object\n",
-        Rule::ImpureContract => "`~` may change something, and a contract only looks\n",
+        Rule::InvariantForm => {
+            "`~` is no formula over attributes of the object\n\
+             help: a clause has numbers, attributes of INTEGER and BOOLEAN, operators, and compares references with Void\n"
+        }
+        Rule::ImpureContract => "`~` isn't a pure function, and a contract calls no other\n",
         Rule::PreconditionArgument => {
             "`~` is a reference that a precondition passes to another handler\n"
         }

@@ -26,8 +26,8 @@ pub(crate) enum Part<'s> {
     Call(&'s Call, Option<usize>),
     /// The name of the call that this entity is created by, or the actual of that call at a number.
     Creation(&'s Variable, &'s CreationCall, Option<usize>),
-    /// The entity that is assigned or created.
-    Assignee(&'s Variable),
+    /// The entity that is created, or assigned this.
+    Assignee(&'s Variable, Option<&'s Expr>),
     /// What is assigned to this.
     Assigned(&'s Variable, &'s Expr),
     /// The head of a separate block.
@@ -58,13 +58,14 @@ pub(crate) enum Found<'s> {
 /// Whether the rule is one that fails at such a part.
 fn fails_at(rule: Rule, part: Part<'_>) -> bool {
     match part {
-        Part::Call(_, None) | Part::Creation(_, _, None) | Part::Assignee(_) => matches!(
+        Part::Call(_, None) | Part::Creation(_, _, None) | Part::Assignee(..) => matches!(
             rule,
             Rule::UnknownName
                 | Rule::WrongArity
                 | Rule::ResultType
                 | Rule::NotAssignable
                 | Rule::NotCreation
+                | Rule::ImpureContract
         ),
         Part::Call(..) | Part::Creation(..) | Part::Head(_) => {
             matches!(rule, Rule::ArgumentType)
@@ -165,7 +166,7 @@ impl<'s> Search<'s> {
                 self.pass(
                     Context::Body,
                     variable_span(variable),
-                    Part::Assignee(variable),
+                    Part::Assignee(variable, Some(value)),
                 );
                 self.pass_expression(Context::Body, value)
             }
@@ -174,7 +175,7 @@ impl<'s> Search<'s> {
                 self.pass(
                     Context::Body,
                     variable_span(variable),
-                    Part::Assignee(variable),
+                    Part::Assignee(variable, None),
                 );
                 if let Some(call) = call {
                     self.pass_creation(variable, call)

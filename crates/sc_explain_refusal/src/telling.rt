@@ -1,13 +1,15 @@
 //! What can be said about a part that a rule fails at: a sentence with the types that are compared or the numbers
 //! that differ, and what helps. Nothing, if the types and numbers that are found there don't explain the fault.
 
+use crate::declared::routine_of;
 use crate::helps::{Between, Maker};
+use crate::impurity::impurity_of;
 use crate::site::Part;
 use crate::types::{Compared, Mismatch, type_found, type_of_actual};
 use crate::walk::Walk;
 use crate::words::{NamedType, class_name, handler_name, push_type};
 use sc_class::{ClassId, Tables};
-use sc_explain_text::{Lines, binary_spelling};
+use sc_explain_text::{Lines, Related, binary_spelling};
 use sc_rules::entity_types::{EntityType, Tag, conforms};
 use sc_rules::{Context, Position, Role, Rule};
 use sc_tree::{BinaryOperator, Call, CreationCall, Expr, UnaryOperator, Variable};
@@ -17,6 +19,27 @@ use sc_typing::{
 };
 
 impl<'s> Walk<'s> {
+    /// The place that goes with the part that was found, if one does: what isn't pure in the function that is called.
+    pub(crate) fn related_to(&self, lines: &mut Lines, part: Part<'s>) -> Option<Related> {
+        match (self.search.rule, part) {
+            (Rule::ImpureContract, Part::Call(call, None)) => {
+                match self.meaning_of_call(lines, call) {
+                    Meaning::Named(
+                        Signature {
+                            routine: Some(entry),
+                            ..
+                        },
+                    ) => match routine_of(entry.feature) {
+                        Some(routine) => impurity_of(routine),
+                        None => None,
+                    },
+                    _ => None,
+                }
+            }
+            _ => None,
+        }
+    }
+
     /// Adds what can be said about the part that was found.
     pub(crate) fn tell(&mut self, lines: &mut Lines, part: Part<'s>) {
         let spot = self.search.spot;
@@ -25,7 +48,7 @@ impl<'s> Walk<'s> {
             Part::Creation(created, call, actual) => {
                 self.tell_creation(lines, created, call, actual)
             }
-            Part::Assignee(variable) => self.tell_assignee(lines, variable),
+            Part::Assignee(variable, value) => self.tell_assignee(lines, variable, value),
             Part::Assigned(variable, value) => {
                 let mismatch = self.assigned_types(lines, variable, value);
                 self.push_mismatch(lines, mismatch, ", and `~` takes ")
@@ -39,7 +62,7 @@ impl<'s> Walk<'s> {
                 if let Some(given) = self.type_of_condition(lines, e)
                     && !is_boolean(given.class)
                 {
-                    spot.push_given(lines, self.named(given), ", and BOOLEAN is wanted here\n")
+                    spot.push_no_boolean(lines, self.named(given))
                 }
             }
             Part::Unary(operator, operand) => self.tell_unary(lines, operator, operand),
@@ -139,8 +162,8 @@ impl<'s> Walk<'s> {
         }
     }
 
-    /// Of what is assigned or created, by the rule that fails.
-    fn tell_assignee(&self, lines: &mut Lines, variable: &Variable) {
+    /// Of what is created, or assigned this value, by the rule that fails.
+    fn tell_assignee(&self, lines: &mut Lines, variable: &Variable, value: Option<&Expr>) {
         match self.search.rule {
             Rule::NotAssignable => {
                 let role = role_of(&self.names, variable);
@@ -152,8 +175,24 @@ impl<'s> Walk<'s> {
                     self.search.spot.push_unmade(lines, maker)
                 }
             }
-            Rule::UnknownName => self.push_unknown(lines),
+            Rule::UnknownName => {
+                if !self.push_unknown(lines)
+                    && let Some(value) = value
+                {
+                    self.push_declaration(lines, value)
+                }
+            }
             _ => {}
+        }
+    }
+
+    /// Adds how what is assigned this value is declared, if the value has a type that may be declared there.
+    fn push_declaration(&self, lines: &mut Lines, value: &Expr) {
+        if let Some(given) = self.type_of(lines, Context::Body, Position::Plain, value)
+            && !matches!(given.class, ClassId::None)
+            && matches!(given.tag, Tag::Own | Tag::Any)
+        {
+            self.search.spot.push_local(lines, self.named(given))
         }
     }
 
@@ -174,14 +213,26 @@ impl<'s> Walk<'s> {
         }
     }
 
-    /// Of the name of a call, or of its actual at a number.
-    fn tell_call(&self, lines: &mut Lines, call: &Call, actual: Option<usize>) {
-        let target = match &call.target {
+    /// The type of the target of a call, if it has one.
+    fn type_of_target(&self, lines: &mut Lines, call: &Call) -> Option<EntityType> {
+        match &call.target {
             None => None,
             Some(target) => {
                 self.type_of(lines, self.search.spot.context, Position::Plain, target)
             }
-        };
+        }
+    }
+
+    /// What the name of a call means.
+    fn meaning_of_call(&self, lines: &mut Lines, call: &Call) -> Meaning<'s> {
+        let target = self.type_of_target(lines, call);
+        self.routine
+            .meaning_of(&self.names, &call.target, target, &call.name)
+    }
+
+    /// Of the name of a call, or of its actual at a number.
+    fn tell_call(&self, lines: &mut Lines, call: &Call, actual: Option<usize>) {
+        let target = self.type_of_target(lines, call);
         let meaning = self
             .routine
             .meaning_of(&self.names, &call.target, target, &call.name);
@@ -224,16 +275,14 @@ impl<'s> Walk<'s> {
             (Rule::NotCreation, _, Some(created)) if is_creation => {
                 spot.push_unlisted(lines, self.maker_of(created.class))
             }
-            (Rule::UnknownName, Meaning::Unknown, None) => self.push_unknown(lines),
+            (Rule::UnknownName, Meaning::Unknown, None) => {
+                self.push_unknown(lines);
+            }
             (Rule::UnknownName, Meaning::Unknown, Some(target)) => {
                 self.push_lacking(lines, target.class)
             }
             (Rule::WrongArity, Meaning::Named(called), _) => {
-                let taken = match called.formals {
-                    Formals::Declared(formals) => formals.len(),
-                    Formals::Printed => 1,
-                };
-                spot.push_arity(lines, taken, actuals)
+                spot.push_arity(lines, called.formals, actuals)
             }
             (Rule::ResultType, Meaning::Named(called), _) => {
                 spot.say(lines, text_of_result(called.gives.is_some(), is_creation))
@@ -387,7 +436,13 @@ fn text_of_binary(operator: BinaryOperator) -> &'static str {
 fn text_of_result(is_function: bool, is_creation: bool) -> &'static str {
     match (is_function, is_creation) {
         (true, true) => "`~` gives a value, and a procedure creates\n",
-        (true, false) => "`~` gives a value, and an instruction has none\n",
-        (false, _) => "`~` is a procedure, and gives no value\n",
+        (true, false) => {
+            "`~` gives a value, and an instruction has none\n\
+             help: keep the value in a local, or ask it in a condition\n"
+        }
+        (false, _) => {
+            "`~` is a procedure, and gives no value\n\
+             help: call it as an instruction of its own\n"
+        }
     }
 }

@@ -4,7 +4,7 @@ use crate::declared::{class_around, feature_around, routine_of};
 use crate::site::{Found, Search};
 use crate::walk::Walk;
 use sc_class::{ClassFault, ClassId, Root, Tables, tables};
-use sc_explain_text::Lines;
+use sc_explain_text::{Lines, Related};
 use sc_rules::entity_types::EntityType;
 use sc_rules::{Context, Rule};
 use sc_text::Span;
@@ -15,29 +15,39 @@ use std::alloc::Global;
 impl<'s> Search<'s> {
     /// Adds a sentence on this very fault, in a system that is run from this root, and what helps, if more can be said
     /// about it than by the rule alone. (The faults of the system's classes were reported before; running out of memory
-    /// is reported here.)
-    pub(crate) fn push_told(self, alloc: Global, lines: &mut Lines, system: &System, root: &Root) {
+    /// is reported here.) Returns the place that goes with it, if one does.
+    pub(crate) fn push_told(
+        self,
+        alloc: Global,
+        lines: &mut Lines,
+        system: &System,
+        root: &Root,
+    ) -> Option<Related> {
         match tables(alloc, system, root) {
             Ok(tables) => self.push_found(alloc, lines, &tables),
-            Err(ClassFault::OutOfMemory) => lines.lack(),
-            Err(_) => {}
+            Err(ClassFault::OutOfMemory) => {
+                lines.lack();
+                None
+            }
+            Err(_) => None,
         }
     }
 
     /// Adds what can be said about the part, if it is found: in the routine around it, or else outside the routines
     /// of the class.
-    fn push_found(self, alloc: Global, lines: &mut Lines, tables: &Tables<'_>) {
+    fn push_found(self, alloc: Global, lines: &mut Lines, tables: &Tables<'_>) -> Option<Related> {
         let Some((number, class)) = class_around(tables.classes(), self.spot.span) else {
-            return;
+            return None;
         };
         let routine = match feature_around(class, self.spot.span) {
             Some(feature) => routine_of(feature),
             None => None,
         };
-        self.push_in(alloc, lines, tables, number, class, routine);
-        if lines.is_empty() {
-            self.push_in(alloc, lines, tables, number, class, None)
+        let related = self.push_in(alloc, lines, tables, number, class, routine);
+        if related.is_some() || !lines.is_empty() {
+            return related;
         }
+        self.push_in(alloc, lines, tables, number, class, None)
     }
 
     /// Adds what can be said about the part, if a walk through this routine of the class at a number reaches it, or
@@ -50,7 +60,7 @@ impl<'s> Search<'s> {
         number: usize,
         class: &'s Class,
         routine: Option<&'s Routine>,
-    ) {
+    ) -> Option<Related> {
         let purity = Purity::NotAsked;
         let mut walk = Walk {
             search: self,
@@ -84,8 +94,13 @@ fn result_of(tables: &Tables, routine: Option<&Routine>) -> Option<Option<Entity
 
 impl<'s> Walk<'s> {
     /// Passes this routine of a class, or else the class's invariant and list of creators, and adds what can be said
-    /// about the part, if it was found there.
-    fn push_passed(&mut self, lines: &mut Lines, class: &'s Class, routine: Option<&'s Routine>) {
+    /// about the part, if it was found there. Returns the place that goes with it, if one does.
+    fn push_passed(
+        &mut self,
+        lines: &mut Lines,
+        class: &'s Class,
+        routine: Option<&'s Routine>,
+    ) -> Option<Related> {
         match routine {
             Some(routine) => self.pass_routine(routine),
             None => self
@@ -97,7 +112,8 @@ impl<'s> Walk<'s> {
         match (found, rule) {
             (Found::At(part, place), _) => {
                 self.search.spot.place = place;
-                self.tell(lines, part)
+                self.tell(lines, part);
+                return self.related_to(lines, part);
             }
             (Found::Nothing, Rule::UnknownName) if is_listed => {
                 self.push_lacking(lines, ClassId::Declared(self.routine.class))
@@ -108,6 +124,7 @@ impl<'s> Walk<'s> {
             (Found::Nothing | Found::Faulty, _) => {}
             (Found::OutOfMemory, _) => lines.lack(),
         }
+        None
     }
 }
 
