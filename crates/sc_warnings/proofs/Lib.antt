@@ -1,0 +1,4 @@
+pub mod Added
+pub mod Cases
+pub mod Listed
+pub mod Looks

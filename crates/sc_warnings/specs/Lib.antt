@@ -1,0 +1,4 @@
+pub mod Laws
+pub mod Sites
+pub mod Views
+pub mod Warnings
