@@ -1,0 +1,9 @@
+mod Adding
+mod ReportedFaults
+mod ExpressionFaults
+mod ExpressionSteps
+mod InstructionFaults
+mod InstructionLists
+mod SiteFaults
+mod PartFaults
+mod Steps

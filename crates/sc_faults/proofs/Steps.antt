@@ -1,0 +1,214 @@
+-- What the walk has added after each of its steps.
+use Rattle.std.proofs.Common.{◌≡◌, ℕ, ◌+◌, ◌<◌, ◌≤◌, List, [], ◌++◌, length, drop, get_or, map, Option, Some, None, Result, Ok, Err, refl, ap, sym, subst, ◌∙◌}
+use Rattle.std.specs.Prelude.{Bool, OnOk}
+use Rattle.std.specs.declared.alloc.AllocError.{AllocError}
+use Rattle.sc_tree.specs.declared.declaration.DeclaredType.{DeclaredType}
+use Rattle.sc_tree.specs.declared.declaration.Declaration.{Declaration}
+use Rattle.sc_tree.specs.declared.instruction.Instr.{Instr}
+use Rattle.sc_tree.specs.declared.instruction.Clause.{Clause}
+use Rattle.sc_tree.specs.declared.expression.Name.{Name}
+use Rattle.sc_tree.specs.declared.system.Feature.{Feature}
+use Rattle.sc_tree.specs.declared.system.FeatureKind.{FeatureKind}
+use Rattle.sc_tree.specs.declared.system.FeatureKind.TheVariants as kind
+use Rattle.sc_tree.specs.declared.system.Routine.{Routine}
+use Rattle.sc_tree.specs.declared.system.Class.{Class}
+use Rattle.sc_tree.specs.Plain as plain
+use Rattle.sc_tree.specs.Plain.{System}
+use Rattle.sc_tree.specs.View.{class_of, clause_of, declaration_of, feature_of, instrs_of, kind_of, name_of, routine_of, type_if_any, type_of}
+use Rattle.sc_class.proofs.Anys.{at, drop_end}
+use Rattle.sc_rules.specs.declared.fault.Fault.{Fault}
+use Rattle.sc_rules.specs.declared.position.Context.{Context}
+use Rattle.sc_rules.specs.declared.position.Context.TheVariants as context
+use Rattle.sc_rules.specs.declared.position.Position.{Position}
+use Rattle.sc_rules.specs.Names.{RoutineName, RoutineContext, Entities, routine_context, formals_known, locals_known}
+use Rattle.sc_rules.specs.Judging.{Judged}
+use Rattle.sc_typing.specs.declared.fault.CheckFault.{CheckFault}
+use Rattle.sc_typing.specs.declared.fault.CheckFault.TheVariants.{Refused}
+use Rattle.sc_typing.specs.Judges.{Faults, Knows, Passes}
+use Rattle.sc_faults.specs.Internal.Adding.{AddsFaults, AddsUnder}
+use Rattle.sc_faults.specs.Internal.Listing.{with_first, faults_at, faults_of, faults_of_each, faults_of_clause, faults_of_instrs, faults_under, faults_of_type, faults_of_types, faults_of_result, faults_of_text, faults_of_kind, faults_of_features, faults_of_creator, faults_of_invariant, faults_of_class, faults_of_classes}
+use Rattle.sc_faults.proofs.Adding.{both_if_ok, named, named_if_ok, nothing_added, next, end}
+
+-- ---- a site
+
+module _ (judged : Result Unit CheckFault) (j : Judged (Unit {0})) (operands : List Fault) (r : Result Unit AllocError)
+    (old new : List Fault) where
+  pub passed_added : (u : Unit) → judged ≡ Ok u → Passes j judged → OnOk r (new ≡ old ++ operands) →
+      OnOk r (new ≡ old ++ faults_at j operands)
+  passed_added u q p a =
+      named_if_ok r old new operands (faults_at j operands) (sym (ap (λ j. faults_at j operands) (subst (Passes j) q p))) a
+
+  pub refused_added : (e : CheckFault) (f : Fault) → judged ≡ Err e → e ≡ Refused f → Passes j judged →
+      OnOk r (new ≡ old ++ with_first f operands) → OnOk r (new ≡ old ++ faults_at j operands)
+  refused_added e f q w p a =
+      named_if_ok r old new (with_first f operands) (faults_at j operands)
+      (sym (ap (λ j. faults_at j operands) (subst (Faults j) w (subst (Passes j) q p)))) a
+
+-- what was found of the operands first
+pub site_added : (j : Judged (Unit {0})) (listed : List Fault) (judged : Result Unit CheckFault) (r : Result Unit AllocError)
+    (operands old new : List Fault) → operands ≡ listed → Passes j judged → AddsFaults judged operands r old new →
+    OnOk r (new ≡ old ++ faults_at j listed)
+site_added j listed judged r operands old new e p a =
+    named_if_ok r old new (faults_at j operands) (faults_at j listed) (ap (faults_at j) e) (a j p)
+
+pub in_context : (h g : RoutineContext) (c : Context) (k : Position) (n : Entities) (e : plain.Expr) (old new : List Fault) → h ≡ g →
+    new ≡ old ++ faults_of h c k n e → new ≡ old ++ faults_of g c k n e
+in_context h g c k n e old new q p = named old new (faults_of h c k n e) (faults_of g c k n e) (ap (λ h. faults_of h c k n e) q) p
+
+-- ---- names
+
+pub knows_at : (names : Entities → Judged Entities) (given : Result Unit CheckFault) (n before m after : Entities) → before ≡ n → after ≡ m →
+    Knows (names before) given m → Knows (names n) given after
+knows_at names given n before m after p q k =
+    subst (λ m. Knows (names n) given m) (sym q) (subst (λ n. Knows (names n) given m) p k)
+
+-- ---- under what gives names
+
+module _ (h : RoutineContext) (is : plain.Instrs) (given : Result Unit CheckFault) (known : Entities) where
+  pub under_added : (j : Judged Entities) (r : Result Unit AllocError) (old mid new first : List Fault) → mid ≡ old ++ first →
+      Knows j given known → AddsUnder h given known is r mid new → OnOk r (new ≡ old ++ (first ++ faults_under h j is))
+  under_added j r old mid new first p k f = both_if_ok r old mid new first (faults_under h j is) p (f j k)
+
+  pub under_known : (u : Unit) (j : Judged Entities) (r : Result Unit AllocError) (old new : List Fault) → given ≡ Ok u → Knows j given known →
+      OnOk r (new ≡ old ++ faults_of_instrs h known is) → OnOk r (new ≡ old ++ faults_under h j is)
+  under_known u j r old new q k p =
+      named_if_ok r old new (faults_of_instrs h known is) (faults_under h j is)
+      (sym (ap (λ j. faults_under h j is) (subst (λ g. Knows j g known) q k))) p
+
+  pub under_unknown : (e : CheckFault) (f : Fault) (j : Judged Entities) (old : List Fault) → given ≡ Err e → e ≡ Refused f → Knows j given known →
+      old ≡ old ++ faults_under h j is
+  under_unknown e f j old q w k =
+      nothing_added old old refl
+      ∙ ap (λ j. old ++ faults_under h j is) (sym (subst (Faults j) w (subst (λ g. Knows j g known) q k)))
+
+-- ---- features
+
+pub text_added : (h : RoutineContext) (pre post : List plain.Clause) (locals : List plain.Declaration) (is : plain.Instrs)
+    (r : Result Unit AllocError) (old first second third new : List Fault) (before known after : Entities) →
+    before ≡ formals_known h.system h.formals → known ≡ formals_known h.system h.formals ++ locals_known h.system h.formals locals →
+    after ≡ formals_known h.system h.formals → first ≡ old ++ faults_of_each (faults_of_clause h context.Require before) pre →
+    second ≡ first ++ faults_of_types h.system h.formals locals → third ≡ second ++ faults_of_instrs h known is →
+    OnOk r (new ≡ third ++ faults_of_each (faults_of_clause h context.Ensure after) post) → OnOk r (new ≡ old ++ faults_of_text h pre locals is post)
+text_added h pre post locals is r old first second third new before known after bq kq aq p1 p2 p3 p4 =
+    let requires : Entities → List Fault = λ n. faults_of_each (faults_of_clause h context.Require n) pre in
+    let types : List Fault = faults_of_types h.system h.formals locals in
+    let body : Entities → List Fault = λ n. faults_of_instrs h n is in
+    let ensures : Entities → List Fault = λ n. faults_of_each (faults_of_clause h context.Ensure n) post in
+    named_if_ok r old new (requires before ++ (types ++ (body known ++ ensures after))) (faults_of_text h pre locals is post)
+    (ap (λ n. requires n ++ (types ++ (body known ++ ensures after))) bq
+    ∙ ap (λ n. requires (formals_known h.system h.formals) ++ (types ++ (body n ++ ensures after))) kq
+    ∙ ap (λ n. requires (formals_known h.system h.formals) ++ (types ++ (body (formals_known h.system h.formals ++ locals_known h.system h.formals locals) ++ ensures n))) aq)
+    (both_if_ok r old first new (requires before) (types ++ (body known ++ ensures after)) p1
+    (both_if_ok r first second new types (body known ++ ensures after) p2 (both_if_ok r second third new (body known) (ensures after) p3 p4)))
+
+module _ (s : System) (pure : RoutineName → Bool) (k : ℕ) (r : Routine) (h : RoutineContext)
+    (first second third locals : List Declaration) (pre post : List Clause) (is : List Instr)
+    (q1 : first ≡ r.formals.items) (q2 : second ≡ r.formals.items) (q3 : third ≡ r.formals.items)
+    (pq : pre ≡ r.precondition.items) (lq : locals ≡ r.locals.items) (iq : is ≡ r.body.items) (oq : post ≡ r.postcondition.items)
+    (hq : h ≡ routine_context s pure k (map declaration_of third) (type_if_any r.result_type)) where
+  abbrev types_of : List Declaration → List Declaration → List Fault
+  types_of fs ds = faults_of_types s (map declaration_of fs) (map declaration_of ds)
+
+  abbrev text_of : RoutineContext → List Clause → List Declaration → List Instr → List Clause → List Fault
+  text_of h pre ds is post = faults_of_text h (map clause_of pre) (map declaration_of ds) (instrs_of is) (map clause_of post)
+
+  abbrev result : List Fault
+  result = faults_of_result s (type_if_any r.result_type)
+
+  all_named : types_of first second ++ (result ++ text_of h pre locals is post) ≡ faults_of_kind s pure k (plain.Routine (routine_of r))
+  all_named =
+      let formals : List Declaration = r.formals.items in
+      let g : RoutineContext = routine_context s pure k (map declaration_of formals) (type_if_any r.result_type) in
+      ap (λ (ds : List Declaration). types_of ds second ++ (result ++ text_of h pre locals is post)) q1
+      ∙ ap (λ (ds : List Declaration). types_of formals ds ++ (result ++ text_of h pre locals is post)) q2
+      ∙ ap (λ h. types_of formals formals ++ (result ++ text_of h pre locals is post))
+      (hq ∙ ap (λ (ds : List Declaration). routine_context s pure k (map declaration_of ds) (type_if_any r.result_type)) q3)
+      ∙ ap (λ (cs : List Clause). types_of formals formals ++ (result ++ text_of g cs locals is post)) pq
+      ∙ ap (λ (ds : List Declaration). types_of formals formals ++ (result ++ text_of g r.precondition.items ds is post)) lq
+      ∙ ap (λ (is : List Instr). types_of formals formals ++ (result ++ text_of g r.precondition.items r.locals.items is post)) iq
+      ∙ ap (λ (cs : List Clause). types_of formals formals ++ (result ++ text_of g r.precondition.items r.locals.items r.body.items cs)) oq
+
+  pub routine_added : (o : Result Unit AllocError) (old mid later new : List Fault) → mid ≡ old ++ types_of first second →
+      later ≡ mid ++ result → OnOk o (new ≡ later ++ text_of h pre locals is post) →
+      OnOk o (new ≡ old ++ faults_of_kind s pure k (plain.Routine (routine_of r)))
+  routine_added o old mid later new p1 p2 p3 =
+      named_if_ok o old new (types_of first second ++ (result ++ text_of h pre locals is post)) (faults_of_kind s pure k (plain.Routine (routine_of r)))
+      all_named
+      (both_if_ok o old mid new (types_of first second) (result ++ text_of h pre locals is post) p1
+      (both_if_ok o mid later new result (text_of h pre locals is post) p2 p3))
+
+module _ (s : System) (pure : RoutineName → Bool) (k : ℕ) (x : FeatureKind) (r : Result Unit AllocError) (old new : List Fault) where
+  pub attribute_added : (d : DeclaredType) → x ≡ kind.Attribute d → OnOk r (new ≡ old ++ faults_of_type s [] (type_of d)) →
+      OnOk r (new ≡ old ++ faults_of_kind s pure k (kind_of x))
+  unfolding kind_of
+  attribute_added d q p =
+      named_if_ok r old new (faults_of_type s [] (type_of d)) (faults_of_kind s pure k (kind_of x))
+      (sym (ap (λ (x : FeatureKind). faults_of_kind s pure k (kind_of x)) q)) p
+
+  pub of_routine_added : (d : Routine) → x ≡ kind.Routine d → OnOk r (new ≡ old ++ faults_of_kind s pure k (plain.Routine (routine_of d))) →
+      OnOk r (new ≡ old ++ faults_of_kind s pure k (kind_of x))
+  unfolding kind_of
+  of_routine_added d q p =
+      named_if_ok r old new (faults_of_kind s pure k (plain.Routine (routine_of d))) (faults_of_kind s pure k (kind_of x))
+      (sym (ap (λ (x : FeatureKind). faults_of_kind s pure k (kind_of x)) q)) p
+
+pub result_type_added : (s : System) (o : Option DeclaredType) (r : Result Unit AllocError) (old new : List Fault) (d : DeclaredType) →
+    o ≡ Some d → OnOk r (new ≡ old ++ faults_of_type s [] (type_of d)) → OnOk r (new ≡ old ++ faults_of_result s (type_if_any o))
+result_type_added s o r old new d q p =
+    named_if_ok r old new (faults_of_type s [] (type_of d)) (faults_of_result s (type_if_any o))
+    (sym (ap (λ (o : Option DeclaredType). faults_of_result s (type_if_any o)) q)) p
+
+pub no_result_type_added : (s : System) (o : Option DeclaredType) (old : List Fault) → o ≡ None →
+    old ≡ old ++ faults_of_result s (type_if_any o)
+no_result_type_added s o old q =
+    nothing_added old old refl ∙ ap (λ fs. old ++ fs) (sym (ap (λ (o : Option DeclaredType). faults_of_result s (type_if_any o)) q))
+
+-- ---- classes
+
+module _ (s : System) (pure : RoutineName → Bool) (k : ℕ) where
+  pub features_next : (xs : List Feature) (i : ℕ) (x : Feature) (total now new : List Fault) → i < length xs → x ≡ get_or xs i x →
+      total ≡ now ++ faults_of_features s pure k (map feature_of (drop i xs)) → new ≡ now ++ faults_of_kind s pure k (kind_of x.kind) →
+      total ≡ new ++ faults_of_features s pure k (map feature_of (drop (i + 1) xs))
+  unfolding feature_of
+  features_next xs i x total now new l g inv q =
+      next total now new (faults_of_kind s pure k (kind_of x.kind)) (faults_of_features s pure k (map feature_of (drop i xs)))
+      (faults_of_features s pure k (map feature_of (drop (i + 1) xs)))
+      (ap (λ (ys : List Feature). faults_of_features s pure k (map feature_of ys)) (at xs i x l g)) inv q
+
+  pub features_end : (xs : List Feature) (i : ℕ) (total now : List Fault) → length xs ≤ i →
+      total ≡ now ++ faults_of_features s pure k (map feature_of (drop i xs)) → now ≡ total
+  features_end xs i total now l inv =
+      end total now (faults_of_features s pure k (map feature_of (drop i xs)))
+      (ap (λ (ys : List Feature). faults_of_features s pure k (map feature_of ys)) (drop_end xs i l)) inv
+
+  pub class_added : (c : Class) (names : List Name) (features : List Feature) (clauses : List Clause) (r : Result Unit AllocError)
+      (old first second new : List Fault) → names ≡ c.creators.items → features ≡ c.features.items → clauses ≡ c.invariant.items →
+      first ≡ old ++ faults_of_each (faults_of_creator s k) (map name_of names) →
+      second ≡ first ++ faults_of_features s pure k (map feature_of features) →
+      OnOk r (new ≡ second ++ faults_of_each (faults_of_invariant s pure k) (map clause_of clauses)) →
+      OnOk r (new ≡ old ++ faults_of_class s pure k (class_of c))
+  unfolding class_of
+  class_added c names features clauses r old first second new nq fq cq p1 p2 p3 =
+      let creators : List Name → List Fault = λ names. faults_of_each (faults_of_creator s k) (map name_of names) in
+      let listed : List Feature → List Fault = λ fs. faults_of_features s pure k (map feature_of fs) in
+      let invariant : List Clause → List Fault = λ cs. faults_of_each (faults_of_invariant s pure k) (map clause_of cs) in
+      named_if_ok r old new (creators names ++ (listed features ++ invariant clauses)) (faults_of_class s pure k (class_of c))
+      (ap (λ (names : List Name). creators names ++ (listed features ++ invariant clauses)) nq
+      ∙ ap (λ (fs : List Feature). creators c.creators.items ++ (listed fs ++ invariant clauses)) fq
+      ∙ ap (λ (cs : List Clause). creators c.creators.items ++ (listed c.features.items ++ invariant cs)) cq)
+      (both_if_ok r old first new (creators names) (listed features ++ invariant clauses) p1
+      (both_if_ok r first second new (listed features) (invariant clauses) p2 p3))
+
+pub classes_next : (s : System) (pure : RoutineName → Bool) (xs : List Class) (i : ℕ) (x : Class) (total now new : List Fault) → i < length xs →
+    x ≡ get_or xs i x → total ≡ now ++ faults_of_classes s pure i (map class_of (drop i xs)) → new ≡ now ++ faults_of_class s pure i (class_of x) →
+    total ≡ new ++ faults_of_classes s pure (i + 1) (map class_of (drop (i + 1) xs))
+classes_next s pure xs i x total now new l g inv q =
+    next total now new (faults_of_class s pure i (class_of x)) (faults_of_classes s pure i (map class_of (drop i xs)))
+    (faults_of_classes s pure (i + 1) (map class_of (drop (i + 1) xs)))
+    (ap (λ (ys : List Class). faults_of_classes s pure i (map class_of ys)) (at xs i x l g)) inv q
+
+pub classes_end : (s : System) (pure : RoutineName → Bool) (xs : List Class) (i : ℕ) (total now : List Fault) → length xs ≤ i →
+    total ≡ now ++ faults_of_classes s pure i (map class_of (drop i xs)) → now ≡ total
+classes_end s pure xs i total now l inv =
+    end total now (faults_of_classes s pure i (map class_of (drop i xs)))
+    (ap (λ (ys : List Class). faults_of_classes s pure i (map class_of ys)) (drop_end xs i l)) inv

@@ -1,0 +1,128 @@
+use Rattle.std.proofs.Common.{◌++◌, Ok, refl, map, ap, sym, subst, ◌∙◌}
+use Rattle.sc_tree.specs.declared.expression.Expr.{Expr}
+use Rattle.sc_tree.specs.View.{expr_of, exprs_of}
+use Rattle.sc_rules.specs.Judging.{judge_given}
+use Rattle.sc_typing.specs.Views.{routine_in, entity_of}
+use Rattle.sc_typing.specs.Judges.{Knows}
+use Rattle.sc_faults.specs.Internal.Listing.{faults_in, faults_in_actuals}
+use Rattle.sc_faults.proofs.Adding.{from_none}
+use Rattle.sc_faults.proofs.Steps.{knows_at}
+use Rattle.sc_faults.proofs.ExpressionSteps.{typed_added, untyped_added, integer_added, boolean_added, void_added, current_added, result_added, call_added, unary_added, test_added, apart_added, joint_added, known_added, no_target_added, target_added, actuals_next, actuals_end}
+use Rattle.sc_faults.proofs.expressions.+expressions.Goals as goal
+
+pub add_expression-returns-in-Ok : goal.add_expression-returns-in-Ok
+add_expression-returns-in-Ok t c =
+    typed_added (routine_in c.args.routine.now) c.args.context c.args.position (map entity_of c.args.names.now) c.args.e.now (Ok tt)
+    c.args.faults.now.items c.args.faults.now.items c.judge_expression.result c.in-Ok.field-0 c.in-Ok.is c.judge_expression.ensures
+
+pub add_expression-returns-in_ok-add_operands-in-Err-Refused : goal.add_expression-returns-in_ok-add_operands-in-Err-Refused
+add_expression-returns-in_ok-add_operands-in-Err-Refused t c =
+    let h = routine_in c.args.routine.now in
+    let n = map entity_of c.args.names.now in
+    untyped_added h c.args.context c.args.position n c.args.e.now c.add_first.result c.args.faults.now.items c.add_first.new.faults.items
+    c.judge_expression.result c.in-Err-Refused.field-0 c.in-Err-Refused.fault c.add_operands.new.faults.items
+    c.in-Err-Refused.is c.in-Err-Refused.field-0-is c.judge_expression.ensures
+    (from_none c.new-operands.result.items (faults_in h c.args.context c.args.position n (expr_of c.args.e.now)) c.add_operands.new.faults.items
+    c.new-operands.ensures.items c.in_ok-add_operands-in-Err-Refused.ensures)
+    c.add_first.ensures
+
+pub add_operands-returns-in-Integer : goal.add_operands-returns-in-Integer
+add_operands-returns-in-Integer t c =
+    integer_added (routine_in c.args.routine.now) c.args.context c.args.position (map entity_of c.args.names.now) c.args.e.now (Ok tt)
+    c.args.faults.now.items c.args.faults.now.items c.in-Integer.field-0 c.in-Integer.field-1 c.in-Integer.is
+
+pub add_operands-returns-in-Boolean : goal.add_operands-returns-in-Boolean
+add_operands-returns-in-Boolean t c =
+    boolean_added (routine_in c.args.routine.now) c.args.context c.args.position (map entity_of c.args.names.now) c.args.e.now (Ok tt)
+    c.args.faults.now.items c.args.faults.now.items c.in-Boolean.field-0 c.in-Boolean.field-1 c.in-Boolean.is
+
+pub add_operands-returns-in-Void : goal.add_operands-returns-in-Void
+add_operands-returns-in-Void t c =
+    void_added (routine_in c.args.routine.now) c.args.context c.args.position (map entity_of c.args.names.now) c.args.e.now (Ok tt)
+    c.args.faults.now.items c.args.faults.now.items c.in-Void.field-0 c.in-Void.is
+
+pub add_operands-returns-in-Current : goal.add_operands-returns-in-Current
+add_operands-returns-in-Current t c =
+    current_added (routine_in c.args.routine.now) c.args.context c.args.position (map entity_of c.args.names.now) c.args.e.now (Ok tt)
+    c.args.faults.now.items c.args.faults.now.items c.in-Current.field-0 c.in-Current.is
+
+pub add_operands-returns-in-Result : goal.add_operands-returns-in-Result
+add_operands-returns-in-Result t c =
+    result_added (routine_in c.args.routine.now) c.args.context c.args.position (map entity_of c.args.names.now) c.args.e.now (Ok tt)
+    c.args.faults.now.items c.args.faults.now.items c.in-Result.field-0 c.in-Result.is
+
+pub add_operands-returns-in_ok-add_target-in-Call : goal.add_operands-returns-in_ok-add_target-in-Call
+add_operands-returns-in_ok-add_target-in-Call t c =
+    call_added (routine_in c.args.routine.now) c.args.context c.args.position (map entity_of c.args.names.now) c.args.e.now c.add_actuals.result
+    c.args.faults.now.items c.add_actuals.new.faults.items c.in-Call.call c.in-Call.call.target c.deref.result.now c.add_target.new.faults.items
+    c.in-Call.is refl c.deref.ensures.value c.in_ok-add_target-in-Call.ensures c.add_actuals.ensures
+
+pub add_operands-returns-in-Unary : goal.add_operands-returns-in-Unary
+add_operands-returns-in-Unary t c =
+    unary_added (routine_in c.args.routine.now) c.args.context c.args.position (map entity_of c.args.names.now) c.args.e.now c.add_expression.result
+    c.args.faults.now.items c.add_expression.new.faults.items c.in-Unary.field-0 c.in-Unary.operator c.in-Unary.operand c.operand_context-inside.result
+    c.deref-in-Unary.result.now c.in-Unary.is c.operand_context-inside.ensures c.deref-in-Unary.ensures c.add_expression.ensures
+
+pub add_operands-returns-in-ObjectTest : goal.add_operands-returns-in-ObjectTest
+add_operands-returns-in-ObjectTest t c =
+    test_added (routine_in c.args.routine.now) c.args.context c.args.position (map entity_of c.args.names.now) c.args.e.now c.add_expression-in-ObjectTest.result
+    c.args.faults.now.items c.add_expression-in-ObjectTest.new.faults.items c.in-ObjectTest.field-0 c.in-ObjectTest.field-1 c.in-ObjectTest.tested c.in-ObjectTest.field-3
+    c.deref-in-ObjectTest.result.now c.in-ObjectTest.is c.deref-in-ObjectTest.ensures c.add_expression-in-ObjectTest.ensures
+
+pub add_operands-returns-in_ok-add_expression-in-Binary-2 : goal.add_operands-returns-in_ok-add_expression-in-Binary-2
+add_operands-returns-in_ok-add_expression-in-Binary-2 t c =
+    apart_added (routine_in c.args.routine.now) c.args.context c.args.position (map entity_of c.args.names.now) c.args.e.now
+    c.add_expression-else-shares_names-2.result c.args.faults.now.items c.add_expression-else-shares_names-2.new.faults.items
+    c.in-Binary.field-0 c.in-Binary.operator c.in-Binary.left c.in-Binary.right c.in-Binary.is
+    c.deref-else-shares_names.result.now c.deref-else-shares_names-2.result.now c.deref-else-shares_names.ensures c.deref-else-shares_names-2.ensures
+    c.add_expression-else-shares_names.new.faults.items c.operand_position-side.result (sym c.shares_names.ensures ∙ c.if-shares_names.false)
+    c.operand_position-side.ensures c.in_ok-add_expression-in-Binary-2.ensures c.add_expression-else-shares_names-2.ensures
+
+pub add_operands-returns-in_ok-known-in-Binary : goal.add_operands-returns-in_ok-known-in-Binary
+add_operands-returns-in_ok-known-in-Binary t c =
+    let h = routine_in c.args.routine.now in
+    let n = map entity_of c.args.names.now in
+    let x = c.deref-then-shares_names.result.now in
+    let known = c.in_ok-known-in-Binary.known.items in
+    joint_added h c.args.context c.args.position n c.args.e.now
+    c.add_where_known.result c.args.faults.now.items c.add_where_known.new.faults.items
+    c.in-Binary.field-0 c.in-Binary.operator c.in-Binary.left c.in-Binary.right c.in-Binary.is
+    x c.deref-then-shares_names-4.result.now c.deref-then-shares_names.ensures c.deref-then-shares_names-4.ensures
+    c.add_expression-then-shares_names.new.faults.items c.give_names-given.result (map entity_of c.deref-then-shares_names-3.result.now)
+    (sym c.shares_names.ensures ∙ c.if-shares_names.true)
+    (knows_at (λ m. judge_given h c.args.context m (expr_of x)) c.give_names-given.result n (map entity_of known)
+    (map entity_of c.give_names-given.new.names.items) (map entity_of c.deref-then-shares_names-3.result.now)
+    (ap (map entity_of) c.in_ok-known-in-Binary.ensures.items) (ap (map entity_of) c.deref-then-shares_names-3.ensures.value)
+    (subst (λ (e : Expr). Knows (judge_given h c.args.context (map entity_of known) (expr_of e)) c.give_names-given.result (map entity_of c.give_names-given.new.names.items))
+    (c.deref-then-shares_names-2.ensures ∙ sym c.deref-then-shares_names.ensures) c.give_names-given.ensures))
+    c.in_ok-add_expression-in-Binary.ensures c.add_where_known.ensures
+
+pub add_where_known-returns-in-Ok : goal.add_where_known-returns-in-Ok
+add_where_known-returns-in-Ok t c = λ j k.
+    known_added (routine_in c.args.routine.now) c.args.context (expr_of c.args.right.now) c.args.given (map entity_of c.args.known.now) j
+    c.add_expression.result c.args.faults.now.items c.add_expression.new.faults.items c.in-Ok.field-0 c.in-Ok.is k c.add_expression.ensures
+
+pub add_target-returns-in-None : goal.add_target-returns-in-None
+add_target-returns-in-None t c =
+    no_target_added (routine_in c.args.routine.now) c.args.context (map entity_of c.args.names.now) c.args.target.now c.args.faults.now.items c.in-None.is
+
+pub add_target-returns-in-Some : goal.add_target-returns-in-Some
+add_target-returns-in-Some t c =
+    target_added (routine_in c.args.routine.now) c.args.context (map entity_of c.args.names.now) c.args.target.now c.in-Some.target c.deref.result.now
+    c.add_expression.result c.args.faults.now.items c.add_expression.new.faults.items c.in-Some.is c.deref.ensures c.add_expression.ensures
+
+pub add_actuals-loop-actual-preserved : goal.add_actuals-loop-actual-preserved
+add_actuals-loop-actual-preserved t c =
+    let h = routine_in c.args.routine.now in
+    let n = map entity_of c.args.names.now in
+    actuals_next h c.args.context n c.args.actuals.now c.loop-actual.actual-index c.actual-item.result
+    (c.args.faults.now.items ++ faults_in_actuals h c.args.context n (exprs_of c.args.actuals.now)) c.loop-actual.faults.items c.add_expression.new.faults.items
+    c.loop-actual-test.true c.actual-item.is c.loop-actual.invariant c.in_ok-add_expression.ensures
+
+pub add_actuals-returns : goal.add_actuals-returns
+add_actuals-returns t c =
+    let h = routine_in c.args.routine.now in
+    let n = map entity_of c.args.names.now in
+    actuals_end h c.args.context n c.args.actuals.now c.loop-actual.actual-index
+    (c.args.faults.now.items ++ faults_in_actuals h c.args.context n (exprs_of c.args.actuals.now)) c.loop-actual.faults.items
+    c.loop-actual-test.false c.loop-actual.invariant

@@ -1,0 +1,139 @@
+//! The faults of features.
+
+ghost use Rattle.std.specs.Prelude.{◌≡◌, ◌++◌, OnOk, map};
+ghost use Rattle.sc_tree.specs.Plain as plain;
+ghost use Rattle.sc_tree.specs.View.{clause_of, declaration_of, instrs_of, kind_of, routine_of, type_if_any};
+ghost use Rattle.sc_class.specs.SystemIn.{system_in};
+ghost use Rattle.sc_rules.specs.Names as names;
+ghost use Rattle.sc_typing.specs.Marks.{is_marked};
+ghost use Rattle.sc_typing.specs.Views.{routine_in};
+ghost use Rattle.sc_faults.specs.Internal.Listing as listing;
+
+use crate::conditions::add_clauses;
+use crate::found::add_alone;
+use crate::instructions::add_instructions;
+use sc_check::ClassText;
+use sc_class::Tables;
+use sc_rules::{Context, Fault};
+use sc_tree::{Clause, Declaration, DeclaredType, FeatureKind, Instr, Routine};
+use sc_typing::{RoutineContext, add_formals, add_locals, judge_type, result_type};
+use std::alloc::AllocError;
+
+/// Adds the fault of each declared type, whose tag may name these formals.
+fn add_types(
+    tables: &Tables,
+    formals: &[Declaration],
+    declarations: &[Declaration],
+    faults: &mut Vec<Fault>,
+) -> Result<(), AllocError>
+    ensures { OnOk result (faults.new.items ≡ faults.old.items ++ listing.faults_of_types (system_in tables.now)
+        (map declaration_of formals.now) (map declaration_of declarations.now)) }
+{
+    for declaration in declarations {
+        add_alone(
+            judge_type(tables, formals, &declaration.declared_type),
+            faults,
+        )?;
+    }
+    Ok(())
+}
+
+/// Adds the fault of the type of Result, if one is declared.
+fn add_result_type(
+    tables: &Tables,
+    declared: &Option<DeclaredType>,
+    faults: &mut Vec<Fault>,
+) -> Result<(), AllocError>
+    ensures { OnOk result (faults.new.items ≡ faults.old.items ++ listing.faults_of_result (system_in tables.now)
+        (type_if_any declared.now)) }
+{
+    match declared {
+        None => Ok(()),
+        Some(declared) => add_alone(judge_type(tables, &[], declared), faults),
+    }
+}
+
+/// A routine of the class with these formals and this result type.
+pub fn context_of<'t, 's>(
+    class: &ClassText<'t, 's>,
+    formals: &'s [Declaration],
+    declared: &Option<DeclaredType>,
+) -> RoutineContext<'t, 's>
+    ensures { routine_in result
+        ≡ names.routine_context (system_in class.now.tables.now) (is_marked class.now.purity.now) class.now.class
+        (map declaration_of formals.now) (type_if_any declared.now) }
+{
+    RoutineContext {
+        alloc: class.alloc,
+        tables: class.tables,
+        class: class.class,
+        formals,
+        result: result_type(class.tables, declared),
+        purity: class.purity,
+    }
+}
+
+/// Adds the faults of a routine's text after its types: precondition, locals, body and postcondition.
+fn add_text<'s>(
+    routine: &RoutineContext<'_, 's>,
+    precondition: &'s [Clause],
+    locals: &'s [Declaration],
+    body: &'s [Instr],
+    postcondition: &'s [Clause],
+    faults: &mut Vec<Fault>,
+) -> Result<(), AllocError>
+    ensures { OnOk result (faults.new.items ≡ faults.old.items ++ listing.faults_of_text (routine_in routine.now)
+        (map clause_of precondition.now) (map declaration_of locals.now) (instrs_of body.now)
+        (map clause_of postcondition.now)) }
+{
+    let mut names = Vec::new(routine.alloc);
+    add_formals(routine.tables, routine.formals, &mut names)?;
+    add_clauses(routine, Context::Require, &names, precondition, faults)?;
+    add_types(routine.tables, routine.formals, locals, faults)?;
+    let mut known = Vec::from_slice(routine.alloc, &names)?;
+    add_locals(routine.tables, routine.formals, locals, &mut known)?;
+    add_instructions(routine, &known, body, faults)?;
+    add_clauses(routine, Context::Ensure, &names, postcondition, faults)
+}
+
+/// Adds the faults of a routine: of its types, precondition, locals, body and postcondition.
+#[tactic(auto, unfolding(sc_tree::specs::View::kind_of))]
+fn add_routine<'s>(
+    class: &ClassText<'_, 's>,
+    declared: &'s Routine,
+    faults: &mut Vec<Fault>,
+) -> Result<(), AllocError>
+    ensures { OnOk result (faults.new.items ≡ faults.old.items ++ listing.faults_of_kind
+        (system_in class.now.tables.now) (is_marked class.now.purity.now) class.now.class
+        (plain.Routine (routine_of declared.now))) }
+{
+    add_types(class.tables, &declared.formals, &declared.formals, faults)?;
+    add_result_type(class.tables, &declared.result_type, faults)?;
+    let routine = context_of(class, &declared.formals, &declared.result_type);
+    add_text(
+        &routine,
+        &declared.precondition,
+        &declared.locals,
+        &declared.body,
+        &declared.postcondition,
+        faults,
+    )
+}
+
+/// Adds the faults of a feature.
+#[tactic(auto, unfolding(sc_tree::specs::View::kind_of))]
+pub fn add_feature<'s>(
+    class: &ClassText<'_, 's>,
+    kind: &'s FeatureKind,
+    faults: &mut Vec<Fault>,
+) -> Result<(), AllocError>
+    ensures { OnOk result (faults.new.items ≡ faults.old.items ++ listing.faults_of_kind
+        (system_in class.now.tables.now) (is_marked class.now.purity.now) class.now.class (kind_of kind.now)) }
+{
+    match kind {
+        FeatureKind::Attribute(declared) => {
+            add_alone(judge_type(class.tables, &[], declared), faults)
+        }
+        FeatureKind::Routine(routine) => add_routine(class, routine, faults),
+    }
+}
