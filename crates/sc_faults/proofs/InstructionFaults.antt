@@ -1,5 +1,5 @@
--- The faults that are listed of instructions: each is one of them, and there is one where judging refuses them.
-use Rattle.std.proofs.Common.{◌≡◌, Bool, true, false, List, [], ◌∷◌, ◌++◌, Option, Some as Present, None, Ok, Err, refl, sym, subst, append_assoc}
+-- The faults that are listed of instructions: each is one of them.
+use Rattle.std.proofs.Common.{◌≡◌, Bool, true, false, List, [], ◌∷◌, ◌++◌, Option, Some as Present, None, Ok, Err, refl, sym, subst}
 use Rattle.std.specs.Prelude.{All, Contains}
 use Rattle.std.proofs.lemmas.List.Elements.{All-nil}
 use Rattle.sc_text.specs.declared.token.Span.{Span}
@@ -8,7 +8,6 @@ use Rattle.sc_rules.specs.declared.entity_types.entity_type.EntityType.{EntityTy
 use Rattle.sc_rules.specs.entity_types.Conformance.{conforms}
 use Rattle.sc_rules.specs.declared.rule.Rule.{Rule}
 use Rattle.sc_rules.specs.declared.rule.Rule.TheVariants.{ArgumentType}
-use Rattle.sc_rules.specs.declared.fault.Fault.{Fault}
 use Rattle.sc_rules.specs.declared.position.Context.TheVariants as context
 use Rattle.sc_rules.specs.declared.position.Context.{Context}
 use Rattle.sc_rules.specs.declared.position.Position.{Position}
@@ -20,14 +19,13 @@ use Rattle.sc_rules.specs.Typing.{Typing, typing, HasType, Gives}
 use Rattle.sc_rules.specs.Sites.{expression, instruction, instructions, branches, Reserves, no_more, one_more, source_part, call_target_part, call_actual_part, creation_actual_part, condition_part, then_part, elseif_part, else_part, from_part, until_part, loop_part, check_part, head_part, block_part, first_part, others_part, branch_condition_part, branch_part, later_branches_part, itself}
 use Rattle.sc_rules.specs.TextRules.{separate_any, InstructionFails, if_condition, until_condition, check_clause, head, at_instruction, at_branch, Fails, fails}
 use Rattle.sc_rules.specs.Judging.{Judged, ◌>>=◌, required, judge, judge_given}
-use Rattle.sc_rules.specs.JudgingText.{conforms_if_any, judge_condition, judge_clause, judge_heads, judge_instr, judge_instrs, judge_branches}
-use Rattle.sc_rules.proofs.Refusals.{Refused, stops, Tells, passes, tells, tells_more, Gave, gave, refuses}
+use Rattle.sc_rules.specs.JudgingText.{conforms_if_any, judge_condition, judge_instr}
+use Rattle.sc_rules.proofs.Refusals.{Tells, passes, tells, tells_more, Gave, gave, refuses}
 use Rattle.sc_rules.proofs.Sound.{told as told_expression, told_given}
 use Rattle.sc_rules.proofs.ToldActuals.{up}
 use Rattle.sc_rules.proofs.TextSound.{ConditionFails, in_condition, of_condition, tells_condition, tells_instr}
-use Rattle.sc_rules.proofs.TextComplete.{refused}
-use Rattle.sc_faults.specs.Internal.Listing.{faults_at, faults_of_each, where_known, faults_in_target, faults_in_actuals, faults_in_creation, faults_in_instr, faults_of, faults_of_condition, faults_of_clause, judge_value, faults_of_head, judge_reserved, faults_of_simple, faults_of_instr, faults_of_instrs, faults_of_branches}
-use Rattle.sc_faults.proofs.ReportedFaults.{Holds, all_more, joined, at_all, Some, at_some, some_left, some_right, known_all, each_all, each_some}
+use Rattle.sc_faults.specs.Internal.Listing.{faults_of_each, where_known, faults_in_target, faults_in_actuals, faults_in_creation, faults_in_instr, faults_of, faults_of_condition, faults_of_clause, judge_value, faults_of_head, judge_reserved, faults_of_simple, faults_of_instr, faults_of_instrs, faults_of_branches}
+use Rattle.sc_faults.proofs.ReportedFaults.{Holds, all_more, joined, at_all, known_all, each_all}
 use Rattle.sc_faults.proofs.ExpressionFaults.{expression_all, target_all, actuals_all}
 
 -- ---- each is one of them
@@ -125,12 +123,6 @@ condition_all h c k n e P g =
     at_all P (judge_condition h c k n e) (faults_of h c k n e) (tells_more g (tells_condition h c k n e))
     (expression_all h c k n e P (λ r p f. g r p (in_condition f)))
 
--- an instruction that holds no others
-simple_all : (h : RoutineContext) (n : Entities) (i : Instr) →
-    All (Holds (Fails h (instruction n i))) (faults_in_instr h n i) →
-    All (Holds (Fails h (instruction n i))) (faults_of_simple h n i)
-simple_all h n i a = at_all (Fails h (instruction n i)) (judge_instr h n i) (faults_in_instr h n i) (tells_instr h n i) a
-
 call_all : (h : RoutineContext) (n : Entities) (s : Span) (a : Target) (x : Name) (es : Exprs) →
     All (Holds (Fails h (instruction n (CallRoutine s a x es)))) (faults_in_instr h n (CallRoutine s a x es))
 call_all h n s a x es =
@@ -147,17 +139,32 @@ create_all h n s creation (Present k) i =
     actuals_all h context.Body n k.actuals (Fails h (instruction n (Create s creation)))
     (λ e j r q f. up (creation_actual_part i j) r q f)
 
+-- an instruction that holds no others
+pub simple_in : (h : RoutineContext) (n : Entities) (i : Instr) → All (Holds (Fails h (instruction n i))) (faults_in_instr h n i)
+simple_in h n (Assign p v e) =
+    expression_all h context.Body Source n e (Fails h (instruction n (Assign p v e))) (λ r q f. up source_part r q f)
+simple_in h n (PrintText p x) = All-nil (Holds (Fails h (instruction n (PrintText p x))))
+simple_in h n (CallRoutine p a x es) = call_all h n p a x es
+simple_in h n (Create p creation) = create_all h n p creation creation.call refl
+simple_in h n (If p e body bs other) = All-nil (Holds (Fails h (instruction n (If p e body bs other))))
+simple_in h n (Loop p initial until body) = All-nil (Holds (Fails h (instruction n (Loop p initial until body))))
+simple_in h n (Check p ks) = All-nil (Holds (Fails h (instruction n (Check p ks))))
+simple_in h n (Block p heads body) = All-nil (Holds (Fails h (instruction n (Block p heads body))))
+
+simple_all : (h : RoutineContext) (n : Entities) (i : Instr) →
+    All (Holds (Fails h (instruction n i))) (faults_of_simple h n i)
+simple_all h n i =
+    at_all (Fails h (instruction n i)) (judge_instr h n i) (faults_in_instr h n i) (tells_instr h n i) (simple_in h n i)
+
 mutual
   unfolding faults_of_instr
 
   pub instr_all : (h : RoutineContext) (n : Entities) (i : Instr) →
       All (Holds (Fails h (instruction n i))) (faults_of_instr h n i)
-  instr_all h n (Assign p v e) =
-      simple_all h n (Assign p v e)
-      (expression_all h context.Body Source n e (Fails h (instruction n (Assign p v e))) (λ r q f. up source_part r q f))
-  instr_all h n (PrintText p x) = simple_all h n (PrintText p x) (All-nil (Holds (Fails h (instruction n (PrintText p x)))))
-  instr_all h n (CallRoutine p a x es) = simple_all h n (CallRoutine p a x es) (call_all h n p a x es)
-  instr_all h n (Create p creation) = simple_all h n (Create p creation) (create_all h n p creation creation.call refl)
+  instr_all h n (Assign p v e) = simple_all h n (Assign p v e)
+  instr_all h n (PrintText p x) = simple_all h n (PrintText p x)
+  instr_all h n (CallRoutine p a x es) = simple_all h n (CallRoutine p a x es)
+  instr_all h n (Create p creation) = simple_all h n (Create p creation)
   instr_all h n (If p e body bs other) =
       let c : Conditional = record { condition = e; body = body; branches = bs; other = other } in
       let P : Rule → Span → Type 0 = Fails h (instruction n (If p e body bs other)) in
@@ -213,127 +220,3 @@ mutual
       (λ m. faults_of_instrs h m body) (told_given h context.Body n e)
       (λ m g. all_more (Fails h (instructions m body)) P (faults_of_instrs h m body) (λ r q f. up (branch_part g) r q f) (instrs_all h m body))))
       (all_more (Fails h (branches n bs)) P (faults_of_branches h n bs) (λ r q f. up later_branches_part r q f) (branches_all h n bs))
-
--- ---- there is one
-
--- of two parts one is refused
-either : {A B : Type 0} (m : Judged A) (j : Judged B) (fs gs : List Fault) → (Refused m → Some fs) → (Refused j → Some gs) →
-    Refused (m >>= λ u. j) → Some (fs ++ gs)
-either (Ok u) j fs gs f g r = some_right fs gs (g r)
-either (Err e) j fs gs f g r = some_left fs gs (f tt)
-
--- where a condition is not refused, what it gives is known
-given_refused : (h : RoutineContext) (n : Entities) (e : Expr) → Refused (judge_given h context.Body n e) →
-    Refused (judge_condition h context.Body Condition n e)
-given_refused h n e r = by (judge_given h context.Body n e) (told_given h context.Body n e) r
-  where
-    by : (j : Judged Entities) → Gave (Gives h context.Body n e) (Fails h (expression context.Body Condition n e)) j →
-        Refused j → Refused (judge_condition h context.Body Condition n e)
-    by (Ok m) g r = absurd r
-    by (Err f) (refuses g) r = stops (judge h context.Body Condition n e) _ (refused g)
-
--- where there is one in what comes after
-next_some : (fs gs hs : List Fault) → Some (gs ++ hs) → Some ((fs ++ gs) ++ hs)
-next_some fs gs hs s = subst Some (sym (append_assoc fs gs hs)) (some_right fs (gs ++ hs) s)
-
--- the fault of a site that is refused
-first_some : (r : Rule) (p : Span) (fs gs hs : List Fault) →
-    Some ((faults_at {A = Unit {0}} (Err (record { rule = r; span = p })) fs ++ gs) ++ hs)
-first_some r p fs gs hs =
-    some_left (faults_at {A = Unit {0}} (Err (record { rule = r; span = p })) fs ++ gs) hs
-    (some_left (faults_at {A = Unit {0}} (Err (record { rule = r; span = p })) fs) gs
-    (at_some {A = Unit {0}} (Err (record { rule = r; span = p })) fs tt))
-
--- a condition, the instructions under it, and what comes after them
-branch_some : (h : RoutineContext) (c : Judged (Unit {0})) (cs : List Fault) (g : Judged Entities) (body : Instrs) (rest : Judged (Unit {0}))
-    (gs : List Fault) → (Refused g → Refused c) →
-    ((m : Entities) → Refused (judge_instrs h m body) → Some (faults_of_instrs h m body)) → (Refused rest → Some gs) →
-    Refused (c >>= λ u. g >>= λ m. judge_instrs h m body >>= λ u. rest) → Some ((faults_at c cs ++ where_known g (λ m. faults_of_instrs h m body)) ++ gs)
-branch_some h (Ok u) cs (Ok m) body rest gs w f k r =
-    next_some cs (where_known (Ok m) (λ m. faults_of_instrs h m body)) gs
-    (either (judge_instrs h m body) rest (faults_of_instrs h m body) gs (f m) k r)
-branch_some h (Ok u) cs (Err e) body rest gs w f k r = absurd (w tt)
-branch_some h (Err e) cs g body rest gs w f k r =
-    first_some e.rule e.span cs (where_known g (λ m. faults_of_instrs h m body)) gs
-
--- the heads of a block, and the instructions under them
-block_some : (h : RoutineContext) (n m : Entities) (ds : List Head) (body : Instrs) →
-    ((o : Entities) → Refused (judge_instrs h o body) → Some (faults_of_instrs h o body)) →
-    Refused (judge_heads h n m ds >>= λ o. judge_instrs h o body) →
-    Some (faults_of_each (faults_of_head h n) ds ++ where_known (judge_reserved h n m ds) (λ m. faults_of_instrs h m body))
-block_some h n m [] body f r = f m r
-block_some h n m (d ∷ ds) body f r =
-    by (judge h context.Body Plain n d.value) (λ t. block_some h n (known t) ds body f) r
-  where
-    known : Typing → Entities
-    known t = m ++ entity d.name.text (block_type (blocks m) t.type) role.Block ∷ []
-
-    fitting : Typing → Bool
-    fitting t = conforms_if_any h.system t.type (Present separate_any)
-
-    operands : List Fault
-    operands = faults_of h context.Body Plain n d.value
-
-    later : List Fault
-    later = faults_of_each (faults_of_head h n) ds
-
-    inner : Judged Entities → List Fault
-    inner j = where_known j (λ m. faults_of_instrs h m body)
-
-    further : (t : Typing) (b : Bool) →
-        (Refused (judge_heads h n (known t) ds >>= λ o. judge_instrs h o body) →
-        Some (later ++ inner (judge_reserved h n (known t) ds))) →
-        Refused ((required b ArgumentType (span_of d.value) >>= λ u. judge_heads h n (known t) ds) >>= λ o. judge_instrs h o body) →
-        Some ((faults_at {A = Unit {0}} ((required b ArgumentType (span_of d.value) >>= λ u. Ok (entity d.name.text (block_type 0 t.type) role.Block)) >>= λ e. Ok tt) operands
-        ++ later) ++ inner (judge_reserved h n (known t) ds))
-    further t true g r = next_some operands later (inner (judge_reserved h n (known t) ds)) (g r)
-    further t false g r = first_some ArgumentType (span_of d.value) operands later (inner (judge_reserved h n (known t) ds))
-
-    by : (j : Judged Typing) →
-        ((t : Typing) → Refused (judge_heads h n (known t) ds >>= λ o. judge_instrs h o body) →
-        Some (later ++ inner (judge_reserved h n (known t) ds))) →
-        Refused ((j >>= λ t. required (fitting t) ArgumentType (span_of d.value) >>= λ u. judge_heads h n (known t) ds) >>= λ o. judge_instrs h o body) →
-        Some ((faults_at {A = Unit {0}} ((j >>= λ t. required (fitting t) ArgumentType (span_of d.value) >>= λ u. Ok (entity d.name.text (block_type 0 t.type) role.Block)) >>= λ e. Ok tt) operands
-        ++ later) ++ inner (j >>= λ t. judge_reserved h n (known t) ds))
-    by (Ok t) g r = further t (fitting t) (g t) r
-    by (Err e) g r = first_some e.rule e.span operands later (inner (Err e))
-
-mutual
-  unfolding faults_of_instr judge_instr
-
-  pub instr_some : (h : RoutineContext) (n : Entities) (i : Instr) → Refused (judge_instr h n i) →
-      Some (faults_of_instr h n i)
-  instr_some h n (Assign p v e) r = at_some (judge_instr h n (Assign p v e)) (faults_in_instr h n (Assign p v e)) r
-  instr_some h n (PrintText p x) r = at_some (judge_instr h n (PrintText p x)) (faults_in_instr h n (PrintText p x)) r
-  instr_some h n (CallRoutine p a x es) r = at_some (judge_instr h n (CallRoutine p a x es)) (faults_in_instr h n (CallRoutine p a x es)) r
-  instr_some h n (Create p creation) r = at_some (judge_instr h n (Create p creation)) (faults_in_instr h n (Create p creation)) r
-  instr_some h n (If p e body bs other) r =
-      branch_some h (judge_condition h context.Body Condition n e) (faults_of h context.Body Condition n e) (judge_given h context.Body n e) body
-      (judge_branches h n bs >>= λ u. judge_instrs h n other) (faults_of_branches h n bs ++ faults_of_instrs h n other)
-      (given_refused h n e) (λ m. instrs_some h m body)
-      (either (judge_branches h n bs) (judge_instrs h n other) (faults_of_branches h n bs) (faults_of_instrs h n other)
-      (branches_some h n bs) (instrs_some h n other)) r
-  instr_some h n (Loop p initial until body) r =
-      either (judge_instrs h n initial) (judge_condition h context.Body Plain n until >>= λ u. judge_instrs h n body)
-      (faults_of_instrs h n initial) (faults_of_condition h context.Body Plain n until ++ faults_of_instrs h n body)
-      (instrs_some h n initial)
-      (either (judge_condition h context.Body Plain n until) (judge_instrs h n body) (faults_of_condition h context.Body Plain n until)
-      (faults_of_instrs h n body) (at_some (judge_condition h context.Body Plain n until) (faults_of h context.Body Plain n until)) (instrs_some h n body)) r
-  instr_some h n (Check p ks) r =
-      each_some (judge_clause h context.Check n) (faults_of_clause h context.Check n) ks
-      (λ c i. at_some (judge_clause h context.Check n c) (faults_of h context.Check Plain n c.condition) i) r
-  instr_some h n (Block p heads body) r = block_some h n n heads body (λ m. instrs_some h m body) r
-
-  pub instrs_some : (h : RoutineContext) (n : Entities) (is : Instrs) → Refused (judge_instrs h n is) →
-      Some (faults_of_instrs h n is)
-  instrs_some h n no_instrs r = absurd r
-  instrs_some h n (instr_then i is) r =
-      either (judge_instr h n i) (judge_instrs h n is) (faults_of_instr h n i) (faults_of_instrs h n is) (instr_some h n i)
-      (instrs_some h n is) r
-
-  pub branches_some : (h : RoutineContext) (n : Entities) (bs : Branches) → Refused (judge_branches h n bs) →
-      Some (faults_of_branches h n bs)
-  branches_some h n no_branches r = absurd r
-  branches_some h n (branch_then e body bs) r =
-      branch_some h (judge_condition h context.Body Condition n e) (faults_of h context.Body Condition n e) (judge_given h context.Body n e) body (judge_branches h n bs)
-      (faults_of_branches h n bs) (given_refused h n e) (λ m. instrs_some h m body) (branches_some h n bs) r

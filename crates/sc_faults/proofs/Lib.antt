@@ -3,6 +3,7 @@ mod ReportedFaults
 mod ExpressionFaults
 mod ExpressionSteps
 mod InstructionFaults
+mod FirstFaults
 mod InstructionLists
 mod SiteFaults
 mod PartFaults

@@ -32,6 +32,7 @@ use Rattle.sc_faults.specs.Internal.Listing.{faults_of_each, faults_of, faults_o
 use Rattle.sc_faults.proofs.ReportedFaults.{Holds, all_more, joined, at_all, at_any, one_at, each_all, each_any}
 use Rattle.sc_faults.proofs.ExpressionFaults.{expression_all}
 use Rattle.sc_faults.proofs.InstructionFaults.{instrs_all}
+use Rattle.sc_faults.proofs.FirstFaults.{either_refused, form_refused, first_listed}
 use Rattle.sc_faults.proofs.SiteFaults.{one_listed, within_any}
 
 -- ---- what judging reports of each part
@@ -88,15 +89,6 @@ tells_invariant s pure k c =
     (judge_clause (invariant_context s pure k) context.Invariant [] c)
     (tells_more (λ r p f. in_invariant_clause f) (tells_clause (invariant_context s pure k) context.Invariant [] c))
     (λ e. form e)
-
-either_refused : (b : Bool) (f g : Fault) → Refused {A = Unit {0}} (if b then Err f else Err g)
-either_refused true f g = tt
-either_refused false f g = tt
-
-form_refused : (b : Bool) (p : Span) (j : Judged (Unit {0})) → Refused j → Refused (judge_form b p j)
-form_refused b p (Ok u) r = absurd r
-form_refused b p (Err f) r = either_refused (not b && (is_same_span f.span p && is_late f.rule))
-    (fault InvariantForm p) f
 
 formless : (b : Bool) (p : Span) (j : Judged (Unit {0})) → b ≡ false → Refused (judge_form b p j)
 formless b p (Ok u) e = unmet b InvariantForm p e
@@ -445,4 +437,5 @@ system_listed s pure faults i e = record {
   separates = i;
   each_fails = subst (All (Holds (SystemFails s))) (sym e) (system_all s pure i);
   each_part = λ q r p t f. subst (Any (Holds (PartFails s pure q))) (sym e) (part_has s pure q r p t f);
+  first = λ f j. first_listed s pure faults f e j;
 }

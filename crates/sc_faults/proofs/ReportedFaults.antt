@@ -8,9 +8,10 @@ use Rattle.sc_class.proofs.Anys.{any_first, any_later, any_left, any_right}
 use Rattle.sc_rules.specs.declared.rule.Rule.{Rule}
 use Rattle.sc_rules.specs.declared.fault.Fault.{Fault}
 use Rattle.sc_rules.specs.Names.{Entities}
-use Rattle.sc_rules.specs.Judging.{Judged, ◌>>=◌, judge_each}
+use Rattle.sc_rules.specs.Judging.{Judged}
 use Rattle.sc_rules.proofs.Refusals.{Refused, Tells, tells, Gave, gave, refuses}
-use Rattle.sc_faults.specs.Internal.Listing.{is_same_fault, begins_with, faults_at, faults_of_each, where_known}
+use Rattle.sc_faults.specs.Parts.{is_same_fault, begins_with}
+use Rattle.sc_faults.specs.Internal.Listing.{faults_at, faults_of_each, where_known}
 
 -- the rule of the fault fails at its place, as P says
 abbrev pub Holds : (Rule → Span → Type 0) → Fault → Type 0
@@ -27,14 +28,6 @@ joined P fs gs h k = All-append (Holds P) fs gs h k
 abbrev pub Some : List Fault → Type 0
 Some [] = ⊥
 Some (f ∷ fs) = Unit {0}
-
-pub some_left : (fs gs : List Fault) → Some fs → Some (fs ++ gs)
-some_left [] gs s = absurd s
-some_left (f ∷ fs) gs s = tt
-
-pub some_right : (fs gs : List Fault) → Some gs → Some (fs ++ gs)
-some_right [] gs s = s
-some_right (f ∷ fs) gs s = tt
 
 -- what holds of all holds of one
 pub some_any : (P : Rule → Span → Type 0) (fs : List Fault) → Some fs → All (Holds P) fs → Any (Holds P) fs
@@ -117,16 +110,6 @@ each_all P list [] t = All-nil (Holds P)
 each_all P list (x ∷ xs) t =
     joined P (list x) (faults_of_each list xs) (t x (contains_first x xs))
     (each_all P list xs (λ y c. t y (contains_later x y xs c)))
-
-pub each_some : {A : Type 0} (judge : A → Judged (Unit {0})) (list : A → List Fault) (xs : List A) →
-    ((x : A) → Refused (judge x) → Some (list x)) → Refused (judge_each judge xs) → Some (faults_of_each list xs)
-each_some judge list [] g r = absurd r
-each_some judge list (x ∷ xs) g r = by (judge x) (g x) (each_some judge list xs g) r
-  where
-    by : (j : Judged (Unit {0})) → (Refused j → Some (list x)) → (Refused (judge_each judge xs) → Some (faults_of_each list xs)) →
-        Refused (j >>= λ u. judge_each judge xs) → Some (list x ++ faults_of_each list xs)
-    by (Ok u) f g r = some_right (list x) (faults_of_each list xs) (g r)
-    by (Err e) f g r = some_left (list x) (faults_of_each list xs) (f tt)
 
 -- the fault of one of them
 pub each_any : {A : Type 0} (P : Rule → Span → Type 0) (list : A → List Fault) (xs : List A) (x : A) → Contains xs x →

@@ -17,14 +17,15 @@ use Rattle.sc_rules.specs.Names.{RoutineContext, Entities, entity, blocks, block
 use Rattle.sc_rules.specs.Sites.{Site, expression, instruction, instructions, branches, IsActual, first_actual, later_actual, Reserves, no_more, one_more, Part, target_part, actual_part, operand_part, left_part, right_part, joined_left_part, joined_right_part, tested_part, source_part, call_target_part, call_actual_part, creation_actual_part, condition_part, then_part, elseif_part, else_part, from_part, until_part, loop_part, check_part, head_part, block_part, first_part, others_part, branch_condition_part, branch_part, later_branches_part, Within, itself, inside}
 use Rattle.sc_rules.specs.TextRules.{Fails}
 use Rattle.sc_rules.specs.Judging.{Judged, judge, judge_given}
-use Rattle.sc_rules.specs.JudgingText.{judge_condition, judge_instr}
+use Rattle.sc_rules.specs.JudgingText.{judge_condition, judge_instr, judge_instrs, judge_branches}
 use Rattle.sc_rules.proofs.Refusals.{bind_ok}
 use Rattle.sc_rules.proofs.Complete.{typed, given}
 use Rattle.sc_rules.proofs.TextComplete.{refused}
 use Rattle.sc_faults.specs.Internal.Listing.{where_known, faults_of_each, faults_in, faults_in_target, faults_in_actuals, faults_in_creation, faults_in_instr, faults_of, faults_of_condition, faults_of_clause, judge_value, faults_of_head, judge_reserved, faults_of_instr, faults_of_instrs, faults_of_branches}
 use Rattle.sc_faults.proofs.ReportedFaults.{Holds, some_any, at_any, one_at, known_any, each_any}
 use Rattle.sc_faults.proofs.ExpressionFaults.{reports, in_all}
-use Rattle.sc_faults.proofs.InstructionFaults.{instr_all, instrs_all, branches_all, instr_some, instrs_some, branches_some}
+use Rattle.sc_faults.proofs.FirstFaults.{fits_some, instr_fits, instrs_fits, branches_fits}
+use Rattle.sc_faults.proofs.InstructionFaults.{instr_all, instrs_all, branches_all}
 
 -- what is listed of a site
 abbrev pub listed : RoutineContext → Site → List Fault
@@ -37,9 +38,9 @@ listed h (branches n bs) = faults_of_branches h n bs
 pub one_listed : (h : RoutineContext) (a : Site) (r : Rule) (p : Span) → Fails h a r p → Any (Holds (Fails h a)) (listed h a)
 one_listed h (expression c k n e) r p f =
     one_at (Fails h (expression c k n e)) (judge h c k n e) (faults_in h c k n e) (reports h c k n e) (in_all h c k n e) (refused f)
-one_listed h (instruction n i) r p f = some_any (Fails h (instruction n i)) (faults_of_instr h n i) (instr_some h n i (refused f)) (instr_all h n i)
-one_listed h (instructions n is) r p f = some_any (Fails h (instructions n is)) (faults_of_instrs h n is) (instrs_some h n is (refused f)) (instrs_all h n is)
-one_listed h (branches n bs) r p f = some_any (Fails h (branches n bs)) (faults_of_branches h n bs) (branches_some h n bs (refused f)) (branches_all h n bs)
+one_listed h (instruction n i) r p f = some_any (Fails h (instruction n i)) (faults_of_instr h n i) (fits_some (judge_instr h n i) (faults_of_instr h n i) (instr_fits h n i) (refused f)) (instr_all h n i)
+one_listed h (instructions n is) r p f = some_any (Fails h (instructions n is)) (faults_of_instrs h n is) (fits_some (judge_instrs h n is) (faults_of_instrs h n is) (instrs_fits h n is) (refused f)) (instrs_all h n is)
+one_listed h (branches n bs) r p f = some_any (Fails h (branches n bs)) (faults_of_branches h n bs) (fits_some (judge_branches h n bs) (faults_of_branches h n bs) (branches_fits h n bs) (refused f)) (branches_all h n bs)
 
 -- ---- parts
 

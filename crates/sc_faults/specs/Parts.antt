@@ -1,5 +1,5 @@
 -- The parts of a system's text that are judged on their own, and what a list of faults says of each.
-use Rattle.std.specs.Prelude.{◌≡◌, ℕ, Bool, List, [], Some, Any, All, Contains, slice_get}
+use Rattle.std.specs.Prelude.{◌≡◌, ℕ, Bool, true, false, ◌&&◌, List, [], ◌∷◌, Some, Err, Any, All, Contains, slice_get, bytes_eq}
 use Rattle.sc_text.specs.declared.token.Span.{Span}
 use Rattle.sc_tree.specs.Plain.{System, Class, Feature, RoutineDeclaration, Attribute, Routine, Declaration, DeclaredType, Clause, Name}
 use Rattle.sc_rules.specs.declared.rule.Rule.{Rule}
@@ -13,6 +13,8 @@ use Rattle.sc_rules.specs.Sites.{Site, expression, instructions, Within}
 use Rattle.sc_rules.specs.Purity.{IsPurity}
 use Rattle.sc_rules.specs.TextRules.{Fails, ClauseFails}
 use Rattle.sc_rules.specs.SystemRules.{invariant_context, InvariantFails, CreatorFails, SystemFails}
+use Rattle.sc_rules.specs.RuleText.{code_of}
+use Rattle.sc_rules.specs.JudgingSystem.{is_same_span, judge_system}
 
 -- A name that the class at the number lists under `create`; a declared type, whose tag may name these formals; a clause
 -- of a contract; a clause of the invariant of the class at the number; an expression, an instruction or several,
@@ -71,11 +73,20 @@ pub data IsClassPart (s : System) (pure : RoutineName → Bool) (k : ℕ) (c : C
 pub data IsPart (s : System) (pure : RoutineName → Bool) (q : Part) : Type 0 where
   class_part : {k : ℕ} {c : Class} → slice_get s.classes k ≡ Some c → IsClassPart s pure k c q → IsPart s pure q
 
--- Each of the faults is one of the system: its rule fails at its place. And in each part of the system in which some
--- rule fails there is one of the faults.
+-- they are of the same rule, at the same place
+abbrev pub is_same_fault : Fault → Fault → Bool
+is_same_fault f g = is_same_span f.span g.span && bytes_eq (code_of f.rule) (code_of g.rule)
+
+abbrev pub begins_with : Fault → List Fault → Bool
+begins_with f [] = false
+begins_with f (g ∷ gs) = is_same_fault f g
+
+-- Each of the faults is one of the system: its rule fails at its place. In each part of the system in which some rule
+-- fails there is one of the faults. And they begin with the first fault of the walk, if there is one.
 pub record IsFaultList (s : System) (faults : List Fault) : Type 0 where
   pub pure : RoutineName → Bool
   pub separates : IsPurity s pure
   pub each_fails : All (λ (f : Fault). SystemFails s f.rule f.span) faults
   pub each_part : (q : Part) (r : Rule) (p : Span) → IsPart s pure q → PartFails s pure q r p →
       Any (λ (f : Fault). PartFails s pure q f.rule f.span) faults
+  pub first : (f : Fault) → judge_system s pure ≡ Err f → begins_with f faults ≡ true

@@ -140,13 +140,16 @@ fn faults_by<'t, 's>(
     Ok(faults)
 }
 
-/// The faults of a system, in the order of its text: of each part that is judged on its own the first rule that fails in
-/// it, and where. Parts are a name under `create`, a declared type, a clause of a contract or an invariant, and each
-/// instruction; an instruction that holds others has the faults of these, and at most one of its condition, or of each of
-/// its clauses or heads. Instructions under a condition or a head are left out where a name that it gives has no type,
-/// since a rule fails in its expression.
+/// The faults of a system: a rule that fails, and where, for each part of the text in which one does. The first is the one
+/// that `check` reports. A part is a name under `create`, a declared type, a clause of a contract or an invariant, an
+/// instruction or an expression, however deep it is. The list goes through the text as `check` does. At each part it has
+/// at most one fault beside those of the part's own parts: the first that `check` would report there.
 ///
-/// The walk takes time in proportion to the source as that of `check` does; each instruction looks at the names around it.
+/// Instructions and operands that know a name of an object test or a block's head are left out if the expression that is
+/// named has no type, since a rule fails in it.
+///
+/// The walk takes the time of `check`, and that of judging a faulty expression again for each expression around it, of
+/// which there are at most 64. Each condition and each block copies the names that it knows.
 pub fn all_faults(alloc: Global, tables: &Tables) -> Result<Vec<Fault>, AllocError>
     ensures { IfOk result (λ faults. IsFaultList (system_in tables.now) faults.items) }
 {

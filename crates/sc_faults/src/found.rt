@@ -1,6 +1,7 @@
 //! The faults that are found.
 
 ghost use Rattle.std.specs.Prelude.{◌≡◌, [], ◌++◌, OnOk};
+ghost use Rattle.sc_faults.specs.Parts.{begins_with, is_same_fault};
 ghost use Rattle.sc_faults.specs.Internal.Listing as listing;
 ghost use Rattle.sc_faults.specs.Internal.Adding.{AddsFaults};
 
@@ -10,7 +11,7 @@ use std::alloc::AllocError;
 
 /// Whether two faults are of the same rule at the same place.
 fn is_same(one: Fault, other: Fault) -> bool
-    ensures { result ≡ listing.is_same_fault one other }
+    ensures { result ≡ is_same_fault one other }
 {
     (one.span.start == other.span.start && one.span.end == other.span.end)
         && one.rule.code() == other.rule.code()
@@ -18,7 +19,7 @@ fn is_same(one: Fault, other: Fault) -> bool
 
 /// Whether the first of the faults is this one.
 fn begins_with(fault: Fault, faults: &[Fault]) -> bool
-    ensures { result ≡ listing.begins_with fault faults.now }
+    ensures { result ≡ begins_with fault faults.now }
 {
     match faults {
         [] => false,

@@ -1,8 +1,7 @@
-//! All faults of a system of classes at once: of each part of its text that is judged on its own, the first rule that
-//! fails in it.
+//! Many faults of a system of classes at once: one for each part of its text in which a rule fails.
 //!
-//! [`all_faults`] returns them in the order of the text. `specs/Parts` says what the parts are, and what the list says of
-//! each. `sc_check` judges them.
+//! [`all_faults`] returns them. `specs/Parts` says what the parts are, and what the list says of each. `sc_typing` and
+//! `sc_check` judge them.
 #![tactic(auto)]
 
 mod classes;

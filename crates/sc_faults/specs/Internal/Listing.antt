@@ -1,6 +1,6 @@
 -- The faults that are listed of each site of a text, in the order of the walk, as the code follows it. Public contracts
 -- don't speak of it.
-use Rattle.std.specs.Prelude.{◌+◌, ℕ, Bool, false, ◌&&◌, if◌then◌else◌, List, [], ◌∷◌, ◌++◌, Option, Some, None, Ok, Err, bytes_eq}
+use Rattle.std.specs.Prelude.{◌+◌, ℕ, Bool, if◌then◌else◌, List, [], ◌∷◌, ◌++◌, Option, Some, None, Ok, Err}
 use Rattle.sc_tree.specs.Plain.{System, Class, Feature, FeatureKind, Attribute, Routine, Declaration, DeclaredType, Clause, Head, Name, CreationCall, Expr, Call, Unary, Binary, ObjectTest, Target, no_target, target, Exprs, no_exprs, expr_then, Instr, Assign, PrintText, CallRoutine, Create, If, Loop, Check, Block, Instrs, no_instrs, instr_then, Branches, no_branches, branch_then}
 use Rattle.sc_rules.specs.declared.fault.Fault.{Fault}
 use Rattle.sc_rules.specs.declared.position.Context.{Context}
@@ -9,22 +9,15 @@ use Rattle.sc_rules.specs.declared.position.Position.{Position}
 use Rattle.sc_rules.specs.declared.position.Position.TheVariants.{Plain, Condition, Source}
 use Rattle.sc_rules.specs.declared.position.Role.TheVariants as role
 use Rattle.sc_rules.specs.Positions.{operand_context, operand_position, shares_names}
-use Rattle.sc_rules.specs.RuleText.{code_of}
 use Rattle.sc_rules.specs.Names.{RoutineName, RoutineContext, Entities, entity, blocks, block_type, context_of, formals_known, locals_known}
 use Rattle.sc_rules.specs.SystemRules.{invariant_context}
 use Rattle.sc_rules.specs.Judging.{Judged, ◌>>=◌, judge, judge_given, judge_type}
 use Rattle.sc_rules.specs.JudgingText.{judge_condition, judge_instr}
-use Rattle.sc_rules.specs.JudgingSystem.{is_same_span, judge_creator, judge_invariant}
+use Rattle.sc_rules.specs.JudgingSystem.{judge_creator, judge_invariant}
 use Rattle.sc_check.specs.BlockHeads.{judge_head}
+use Rattle.sc_faults.specs.Parts.{begins_with}
 
 -- ---- a site and its operands
-
-abbrev pub is_same_fault : Fault → Fault → Bool
-is_same_fault f g = is_same_span f.span g.span && bytes_eq (code_of f.rule) (code_of g.rule)
-
-abbrev pub begins_with : Fault → List Fault → Bool
-begins_with f [] = false
-begins_with f (g ∷ gs) = is_same_fault f g
 
 -- the fault, then these, unless they begin with it
 abbrev pub with_first : Fault → List Fault → List Fault
