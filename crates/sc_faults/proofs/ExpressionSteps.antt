@@ -221,7 +221,8 @@ module _ (h : RoutineContext) (n : Entities) (i : Instr) (r : Result Unit AllocE
   pub source_added : (s : Span) (v : Variable) (e : Expr) → i ≡ instr.Assign s v e →
       OnOk r (new ≡ old ++ faults_of h context.Body Source n (expr_of e)) → OnOk r (new ≡ old ++ faults_in_instr h n (instr_of i))
   source_added s v e q p =
-      of_instr (plain.Assign s (variable_of v) (expr_of e)) (faults_of h context.Body Source n (expr_of e)) (ap instr_of q ∙ instr_of-assign s v e) refl p
+      of_instr (plain.Assign s (variable_of v) (expr_of e)) (faults_of h context.Body Source n (expr_of e))
+      (ap instr_of q ∙ instr_of-assign s v e) refl p
 
   pub command_added : (y : Call) (t : Option (Box Expr Global)) (es : List Expr) (mid : List Fault) → i ≡ instr.Call y →
       t ≡ y.target → es ≡ y.actuals.items → mid ≡ old ++ faults_in_target h context.Body n (target_of t) →

@@ -166,7 +166,8 @@ block_fits h n m (d ∷ ds) body f =
     further : (t : Typing) (b : Bool) → operands ≡ [] →
         Fits (judge_heads h n (known t) ds >>= λ o. judge_instrs h o body) (later ++ inner (judge_reserved h n (known t) ds)) →
         Fits ((required b ArgumentType (span_of d.value) >>= λ u. judge_heads h n (known t) ds) >>= λ o. judge_instrs h o body)
-        ((faults_at {A = Unit {0}} ((required b ArgumentType (span_of d.value) >>= λ u. Ok (entity d.name.text (block_type 0 t.type) role.Block)) >>= λ e. Ok tt) operands
+        ((faults_at {A = Unit {0}} ((required b ArgumentType (span_of d.value) >>= λ u. Ok
+        (entity d.name.text (block_type 0 t.type) role.Block)) >>= λ e. Ok tt) operands
         ++ later) ++ inner (judge_reserved h n (known t) ds))
     further t true e g =
         subst (λ fs. Fits (judge_heads h n (known t) ds >>= λ o. judge_instrs h o body) ((fs ++ later) ++ inner (judge_reserved h n (known t) ds)))
@@ -176,7 +177,8 @@ block_fits h n m (d ∷ ds) body f =
     by : (j : Judged Typing) → Fits j operands →
         ((t : Typing) → Fits (judge_heads h n (known t) ds >>= λ o. judge_instrs h o body) (later ++ inner (judge_reserved h n (known t) ds))) →
         Fits ((j >>= λ t. required (fitting t) ArgumentType (span_of d.value) >>= λ u. judge_heads h n (known t) ds) >>= λ o. judge_instrs h o body)
-        ((faults_at {A = Unit {0}} ((j >>= λ t. required (fitting t) ArgumentType (span_of d.value) >>= λ u. Ok (entity d.name.text (block_type 0 t.type) role.Block)) >>= λ e. Ok tt) operands
+        ((faults_at {A = Unit {0}} ((j >>= λ t. required (fitting t) ArgumentType (span_of d.value) >>= λ u. Ok
+        (entity d.name.text (block_type 0 t.type) role.Block)) >>= λ e. Ok tt) operands
         ++ later) ++ inner (j >>= λ t. judge_reserved h n (known t) ds))
     by (Ok t) e g = further t (fitting t) e (g t)
     by (Err e) i g = reported e (Err e)

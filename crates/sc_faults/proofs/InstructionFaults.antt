@@ -174,18 +174,22 @@ mutual
       (condition_all h context.Body Condition n e P (if_fails h n p c))
       (known_all P (Gives h context.Body n e) (Fails h (expression context.Body Condition n e)) (judge_given h context.Body n e)
       (λ m. faults_of_instrs h m body) (told_given h context.Body n e)
-      (λ m g. all_more (Fails h (instructions m body)) P (faults_of_instrs h m body) (λ r q f. up (then_part {s = p} {choice = c} g) r q f) (instrs_all h m body))))
+      (λ m g. all_more (Fails h (instructions m body)) P (faults_of_instrs h m body) (λ r q f. up (then_part {s = p} {choice = c} g) r q f)
+      (instrs_all h m body))))
       (joined P (faults_of_branches h n bs) (faults_of_instrs h n other)
       (all_more (Fails h (branches n bs)) P (faults_of_branches h n bs) (λ r q f. up (elseif_part {s = p} {choice = c}) r q f) (branches_all h n bs))
-      (all_more (Fails h (instructions n other)) P (faults_of_instrs h n other) (λ r q f. up (else_part {s = p} {choice = c}) r q f) (instrs_all h n other)))
+      (all_more (Fails h (instructions n other)) P (faults_of_instrs h n other) (λ r q f. up (else_part {s = p} {choice = c}) r q f)
+      (instrs_all h n other)))
   instr_all h n (Loop p initial until body) =
       let l : Iteration = record { initial = initial; until = until; body = body } in
       let P : Rule → Span → Type 0 = Fails h (instruction n (Loop p initial until body)) in
       joined P (faults_of_instrs h n initial) (faults_of_condition h context.Body Plain n until ++ faults_of_instrs h n body)
-      (all_more (Fails h (instructions n initial)) P (faults_of_instrs h n initial) (λ r q f. up (from_part {s = p} {loop = l}) r q f) (instrs_all h n initial))
+      (all_more (Fails h (instructions n initial)) P (faults_of_instrs h n initial) (λ r q f. up (from_part {s = p} {loop = l}) r q f)
+      (instrs_all h n initial))
       (joined P (faults_of_condition h context.Body Plain n until) (faults_of_instrs h n body)
       (condition_all h context.Body Plain n until P (until_fails h n p l))
-      (all_more (Fails h (instructions n body)) P (faults_of_instrs h n body) (λ r q f. up (loop_part {s = p} {loop = l}) r q f) (instrs_all h n body)))
+      (all_more (Fails h (instructions n body)) P (faults_of_instrs h n body) (λ r q f. up (loop_part {s = p} {loop = l}) r q f)
+      (instrs_all h n body)))
   instr_all h n (Check p ks) =
       let P : Rule → Span → Type 0 = Fails h (instruction n (Check p ks)) in
       each_all P (faults_of_clause h context.Check n) ks
@@ -196,7 +200,8 @@ mutual
       joined P (faults_of_each (faults_of_head h n) heads) (where_known (judge_reserved h n n heads) (λ m. faults_of_instrs h m body))
       (each_all P (faults_of_head h n) heads (λ d i. head_all h n p b d i))
       (known_all P (Reserves h n n heads) (λ r p. Unit {0}) (judge_reserved h n n heads) (λ m. faults_of_instrs h m body) (reserves h n n heads)
-      (λ m g. all_more (Fails h (instructions m body)) P (faults_of_instrs h m body) (λ r q f. up (block_part {s = p} {block = b} g) r q f) (instrs_all h m body)))
+      (λ m g. all_more (Fails h (instructions m body)) P (faults_of_instrs h m body) (λ r q f. up (block_part {s = p} {block = b} g) r q f)
+      (instrs_all h m body)))
 
   pub instrs_all : (h : RoutineContext) (n : Entities) (is : Instrs) →
       All (Holds (Fails h (instructions n is))) (faults_of_instrs h n is)

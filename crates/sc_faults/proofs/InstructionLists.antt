@@ -49,7 +49,8 @@ module _ (h : RoutineContext) (n : Entities) (i : Instr) (r : Result Unit AllocE
       OnOk r (new ≡ old ++ faults_of_simple h n (instr_of i)) → OnOk r (new ≡ old ++ faults_of_instr h n (instr_of i))
   unfolding faults_of_instr
   call_added c q p =
-      simple_added (plain.CallRoutine c.span (target_of c.target) (name_of c.name) (exprs_of c.actuals.items)) (ap instr_of q ∙ instr_of-call c) refl p
+      simple_added (plain.CallRoutine c.span (target_of c.target) (name_of c.name) (exprs_of c.actuals.items))
+      (ap instr_of q ∙ instr_of-call c) refl p
 
   pub create_added : (s : Span) (v : Variable) (k : Option CreationCall) → i ≡ instr.Create s v k →
       OnOk r (new ≡ old ++ faults_of_simple h n (instr_of i)) → OnOk r (new ≡ old ++ faults_of_instr h n (instr_of i))

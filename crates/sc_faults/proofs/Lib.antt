@@ -7,4 +7,5 @@ mod FirstFaults
 mod InstructionLists
 mod SiteFaults
 mod PartFaults
+mod SystemFaults
 mod Steps

@@ -38,9 +38,12 @@ listed h (branches n bs) = faults_of_branches h n bs
 pub one_listed : (h : RoutineContext) (a : Site) (r : Rule) (p : Span) → Fails h a r p → Any (Holds (Fails h a)) (listed h a)
 one_listed h (expression c k n e) r p f =
     one_at (Fails h (expression c k n e)) (judge h c k n e) (faults_in h c k n e) (reports h c k n e) (in_all h c k n e) (refused f)
-one_listed h (instruction n i) r p f = some_any (Fails h (instruction n i)) (faults_of_instr h n i) (fits_some (judge_instr h n i) (faults_of_instr h n i) (instr_fits h n i) (refused f)) (instr_all h n i)
-one_listed h (instructions n is) r p f = some_any (Fails h (instructions n is)) (faults_of_instrs h n is) (fits_some (judge_instrs h n is) (faults_of_instrs h n is) (instrs_fits h n is) (refused f)) (instrs_all h n is)
-one_listed h (branches n bs) r p f = some_any (Fails h (branches n bs)) (faults_of_branches h n bs) (fits_some (judge_branches h n bs) (faults_of_branches h n bs) (branches_fits h n bs) (refused f)) (branches_all h n bs)
+one_listed h (instruction n i) r p f = some_any (Fails h (instruction n i)) (faults_of_instr h n i)
+    (fits_some (judge_instr h n i) (faults_of_instr h n i) (instr_fits h n i) (refused f)) (instr_all h n i)
+one_listed h (instructions n is) r p f = some_any (Fails h (instructions n is)) (faults_of_instrs h n is)
+    (fits_some (judge_instrs h n is) (faults_of_instrs h n is) (instrs_fits h n is) (refused f)) (instrs_all h n is)
+one_listed h (branches n bs) r p f = some_any (Fails h (branches n bs)) (faults_of_branches h n bs)
+    (fits_some (judge_branches h n bs) (faults_of_branches h n bs) (branches_fits h n bs) (refused f)) (branches_all h n bs)
 
 -- ---- parts
 
@@ -157,16 +160,21 @@ module _ (P : Rule → Span → Type 0) where
       at_any P (judge_instr h n (Create s creation)) (faults_in_instr h n (Create s creation))
       (subst (λ (o : Option CreationCall). Among (faults_in_creation h n o)) (sym c) (actual_any h context.Body n j i))
   part_any {h} (condition_part {n} {s} {choice}) x =
-      any_left (faults_of_condition h context.Body Condition n choice.condition ++ where_known (judge_given h context.Body n choice.condition) (λ m. faults_of_instrs h m choice.body)) _
+      any_left (faults_of_condition h context.Body Condition n choice.condition ++ where_known (judge_given h context.Body n choice.condition)
+      (λ m. faults_of_instrs h m choice.body)) _
       (any_left (faults_of_condition h context.Body Condition n choice.condition) _ (condition_any h context.Body Condition n choice.condition x))
   part_any {h} (then_part {n} {m} {s} {choice} g) x =
-      any_left (faults_of_condition h context.Body Condition n choice.condition ++ where_known (judge_given h context.Body n choice.condition) (λ m. faults_of_instrs h m choice.body)) _
-      (any_right (faults_of_condition h context.Body Condition n choice.condition) _ (under_any h (judge_given h context.Body n choice.condition) m choice.body (given g) x))
+      any_left (faults_of_condition h context.Body Condition n choice.condition ++ where_known (judge_given h context.Body n choice.condition)
+      (λ m. faults_of_instrs h m choice.body)) _
+      (any_right (faults_of_condition h context.Body Condition n choice.condition) _
+      (under_any h (judge_given h context.Body n choice.condition) m choice.body (given g) x))
   part_any {h} (elseif_part {n} {s} {choice}) x =
-      any_right (faults_of_condition h context.Body Condition n choice.condition ++ where_known (judge_given h context.Body n choice.condition) (λ m. faults_of_instrs h m choice.body)) _
+      any_right (faults_of_condition h context.Body Condition n choice.condition ++ where_known (judge_given h context.Body n choice.condition)
+      (λ m. faults_of_instrs h m choice.body)) _
       (any_left (faults_of_branches h n choice.branches) _ x)
   part_any {h} (else_part {n} {s} {choice}) x =
-      any_right (faults_of_condition h context.Body Condition n choice.condition ++ where_known (judge_given h context.Body n choice.condition) (λ m. faults_of_instrs h m choice.body)) _
+      any_right (faults_of_condition h context.Body Condition n choice.condition ++ where_known (judge_given h context.Body n choice.condition)
+      (λ m. faults_of_instrs h m choice.body)) _
       (any_right (faults_of_branches h n choice.branches) _ x)
   part_any {h} (from_part {n} {s} {loop}) x = any_left (faults_of_instrs h n loop.initial) _ x
   part_any {h} (until_part {n} {s} {loop}) x =
@@ -191,7 +199,8 @@ module _ (P : Rule → Span → Type 0) where
       any_left (faults_of_condition h context.Body Condition n e ++ where_known (judge_given h context.Body n e) (λ m. faults_of_instrs h m body)) _
       (any_right (faults_of_condition h context.Body Condition n e) _ (under_any h (judge_given h context.Body n e) m body (given g) x))
   part_any {h} (later_branches_part {n} {e} {body} {bs}) x =
-      any_right (faults_of_condition h context.Body Condition n e ++ where_known (judge_given h context.Body n e) (λ m. faults_of_instrs h m body)) _ x
+      any_right (faults_of_condition h context.Body Condition n e ++ where_known (judge_given h context.Body n e)
+      (λ m. faults_of_instrs h m body)) _ x
 
   pub within_any : {h : RoutineContext} {a b : Site} → Within h a b → Among (listed h b) → Among (listed h a)
   within_any itself x = x

@@ -97,7 +97,8 @@ text_added h pre post locals is r old first second third new before known after 
     named_if_ok r old new (requires before ++ (types ++ (body known ++ ensures after))) (faults_of_text h pre locals is post)
     (ap (λ n. requires n ++ (types ++ (body known ++ ensures after))) bq
     ∙ ap (λ n. requires (formals_known h.system h.formals) ++ (types ++ (body n ++ ensures after))) kq
-    ∙ ap (λ n. requires (formals_known h.system h.formals) ++ (types ++ (body (formals_known h.system h.formals ++ locals_known h.system h.formals locals) ++ ensures n))) aq)
+    ∙ ap (λ n. requires (formals_known h.system h.formals) ++
+    (types ++ (body (formals_known h.system h.formals ++ locals_known h.system h.formals locals) ++ ensures n))) aq)
     (both_if_ok r old first new (requires before) (types ++ (body known ++ ensures after)) p1
     (both_if_ok r first second new types (body known ++ ensures after) p2 (both_if_ok r second third new (body known) (ensures after) p3 p4)))
 
@@ -132,7 +133,8 @@ module _ (s : System) (pure : RoutineName → Bool) (k : ℕ) (r : Routine) (h :
       later ≡ mid ++ result → OnOk o (new ≡ later ++ text_of h pre locals is post) →
       OnOk o (new ≡ old ++ faults_of_kind s pure k (plain.Routine (routine_of r)))
   routine_added o old mid later new p1 p2 p3 =
-      named_if_ok o old new (types_of first second ++ (result ++ text_of h pre locals is post)) (faults_of_kind s pure k (plain.Routine (routine_of r)))
+      named_if_ok o old new (types_of first second ++ (result ++ text_of h pre locals is post))
+      (faults_of_kind s pure k (plain.Routine (routine_of r)))
       all_named
       (both_if_ok o old mid new (types_of first second) (result ++ text_of h pre locals is post) p1
       (both_if_ok o mid later new result (text_of h pre locals is post) p2 p3))

@@ -35,12 +35,14 @@ PartFails s pure (invariant k i) r p = InvariantFails s pure k i r p
 PartFails s pure (site h a) r p = Fails h a r p
 
 -- The part is one of this routine of the class at the number.
-pub data IsRoutinePart (s : System) (pure : RoutineName → Bool) (k : ℕ) (routine : RoutineDeclaration) : Part → Type 0 where
+pub data IsRoutinePart (s : System) (pure : RoutineName → Bool) (k : ℕ) (routine : RoutineDeclaration) : Part →
+    Type 0 where
   formal_part : {d : Declaration} → Contains routine.formals d →
       IsRoutinePart s pure k routine (declared routine.formals d.declared_type)
   result_part : {d : DeclaredType} → routine.result_type ≡ Some d → IsRoutinePart s pure k routine (declared [] d)
   precondition_part : {i : Clause} → Contains routine.precondition i →
-      IsRoutinePart s pure k routine (clause (context_of s pure k routine) context.Require (formals_known s routine.formals) i)
+      IsRoutinePart s pure k routine
+      (clause (context_of s pure k routine) context.Require (formals_known s routine.formals) i)
   precondition_site : {i : Clause} {a : Site} → Contains routine.precondition i →
       Within (context_of s pure k routine)
       (expression context.Require Plain (formals_known s routine.formals) i.condition) a →
@@ -51,7 +53,8 @@ pub data IsRoutinePart (s : System) (pure : RoutineName → Bool) (k : ℕ) (rou
       Within (context_of s pure k routine) (instructions (known_in_body s routine) routine.body) a →
       IsRoutinePart s pure k routine (site (context_of s pure k routine) a)
   postcondition_part : {i : Clause} → Contains routine.postcondition i →
-      IsRoutinePart s pure k routine (clause (context_of s pure k routine) context.Ensure (formals_known s routine.formals) i)
+      IsRoutinePart s pure k routine
+      (clause (context_of s pure k routine) context.Ensure (formals_known s routine.formals) i)
   postcondition_site : {i : Clause} {a : Site} → Contains routine.postcondition i →
       Within (context_of s pure k routine)
       (expression context.Ensure Plain (formals_known s routine.formals) i.condition) a →
@@ -62,8 +65,8 @@ pub data IsClassPart (s : System) (pure : RoutineName → Bool) (k : ℕ) (c : C
   creator_part : {x : Name} → Contains c.creators x → IsClassPart s pure k c (creator k x)
   attribute_part : {f : Feature} {d : DeclaredType} → Contains c.features f → f.kind ≡ Attribute d →
       IsClassPart s pure k c (declared [] d)
-  routine_part : {f : Feature} {routine : RoutineDeclaration} {q : Part} → Contains c.features f → f.kind ≡ Routine routine →
-      IsRoutinePart s pure k routine q → IsClassPart s pure k c q
+  routine_part : {f : Feature} {routine : RoutineDeclaration} {q : Part} → Contains c.features f →
+      f.kind ≡ Routine routine → IsRoutinePart s pure k routine q → IsClassPart s pure k c q
   invariant_part : {i : Clause} → Contains c.invariant i → IsClassPart s pure k c (invariant k i)
   invariant_site : {i : Clause} {a : Site} → Contains c.invariant i →
       Within (invariant_context s pure k) (expression context.Invariant Plain [] i.condition) a →

@@ -18,14 +18,14 @@ AddsFaults judged operands result old new =
     (j : Judged (Unit {0})) → Passes j judged → OnOk result (new ≡ old ++ faults_at j operands)
 
 -- of instructions, whatever it was that gave the names
-abbrev pub AddsUnder : RoutineContext → Result Unit CheckFault → Entities → Instrs → Result Unit AllocError → List Fault →
-    List Fault → Type 0
+abbrev pub AddsUnder : RoutineContext → Result Unit CheckFault → Entities → Instrs → Result Unit AllocError →
+    List Fault → List Fault → Type 0
 AddsUnder h given known is result old new =
     (j : Judged Entities) → Knows j given known → OnOk result (new ≡ old ++ faults_under h j is)
 
 -- of an expression, whatever it was that gave the names
-abbrev pub AddsWhereKnown : RoutineContext → Context → Result Unit CheckFault → Entities → Expr → Result Unit AllocError →
-    List Fault → List Fault → Type 0
+abbrev pub AddsWhereKnown : RoutineContext → Context → Result Unit CheckFault → Entities → Expr →
+    Result Unit AllocError → List Fault → List Fault → Type 0
 AddsWhereKnown h c given known e result old new =
     (j : Judged Entities) → Knows j given known →
     OnOk result (new ≡ old ++ where_known j (λ m. faults_of h c Condition m e))

@@ -176,7 +176,8 @@ faults_of_kind s pure k (Attribute d) = faults_of_type s [] d
 faults_of_kind s pure k (Routine routine) =
     faults_of_types s routine.formals routine.formals
     ++ (faults_of_result s routine.result_type
-    ++ faults_of_text (context_of s pure k routine) routine.precondition routine.locals routine.body routine.postcondition)
+    ++ faults_of_text (context_of s pure k routine) routine.precondition routine.locals routine.body
+    routine.postcondition)
 
 abbrev pub faults_of_features : System → (RoutineName → Bool) → ℕ → List Feature → List Fault
 faults_of_features s pure k fs = faults_of_each (λ (f : Feature). faults_of_kind s pure k f.kind) fs
@@ -188,7 +189,8 @@ faults_of_creator s k x = faults_at (judge_creator s k x) []
 
 abbrev pub faults_of_invariant : System → (RoutineName → Bool) → ℕ → Clause → List Fault
 faults_of_invariant s pure k i =
-    faults_at (judge_invariant s pure k i) (faults_of (invariant_context s pure k) context.Invariant Plain [] i.condition)
+    faults_at (judge_invariant s pure k i)
+    (faults_of (invariant_context s pure k) context.Invariant Plain [] i.condition)
 
 abbrev pub faults_of_class : System → (RoutineName → Bool) → ℕ → Class → List Fault
 faults_of_class s pure k c =

@@ -8,7 +8,8 @@ use Rattle.sc_faults.proofs.classes.add_classes.Goals as goal
 -- the classes of the tables are those of the system
 pub loop-class-init : goal.loop-class-init
 loop-class-init c =
-    sym (ap (λ cs. c.args.faults.now.items ++ faults_of_classes (system_in c.args.tables.now) (is_marked c.args.purity.now) 0 cs) c.classes-classes.ensures)
+    sym (ap (λ cs. c.args.faults.now.items ++ faults_of_classes (system_in c.args.tables.now)
+    (is_marked c.args.purity.now) 0 cs) c.classes-classes.ensures)
 
 pub loop-class-preserved : goal.loop-class-preserved
 loop-class-preserved c =

@@ -12,7 +12,8 @@ loop-name-preserved c =
     each_next name_of list c.args.names.now c.loop-name.name-index c.name-item.result
     (c.args.faults.now.items ++ faults_of_each list (map name_of c.args.names.now)) c.loop-name.faults.items c.add_alone.new.faults.items
     c.loop-name-test.true c.name-item.is c.loop-name.invariant
-    (c.in_ok-add_alone.ensures (judge_creator (system_in c.args.class.now.tables.now) c.args.class.now.class (name_of c.name-item.result)) c.judge_creator.ensures)
+    (c.in_ok-add_alone.ensures (judge_creator (system_in c.args.class.now.tables.now) c.args.class.now.class
+    (name_of c.name-item.result)) c.judge_creator.ensures)
 
 pub returns : goal.returns
 returns c =

@@ -9,4 +9,5 @@ abbrev pub invariant-loop-feature : goal.invariant-loop-feature
 invariant-loop-feature l =
     l.fn.faults.items ++ faults_of_features (system_in l.class.tables.now) (is_marked l.class.purity.now) l.class.class (map feature_of l.features)
     ≡ l.faults.items
-    ++ faults_of_features (system_in l.class.tables.now) (is_marked l.class.purity.now) l.class.class (map feature_of (drop l.feature-index l.features))
+    ++ faults_of_features (system_in l.class.tables.now) (is_marked l.class.purity.now) l.class.class
+    (map feature_of (drop l.feature-index l.features))

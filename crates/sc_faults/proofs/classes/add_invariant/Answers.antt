@@ -23,6 +23,7 @@ returns c =
     c.judge_invariant.result c.add.result c.add_expression.new.faults.items c.args.faults.now.items c.add.new.faults.items
     (from_none c.new-operands.result.items (faults_of (invariant_context s pure k) context.Invariant Plain [] e) c.add_expression.new.faults.items
     c.new-operands.ensures.items
-    (in_context (routine_in c.context_of-routine.result) (invariant_context s pure k) context.Invariant Plain [] e c.new-operands.result.items c.add_expression.new.faults.items
+    (in_context (routine_in c.context_of-routine.result) (invariant_context s pure k) context.Invariant Plain
+    [] e c.new-operands.result.items c.add_expression.new.faults.items
     c.context_of-routine.ensures c.in_ok-add_expression.ensures))
     c.judge_invariant.ensures c.add.ensures

@@ -16,5 +16,6 @@ loop-clause-preserved c =
 pub returns : goal.returns
 returns c =
     let list = faults_of_invariant (system_in c.args.class.now.tables.now) (is_marked c.args.class.now.purity.now) c.args.class.now.class in
-    each_end clause_of list c.args.clauses.now c.loop-clause.clause-index (c.args.faults.now.items ++ faults_of_each list (map clause_of c.args.clauses.now))
+    each_end clause_of list c.args.clauses.now c.loop-clause.clause-index
+    (c.args.faults.now.items ++ faults_of_each list (map clause_of c.args.clauses.now))
     c.loop-clause.faults.items c.loop-clause-test.false c.loop-clause.invariant

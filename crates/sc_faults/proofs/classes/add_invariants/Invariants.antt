@@ -7,5 +7,7 @@ use Rattle.sc_faults.proofs.classes.add_invariants.Given as goal
 
 abbrev pub invariant-loop-clause : goal.invariant-loop-clause
 invariant-loop-clause l =
-    l.fn.faults.items ++ faults_of_each (faults_of_invariant (system_in l.class.tables.now) (is_marked l.class.purity.now) l.class.class) (map clause_of l.clauses)
-    ≡ l.faults.items ++ faults_of_each (faults_of_invariant (system_in l.class.tables.now) (is_marked l.class.purity.now) l.class.class) (map clause_of (drop l.clause-index l.clauses))
+    l.fn.faults.items ++ faults_of_each (faults_of_invariant (system_in l.class.tables.now) (is_marked l.class.purity.now) l.class.class)
+    (map clause_of l.clauses)
+    ≡ l.faults.items ++ faults_of_each (faults_of_invariant (system_in l.class.tables.now) (is_marked l.class.purity.now) l.class.class)
+    (map clause_of (drop l.clause-index l.clauses))

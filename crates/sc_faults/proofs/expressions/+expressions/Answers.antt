@@ -65,7 +65,8 @@ add_operands-returns-in-Unary t c =
 
 pub add_operands-returns-in-ObjectTest : goal.add_operands-returns-in-ObjectTest
 add_operands-returns-in-ObjectTest t c =
-    test_added (routine_in c.args.routine.now) c.args.context c.args.position (map entity_of c.args.names.now) c.args.e.now c.add_expression-in-ObjectTest.result
+    test_added (routine_in c.args.routine.now) c.args.context c.args.position
+    (map entity_of c.args.names.now) c.args.e.now c.add_expression-in-ObjectTest.result
     c.args.faults.now.items c.add_expression-in-ObjectTest.new.faults.items c.in-ObjectTest.field-0 c.in-ObjectTest.field-1 c.in-ObjectTest.tested c.in-ObjectTest.field-3
     c.deref-in-ObjectTest.result.now c.in-ObjectTest.is c.deref-in-ObjectTest.ensures c.add_expression-in-ObjectTest.ensures
 
@@ -93,7 +94,8 @@ add_operands-returns-in_ok-known-in-Binary t c =
     (knows_at (λ m. judge_given h c.args.context m (expr_of x)) c.give_names-given.result n (map entity_of known)
     (map entity_of c.give_names-given.new.names.items) (map entity_of c.deref-then-shares_names-3.result.now)
     (ap (map entity_of) c.in_ok-known-in-Binary.ensures.items) (ap (map entity_of) c.deref-then-shares_names-3.ensures.value)
-    (subst (λ (e : Expr). Knows (judge_given h c.args.context (map entity_of known) (expr_of e)) c.give_names-given.result (map entity_of c.give_names-given.new.names.items))
+    (subst (λ (e : Expr). Knows (judge_given h c.args.context (map entity_of known) (expr_of e)) c.give_names-given.result
+    (map entity_of c.give_names-given.new.names.items))
     (c.deref-then-shares_names-2.ensures ∙ sym c.deref-then-shares_names.ensures) c.give_names-given.ensures))
     c.in_ok-add_expression-in-Binary.ensures c.add_where_known.ensures
 
@@ -104,7 +106,8 @@ add_where_known-returns-in-Ok t c = λ j k.
 
 pub add_target-returns-in-None : goal.add_target-returns-in-None
 add_target-returns-in-None t c =
-    no_target_added (routine_in c.args.routine.now) c.args.context (map entity_of c.args.names.now) c.args.target.now c.args.faults.now.items c.in-None.is
+    no_target_added (routine_in c.args.routine.now) c.args.context
+    (map entity_of c.args.names.now) c.args.target.now c.args.faults.now.items c.in-None.is
 
 pub add_target-returns-in-Some : goal.add_target-returns-in-Some
 add_target-returns-in-Some t c =
@@ -116,7 +119,8 @@ add_actuals-loop-actual-preserved t c =
     let h = routine_in c.args.routine.now in
     let n = map entity_of c.args.names.now in
     actuals_next h c.args.context n c.args.actuals.now c.loop-actual.actual-index c.actual-item.result
-    (c.args.faults.now.items ++ faults_in_actuals h c.args.context n (exprs_of c.args.actuals.now)) c.loop-actual.faults.items c.add_expression.new.faults.items
+    (c.args.faults.now.items ++ faults_in_actuals h c.args.context n
+    (exprs_of c.args.actuals.now)) c.loop-actual.faults.items c.add_expression.new.faults.items
     c.loop-actual-test.true c.actual-item.is c.loop-actual.invariant c.in_ok-add_expression.ensures
 
 pub add_actuals-returns : goal.add_actuals-returns

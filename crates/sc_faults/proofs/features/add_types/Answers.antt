@@ -13,10 +13,12 @@ loop-declaration-preserved c =
     each_next declaration_of list c.args.declarations.now c.loop-declaration.declaration-index c.declaration-item.result
     (c.args.faults.now.items ++ faults_of_each list (map declaration_of c.args.declarations.now)) c.loop-declaration.faults.items c.add_alone.new.faults.items
     c.loop-declaration-test.true c.declaration-item.is c.loop-declaration.invariant
-    (c.in_ok-add_alone.ensures (judge_type (system_in c.args.tables.now) (map declaration_of c.args.formals.now) (type_of c.declaration-item.result.declared_type)) c.judge_type.ensures)
+    (c.in_ok-add_alone.ensures (judge_type (system_in c.args.tables.now) (map declaration_of c.args.formals.now)
+    (type_of c.declaration-item.result.declared_type)) c.judge_type.ensures)
 
 pub returns : goal.returns
 returns c =
     let list = λ (d : Declaration). faults_of_type (system_in c.args.tables.now) (map declaration_of c.args.formals.now) d.declared_type in
-    each_end declaration_of list c.args.declarations.now c.loop-declaration.declaration-index (c.args.faults.now.items ++ faults_of_each list (map declaration_of c.args.declarations.now))
+    each_end declaration_of list c.args.declarations.now c.loop-declaration.declaration-index
+    (c.args.faults.now.items ++ faults_of_each list (map declaration_of c.args.declarations.now))
     c.loop-declaration.faults.items c.loop-declaration-test.false c.loop-declaration.invariant

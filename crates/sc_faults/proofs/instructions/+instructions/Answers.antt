@@ -67,7 +67,8 @@ add_branch-returns t c =
     (judge_given h context.Body (map entity_of c.args.names.now) e) c.add_under.result c.args.faults.now.items c.add_if_condition.new.faults.items
     c.add_under.new.faults.items (faults_of_condition h context.Body Condition (map entity_of c.args.names.now) e)
     c.in_ok-add_if_condition.ensures
-    (knows_at (λ n. judge_given h context.Body n e) c.give_names-given.result (map entity_of c.args.names.now) (map entity_of c.in_ok-known.known.items)
+    (knows_at (λ n. judge_given h context.Body n e) c.give_names-given.result (map entity_of c.args.names.now)
+    (map entity_of c.in_ok-known.known.items)
     (map entity_of c.give_names-given.new.names.items) (map entity_of c.deref.result.now)
     (ap (map entity_of) c.in_ok-known.ensures.items) (ap (map entity_of) c.deref.ensures.value) c.give_names-given.ensures)
     c.add_under.ensures
@@ -93,7 +94,8 @@ add_under-returns-in-Ok t c = λ j k.
 pub add_instructions-loop-instruction-preserved : goal.add_instructions-loop-instruction-preserved
 add_instructions-loop-instruction-preserved t c =
     instrs_next (routine_in c.args.routine.now) (map entity_of c.args.names.now) c.args.instructions.now c.loop-instruction.instruction-index
-    c.instruction-item.result (c.args.faults.now.items ++ faults_of_instrs (routine_in c.args.routine.now) (map entity_of c.args.names.now) (instrs_of c.args.instructions.now))
+    c.instruction-item.result (c.args.faults.now.items ++ faults_of_instrs (routine_in c.args.routine.now) (map entity_of c.args.names.now)
+    (instrs_of c.args.instructions.now))
     c.loop-instruction.faults.items c.add_instruction.new.faults.items c.loop-instruction-test.true c.instruction-item.is c.loop-instruction.invariant
     c.in_ok-add_instruction.ensures
 
