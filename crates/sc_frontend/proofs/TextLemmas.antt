@@ -31,7 +31,7 @@ use Rattle.sc_frontend.specs.declared.rejection.Rejection.{Rejection}
 use Rattle.sc_frontend.specs.declared.rejection.Rejection.TheVariants as rejection
 use Rattle.sc_frontend.specs.Rejection.{of_code, of_tokens, of_classes, of_system}
 use Rattle.sc_parse.specs.Places.{IsPlaced}
-use Rattle.sc_frontend.specs.Texts.{kinds, IsSpelled, IsRead, IsSound, IsAtFault, IsRefusedFor, IsRunnable, IsNotRunFor, IsUnreadable}
+use Rattle.sc_frontend.specs.Texts.{kinds, IsSpelled, IsRead, IsSound, IsAtFault, IsRefusedFor, IsRunnable, IsNotRunFor, IsUnreadable, IsUnexamined, HasClassFault}
 
 -- the kinds of tokens, with their places or without
 pub kinds-lexemes_of : (ts : List Token) → kinds (lexemes_of ts) ≡ kinds_of ts
@@ -121,6 +121,37 @@ class-fault s root f (inr (bad_redefinition e y)) = bad_redefinition e y
 class-fault s root f (inr (no_root e)) = no_root e
 class-fault s root f (inr (limit y)) = limit y
 class-fault s root f (inr (left_out y)) = left_out y
+
+-- what can't be read isn't examined
+pub unreadable-unexamined : (text : List ℕ) (root : Root) (e : Rejection) → IsUnreadable text e → IsUnexamined text root e
+unreadable-unexamined text root (rejection.Text fault) is = is
+unreadable-unexamined text root (rejection.Grammar fault) is = is
+unreadable-unexamined text root (rejection.Classes fault) is = absurd is
+unreadable-unexamined text root (rejection.Rules fault) is = absurd is
+unreadable-unexamined text root rejection.CodeTooLong is = absurd is
+unreadable-unexamined text root rejection.OutOfMemory is = is
+
+-- what has a class fault isn't examined
+pub faulty-unexamined : (text : List ℕ) (root : Root) (s : System) → IsRead text s → (e : Rejection) → HasClassFault s root e →
+    IsUnexamined text root e
+faulty-unexamined text root s is (rejection.Text fault) at = absurd at
+faulty-unexamined text root s is (rejection.Grammar fault) at = absurd at
+faulty-unexamined text root s is (rejection.Classes fault) at = record { system = s; read = is; fault = at }
+faulty-unexamined text root s is (rejection.Rules fault) at = absurd at
+faulty-unexamined text root s is rejection.CodeTooLong at = absurd at
+faulty-unexamined text root s is rejection.OutOfMemory at = tt
+
+-- a class fault, as a rejection of a text that isn't examined
+pub class-unexamined : (s : System) (root : Root) (f : ClassFault) → (f ≡ classes.OutOfMemory) ⊎ Fails s root f → HasClassFault s root (of_classes f)
+class-unexamined s root f (inl e) = subst (λ (f : ClassFault). HasClassFault s root (of_classes f)) (sym e) tt
+class-unexamined s root f (inr (duplicate_class y)) = duplicate_class y
+class-unexamined s root f (inr (unknown_parent y)) = unknown_parent y
+class-unexamined s root f (inr (cycle y)) = cycle y
+class-unexamined s root f (inr (duplicate_feature e y)) = duplicate_feature e y
+class-unexamined s root f (inr (bad_redefinition e y)) = bad_redefinition e y
+class-unexamined s root f (inr (no_root e)) = no_root e
+class-unexamined s root f (inr (limit y)) = limit y
+class-unexamined s root f (inr (left_out y)) = left_out y
 
 -- a tree that a text spells is spelled by the tokens that are found
 pub tree-found : (text : List ℕ) (ts : List Token) (tree : System) (is : IsSpelled text tree) → lexemes_of ts ≡ is.tokens →

@@ -14,7 +14,9 @@ use Rattle.sc_class.specs.ClassNames.{Root}
 use Rattle.sc_class.specs.Faults.ClassRules as class_rules
 use Rattle.sc_class.specs.Faults.ClassRules.{IsFaultless}
 use Rattle.sc_rules.specs.declared.rule.Rule.{Rule}
+use Rattle.sc_rules.specs.declared.fault.Fault.{Fault}
 use Rattle.sc_rules.specs.SystemRules.{SystemFails, WellFormed}
+use Rattle.sc_faults.specs.Parts.{IsFaultList}
 use Rattle.sc_code.specs.declared.program.Image.{Image}
 use Rattle.sc_code.specs.Programs.{IsProgramOf, code_length}
 use Rattle.sc_code.specs.RequestRoom.{FitsRequests}
@@ -134,6 +136,37 @@ IsNotRunFor text root (rejection.Classes fault) = HasFault text root (rejection.
 IsNotRunFor text root (rejection.Rules fault) = HasFault text root (rejection.Rules fault)
 IsNotRunFor text root rejection.CodeTooLong = IsTooLong text root
 IsNotRunFor text root rejection.OutOfMemory = Unit {0}
+
+-- ---- all faults
+
+-- The class fault is in the system, or memory ran out.
+abbrev pub HasClassFault : System → Root → Rejection → Type 0
+HasClassFault system root (rejection.Classes fault) = class_rules.Fails system root fault
+HasClassFault system root rejection.OutOfMemory = Unit {0}
+HasClassFault system root (rejection.Rules fault) = ⊥
+HasClassFault system root rejection.CodeTooLong = ⊥
+HasClassFault system root (rejection.Text fault) = ⊥
+HasClassFault system root (rejection.Grammar fault) = ⊥
+
+-- The text isn't examined, since it spells no system or one with a class fault, or memory ran out.
+abbrev pub IsUnexamined : List ℕ → Root → Rejection → Type 0
+IsUnexamined text root (rejection.Text fault) = IsRefused text fault
+IsUnexamined text root (rejection.Grammar fault) = IsNoSystem text fault
+IsUnexamined text root (rejection.Classes fault) = HasFault text root (rejection.Classes fault)
+IsUnexamined text root rejection.OutOfMemory = Unit {0}
+IsUnexamined text root (rejection.Rules fault) = ⊥
+IsUnexamined text root rejection.CodeTooLong = ⊥
+
+-- No class fault is in the system, and these are the faults of its parts.
+pub record IsWholeList (system : System) (root : Root) (faults : List Fault) : Type 0 where
+  pub faultless : IsFaultless system root
+  pub listed : IsFaultList system faults
+
+-- The text spells a system without class faults, and these are the faults of its parts.
+pub record IsExamined (text : List ℕ) (root : Root) (faults : List Fault) : Type 0 where
+  pub system : System
+  pub read : IsRead text system
+  pub whole : IsWholeList system root faults
 
 -- ---- programs
 

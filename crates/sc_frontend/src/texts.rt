@@ -9,14 +9,16 @@ ghost use Rattle.sc_class.specs.View.{root_of};
 ghost use Rattle.sc_class.specs.SystemIn.{root_in, system_in};
 ghost use Rattle.sc_check.specs.CheckedTables.{tables_of};
 ghost use Rattle.sc_lower.specs.Lowerings.{image_of};
-ghost use Rattle.sc_frontend.specs.Texts.{IsAccepted, IsAtFault, IsLoaded, IsNotRunFor, IsPrinted, IsRead, IsRefusedFor, IsRunnable, IsSound, IsSpelled, IsUnreadable, MustBeAccepted, MustBeRun};
+ghost use Rattle.sc_frontend.specs.Texts.{HasClassFault, IsAccepted, IsAtFault, IsExamined, IsLoaded, IsNotRunFor, IsPrinted, IsRead, IsRefusedFor, IsRunnable, IsSound, IsSpelled, IsUnexamined, IsUnreadable, IsWholeList, MustBeAccepted, MustBeRun};
 
 use crate::rejection::Rejection;
 use sc_check::{Checked, check};
 use sc_class::{Root, tables};
 use sc_code::Program;
+use sc_faults::all_faults;
 use sc_lower::lower;
 use sc_parse::{let_go, parse};
+use sc_rules::Fault;
 use sc_text::lex;
 use sc_tree::{System, print_system};
 use std::alloc::Global;
@@ -29,6 +31,18 @@ pub fn check_text(alloc: Global, text: &str, root: &Root) -> Result<(), Rejectio
 {
     let system = read(alloc, text)?;
     let answer = check_system(alloc, &system, root);
+    let_go(system);
+    answer
+}
+
+/// Checks each part of the system of a source text on its own: the faults of all of them, if nothing is at fault in its
+/// classes.
+pub fn check_parts(alloc: Global, text: &str, root: &Root) -> Result<Vec<Fault>, Rejection>
+    ensures listed { IfOk result (λ faults. IsExamined text.now (root_of root.now) faults.items) }
+    ensures refused { IfErr result (IsUnexamined text.now (root_of root.now)) }
+{
+    let system = read(alloc, text)?;
+    let answer = list_faults(alloc, &system, root);
     let_go(system);
     answer
 }
@@ -86,6 +100,15 @@ fn check_system(alloc: Global, system: &System, root: &Root) -> Result<(), Rejec
         Ok(_) => Ok(()),
         Err(rejection) => Err(rejection),
     }
+}
+
+/// The faults of all parts of the system, if nothing is at fault in its classes.
+fn list_faults(alloc: Global, system: &System, root: &Root) -> Result<Vec<Fault>, Rejection>
+    ensures listed { IfOk result (λ faults. IsWholeList (system_of system.now) (root_of root.now) faults.items) }
+    ensures fault { IfErr result (HasClassFault (system_of system.now) (root_of root.now)) }
+{
+    let classes = tables(alloc, system, root)?;
+    Ok(all_faults(alloc, &classes)?)
 }
 
 /// The program of the system, of whatever text it is.
