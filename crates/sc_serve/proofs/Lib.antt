@@ -1,3 +1,4 @@
+pub mod AllFaultLemmas
 pub mod AnswerLemmas
 pub mod Headings
 mod RunReports

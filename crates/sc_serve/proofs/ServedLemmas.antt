@@ -9,6 +9,7 @@ use Rattle.std.specs.Io.KnownBytes.{Appends, Keeps}
 use Rattle.std.proofs.KnownBytes.{Appends-kept, Appends-nil}
 use Rattle.sc_audit.specs.Writing.{WritesBeginning}
 use Rattle.sc_arguments.specs.Asked.{AskForHelp, IsAskedFor}
+use Rattle.sc_arguments.specs.declared.arguments.CheckOptions.{CheckOptions}
 use Rattle.sc_arguments.specs.declared.arguments.Command.{Command}
 use Rattle.sc_arguments.specs.declared.arguments.Invocation.{Invocation}
 use Rattle.sc_arguments.specs.declared.arguments.Invocation.TheVariants as invocation
@@ -19,6 +20,7 @@ use Rattle.sc_arguments.specs.declared.arguments.format.Format.TheVariants.{Text
 use Rattle.sc_arguments.specs.declared.arguments.searching.SearchOptions.{SearchOptions}
 use Rattle.sc_arguments.specs.declared.arguments.testing.TestOptions.{TestOptions}
 use Rattle.sc_class.specs.View.{root_of}
+use Rattle.sc_serve.specs.AllFaults.{IsAllOn}
 use Rattle.sc_serve.specs.Answer.{IsAnswerOn, IsReplayOn, IsRunOn}
 use Rattle.sc_serve.specs.Search.{IsSearchOn}
 use Rattle.sc_serve.specs.Tests.{IsTestOn, IsTestShaped}
@@ -34,6 +36,13 @@ pub files_answered : (bytes_of : List ℕ → Option (List ℕ)) (what : Command
     IfOk r (λ answer. (answer.record ≡ None) × (answer.object ≡ None)) → IfOk r (Answers bytes_of (invocation.OnFiles what names))
 files_answered bytes_of what names (Ok answer) is plain = (is, plain.0, λ text. plain.1)
 files_answered bytes_of what names (Err fault) is plain = tt
+
+pub all_answered : (bytes_of : List ℕ → Option (List ℕ)) (options : CheckOptions) (names : Vec (Bor (List ℕ)) Global) (r : Result Answer Fault) →
+    IfOk r (λ answer. IsAllOn options (named names.items) (held_by bytes_of names.items) answer.text.items answer.exit) →
+    IfOk r (λ answer. answer.record ≡ None) → (options.format ≡ Text → IfOk r (λ answer. answer.object ≡ None)) →
+    IfOk r (Answers bytes_of (invocation.CheckAll options names))
+all_answered bytes_of options names (Ok answer) is kept plain = (is, kept, plain)
+all_answered bytes_of options names (Err fault) is kept plain = tt
 
 pub run_answered : (bytes_of : List ℕ → Option (List ℕ)) (options : RunOptions) (names : Vec (Bor (List ℕ)) Global) (r : Result Answer Fault) →
     IfOk r (λ answer. IsRunOn options (named names.items) (held_by bytes_of names.items) answer.text.items answer.exit answer.record) →
@@ -76,6 +85,8 @@ pub formatted : (bytes_of : List ℕ → Option (List ℕ)) (what : Invocation) 
     format ≡ format_asked what → Answers bytes_of what answer → IfOk r (IsFormatted format answer) → IfOk r (Answers bytes_of what)
 formatted bytes_of what format answer (Err fault) e is same = tt
 formatted bytes_of (invocation.OnFiles what names) format answer (Ok told) e is same =
+    (rw (same.text, same.exit) is.0, same.kept ∙ is.1, λ text. same.object (e ∙ text) ∙ is.2 text)
+formatted bytes_of (invocation.CheckAll options names) format answer (Ok told) e is same =
     (rw (same.text, same.exit) is.0, same.kept ∙ is.1, λ text. same.object (e ∙ text) ∙ is.2 text)
 formatted bytes_of (invocation.Run options names) format answer (Ok told) e is same = (
   moved (λ text exit kept. IsRunOn options (named names.items) (held_by bytes_of names.items) text.items exit kept) answer.text told.text answer.exit

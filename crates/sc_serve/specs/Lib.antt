@@ -1,3 +1,4 @@
+pub mod AllFaults
 pub mod Answer
 pub mod Layouts
 pub mod Refusal

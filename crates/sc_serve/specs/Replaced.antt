@@ -30,6 +30,7 @@ may_be_replaced bytes = begins_replaceable (take heading_bytes bytes)
 -- the name of the file that a record is to be written to, if one is named
 abbrev pub recorded_to : Invocation → Option (List ℕ)
 recorded_to (invocation.OnFiles what names) = None
+recorded_to (invocation.CheckAll options names) = None
 recorded_to (invocation.Run options names) = option_map (λ n. n.now) options.record
 recorded_to (invocation.Replay options names) = None
 recorded_to (invocation.Search options names) = option_map (λ n. n.now) options.record

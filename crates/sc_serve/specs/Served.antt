@@ -15,6 +15,7 @@ use Rattle.sc_arguments.specs.declared.arguments.format.Format.TheVariants.{Text
 use Rattle.sc_audit.specs.Writing.{WritesBeginning}
 use Rattle.sc_class.specs.View.{root_of}
 use Rattle.sc_explain_text.specs.Page.{IsPageOf}
+use Rattle.sc_serve.specs.AllFaults.{IsAllOn}
 use Rattle.sc_serve.specs.Answer.{IsAnswerOn, IsReplayOn, IsRunOn}
 use Rattle.sc_serve.specs.Search.{IsSearchOn}
 use Rattle.sc_serve.specs.Tests.{IsTestOn, shape_of}
@@ -32,6 +33,7 @@ format_of command.Format = Text
 -- the format that is asked for
 abbrev pub format_asked : Invocation → Format
 format_asked (invocation.OnFiles what names) = format_of what
+format_asked (invocation.CheckAll options names) = options.format
 format_asked (invocation.Run options names) = options.format
 format_asked (invocation.Replay options names) = options.format
 format_asked (invocation.Search options names) = options.format
@@ -63,6 +65,9 @@ abbrev pub Answers : (List ℕ → Option (List ℕ)) → Invocation → Answer 
 Answers bytes_of (invocation.OnFiles what names) answer =
     IsAnswerOn what (named names.items) (held_by bytes_of names.items) answer.text.items answer.exit
     × (answer.record ≡ None) × IsAs (format_of what) answer
+Answers bytes_of (invocation.CheckAll options names) answer =
+    IsAllOn options (named names.items) (held_by bytes_of names.items) answer.text.items answer.exit
+    × (answer.record ≡ None) × IsAs options.format answer
 Answers bytes_of (invocation.Run options names) answer =
     IsRunOn options (named names.items) (held_by bytes_of names.items) answer.text.items answer.exit answer.record
     × IsAs options.format answer

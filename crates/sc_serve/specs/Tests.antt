@@ -44,7 +44,7 @@ use Rattle.sc_serve.specs.Answer.{IsRefusalOf, IsSourceOf, TellsTooLong}
 use Rattle.sc_serve.specs.Search.{told_turns}
 use Rattle.sc_serve.specs.declared.serve.Answer.{Answer}
 use Rattle.sc_serve.specs.declared.serve.Exit.{Exit}
-use Rattle.sc_serve.specs.declared.serve.Exit.TheVariants.{Done, Failed, Undecided, Usage}
+use Rattle.sc_serve.specs.declared.serve.Exit.TheVariants.{Done, Failed, Undecided}
 use Rattle.sc_serve.specs.declared.testing.Tested.{Tested}
 use Rattle.sc_serve.specs.declared.testing.Tested.TheVariants as made
 use Rattle.sc_source.specs.Source.{File, joined}
@@ -155,16 +155,11 @@ AreResultsOf text options [] (r ∷ rs) = ⊥
 AreResultsOf text options (t ∷ ts) [] = ⊥
 AreResultsOf text options (t ∷ ts) (r ∷ rs) = IsResultOf text options t r × AreResultsOf text options ts rs
 
--- the program's exit if all tests pass: there has to be one
-abbrev pub exit_of_passed : List TestResult → Exit
-exit_of_passed [] = Usage
-exit_of_passed (r ∷ rs) = Done
-
--- the program's exit: a test fails, or else one is undecided, or else all pass
+-- the program's exit: a test fails, or else one is undecided, or else all that there are pass
 abbrev pub exit_of_tests : List TestResult → Exit
 exit_of_tests results =
     if count_of counted.Failed results == 0
-    then (if count_of counted.Undecided results == 0 then exit_of_passed results else Undecided) else Failed
+    then (if count_of counted.Undecided results == 0 then Done else Undecided) else Failed
 
 -- The tests of the text, among which those of one class may be chosen, are run from these roots.
 abbrev pub AreListed : List ℕ → TestOptions → List Root → Type 0

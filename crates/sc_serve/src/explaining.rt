@@ -1,13 +1,15 @@
 //! What is added to a refusal on standard error: its line of the text, a sentence, and where more is said.
 
-use crate::refusal::Refusal;
+use crate::refusal::{Refusal, rules_refusal};
 use sc_class::Root;
 use sc_explain_refusal::{Related, diagnose};
 use sc_explain_text::Lines;
 use sc_frontend::Rejection;
+use sc_rules::Fault;
 use sc_source::excerpt;
 use sc_source::source::{Place, Source};
 use sc_text::Span;
+use sc_warnings::Warning;
 use std::alloc::{AllocError, Global};
 
 /// The line of the source text in which something is refused, with carets, a sentence on the fault, the place that
@@ -21,15 +23,80 @@ pub fn explanation(
 ) -> Result<Vec<u8>, AllocError> {
     let mut lines = Lines::new(alloc);
     if let Some(root) = explained {
-        match Refusal::of(rejection) {
-            Some(refusal) => push_explanation(alloc, &mut lines, source, root, refusal),
-            None if matches!(rejection, Rejection::CodeTooLong) => {
-                lines.push("`scoop explain CodeTooLong` says more\n")
-            }
-            None => {}
-        }
+        push_rejection(alloc, &mut lines, source, root, rejection)
     }
     lines.finish()
+}
+
+/// What is added to the lines that list what was found in a source text: for a system with a root the explanation of each
+/// fault after its line, or of the rejection; then the warnings.
+pub fn listing_notes(
+    alloc: Global,
+    source: &Source,
+    explained: Option<&Root>,
+    found: &Result<Vec<Fault>, Rejection>,
+    warnings: &[Warning],
+) -> Result<Vec<u8>, AllocError> {
+    let mut lines = Lines::new(alloc);
+    if let Some(root) = explained {
+        match found {
+            Ok(faults) => push_faults(alloc, &mut lines, source, root, faults.as_slice()),
+            Err(rejection) => push_rejection(alloc, &mut lines, source, root, rejection),
+        }
+    }
+    for warning in warnings {
+        push_warning(alloc, &mut lines, source, *warning, explained.is_some())
+    }
+    lines.finish()
+}
+
+/// Adds the explanation of each fault after its line.
+fn push_faults(alloc: Global, lines: &mut Lines, source: &Source, root: &Root, faults: &[Fault]) {
+    for fault in faults {
+        let refusal = rules_refusal(*fault);
+        match refusal.line(alloc, source) {
+            Ok(line) => lines.push(line.as_str()),
+            Err(_) => lines.lack(),
+        }
+        push_explanation(alloc, lines, source, root, refusal)
+    }
+}
+
+/// Adds the line of a warning, and if it is explained the line of the text.
+fn push_warning(
+    alloc: Global,
+    lines: &mut Lines,
+    source: &Source,
+    warning: Warning,
+    is_explained: bool,
+) {
+    lines.fill_name("warning: ~", warning.kind.message());
+    if let Some(Place { file, line, column }) = source.place_of(warning.span.start as usize) {
+        lines.fill_name(" ~", file);
+        lines.fill_number(":~", line as u64);
+        lines.fill_number(":~", column as u64)
+    }
+    lines.push("\n");
+    if is_explained {
+        push_excerpt(alloc, lines, source, warning.span)
+    }
+}
+
+/// Adds the explanation of a rejection.
+fn push_rejection(
+    alloc: Global,
+    lines: &mut Lines,
+    source: &Source,
+    root: &Root,
+    rejection: &Rejection,
+) {
+    match Refusal::of(rejection) {
+        Some(refusal) => push_explanation(alloc, lines, source, root, refusal),
+        None if matches!(rejection, Rejection::CodeTooLong) => {
+            lines.push("`scoop explain CodeTooLong` says more\n")
+        }
+        None => {}
+    }
 }
 
 /// Adds the explanation of a refusal that has a code.

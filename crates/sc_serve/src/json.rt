@@ -3,6 +3,7 @@
 //! Except for the verdict of a search the object is made of the lines that would be written, so it says what they
 //! say. The members of an object are in the order of their names.
 
+mod faults;
 mod quoting;
 mod refused;
 mod report;
@@ -10,6 +11,7 @@ mod verdict;
 
 use crate::json::refused::push_refusal;
 use crate::json::report::push_report;
+pub use faults::faults_array;
 use sc_explain_text::Lines;
 use std::alloc::{AllocError, Global};
 pub use verdict::search_object;

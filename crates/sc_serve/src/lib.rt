@@ -6,8 +6,10 @@
 //! the run; a refusal is reported in one line.
 #![tactic(auto)]
 
+mod all_faults;
 mod delivery;
 mod explaining;
+mod fault_list;
 mod folder;
 mod json;
 mod layouts;
@@ -24,4 +26,5 @@ mod testing;
 mod tracing;
 mod trial;
 mod verdict;
+mod warned;
 mod watching;

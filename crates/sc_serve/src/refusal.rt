@@ -1,6 +1,6 @@
 //! Refusals of a source text, and the line that reports one.
 
-ghost use Rattle.std.specs.Prelude.{◌≡◌, IfOk, Some, string_bytes};
+ghost use Rattle.std.specs.Prelude.{◌≡◌, IfOk, string_bytes};
 ghost use Rattle.std.specs.Option.{option_map};
 ghost use Rattle.sc_rules.specs.RefusalText.{code_of, name_of};
 ghost use Rattle.sc_source.specs.Source.{place_at};
@@ -49,7 +49,7 @@ impl Refusal {
             Rejection::Text(fault) => text_refusal(fault),
             Rejection::Grammar(fault) => grammar_refusal(*fault),
             Rejection::Classes(fault) => class_refusal(*fault),
-            Rejection::Rules(fault) => rules_refusal(*fault),
+            Rejection::Rules(fault) => Some(rules_refusal(*fault)),
             Rejection::CodeTooLong | Rejection::OutOfMemory => None,
         }
     }
@@ -94,10 +94,14 @@ fn class_refusal(fault: ClassFault) -> Option<Refusal>
     }
 }
 
-fn rules_refusal(fault: Fault) -> Option<Refusal>
-    ensures { option_map spec.seen result ≡ Some (spec.told_of_system fault) }
+/// How it is reported that a rule fails.
+pub fn rules_refusal(fault: Fault) -> Refusal
+    ensures { spec.seen result ≡ spec.told_of_system fault }
 {
-    refusal_at(RefusalCode::Rule(fault.rule), fault.span)
+    Refusal {
+        code: RefusalCode::Rule(fault.rule),
+        span: Some(fault.span),
+    }
 }
 
 /// The refusal of a part of the text.

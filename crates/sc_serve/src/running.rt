@@ -79,6 +79,7 @@ fn run_source<'a, R: Threads + Wait + Clock + Sync, T: Tell>(
 }
 
 /// Runs the program of a source text.
+#[inline(never)]
 fn run_loaded<'a, R: Threads + Wait + Clock + Sync, T: Tell>(
     rt: &R,
     alloc: Global,

@@ -7,6 +7,7 @@ ghost use Rattle.sc_frontend.specs.Texts.{IsUnreadable};
 ghost use Rattle.sc_serve.specs.Answer.{IsAnswerOn, IsAnswerTo, IsInLayout, IsRefusalOf, IsRejectedFor, IsUnansweredOn, IsUnread, too_long};
 ghost use Rattle.sc_serve.specs.Served.{Answers, IsExplained, IsFormatted, IsGivenUp, IsHelp, IsResponse, IsServed, format_asked, format_of};
 
+use crate::all_faults::answer_all_faults;
 use crate::delivery::deliver;
 use crate::explaining::{explanation, too_long_note};
 use crate::json::answer_object;
@@ -249,6 +250,9 @@ fn answer_unformatted<'a, R: Threads + Wait + Clock + Sync, F: Files, W: Watch +
         Invocation::OnFiles(command, names) => {
             answer_on_files(alloc, command, files, names.as_slice())
         }
+        Invocation::CheckAll(options, names) => {
+            answer_all_faults(alloc, options, files, names.as_slice())
+        }
         Invocation::Run(options, names) => {
             answer_run(rt, alloc, options, files, names.as_slice(), watch)
         }
@@ -274,6 +278,7 @@ fn format_asked(invocation: &Invocation<'_>) -> Format
 {
     match invocation {
         Invocation::OnFiles(command, _) => format_of(command),
+        Invocation::CheckAll(options, _) => options.format,
         Invocation::Run(options, _) => options.format,
         Invocation::Replay(options, _) => options.format,
         Invocation::Search(options, _) => options.format,
@@ -404,7 +409,7 @@ pub fn answer_unread<'a>(
 }
 
 /// The answer if nothing is made of the source text, with what is added on standard error.
-fn answer_rejected<'a>(
+pub(crate) fn answer_rejected<'a>(
     alloc: Global,
     source: &Source,
     rejection: &Rejection,

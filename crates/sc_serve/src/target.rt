@@ -35,8 +35,8 @@ pub fn check_target<'a, F: Files>(
         Invocation::Search(options, names) => {
             check_record(alloc, files, options.record, names.as_slice())
         }
-        Invocation::OnFiles(..) | Invocation::Layout(..) | Invocation::Test(..) => Ok(()),
-        Invocation::Replay(..) | Invocation::Explain(_) => Ok(()),
+        Invocation::OnFiles(..) | Invocation::CheckAll(..) | Invocation::Layout(..) => Ok(()),
+        Invocation::Test(..) | Invocation::Replay(..) | Invocation::Explain(_) => Ok(()),
     }
 }
 

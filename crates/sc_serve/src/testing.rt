@@ -259,8 +259,6 @@ fn exit_of(results: &[TestResult]) -> Exit
         Exit::Failed
     } else if count(results, Verdict::Undecided) != 0 {
         Exit::Undecided
-    } else if results.is_empty() {
-        Exit::Usage
     } else {
         Exit::Done
     }

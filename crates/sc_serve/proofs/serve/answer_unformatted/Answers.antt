@@ -1,6 +1,6 @@
 use Rattle.std.proofs.Common.{IfOk, subst, sym}
 use Rattle.sc_arguments.specs.declared.arguments.Invocation.{Invocation}
-use Rattle.sc_serve.proofs.ServedLemmas.{files_answered, replay_answered, run_answered, search_answered, tests_answered}
+use Rattle.sc_serve.proofs.ServedLemmas.{all_answered, files_answered, replay_answered, run_answered, search_answered, tests_answered}
 use Rattle.sc_serve.specs.Served.{Answers}
 use Rattle.sc_serve.proofs.serve.answer_unformatted.Goals as goal
 
@@ -11,6 +11,14 @@ returns-in-OnFiles g c =
     subst P (sym c.in-OnFiles.is)
     (files_answered (g.F.Files.bytes_of c.args.files.now) c.in-OnFiles.command c.in-OnFiles.names c.answer_on_files.result
     (rw c.as_slice.ensures.value at c.answer_on_files.ensures.answer) c.answer_on_files.ensures.plain)
+
+-- what is answered of all parts
+pub returns-in-CheckAll : goal.returns-in-CheckAll
+returns-in-CheckAll g c =
+    let P : Invocation → Type 0 = λ what. IfOk c.answer_all_faults.result (Answers (g.F.Files.bytes_of c.args.files.now) what) in
+    subst P (sym c.in-CheckAll.is)
+    (all_answered (g.F.Files.bytes_of c.args.files.now) c.in-CheckAll.options c.in-CheckAll.names c.answer_all_faults.result
+    (rw c.as_slice-in-CheckAll.ensures.value at c.answer_all_faults.ensures.answer) c.answer_all_faults.ensures.record c.answer_all_faults.ensures.object)
 
 -- what is answered where a record is played
 pub returns-in-Replay : goal.returns-in-Replay

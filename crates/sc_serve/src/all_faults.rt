@@ -1,0 +1,68 @@
+//! What is answered to `check --all`.
+
+ghost use Rattle.std.specs.Prelude.{◌≡◌, IfOk, None, map};
+ghost use Rattle.sc_arguments.specs.declared.arguments.format.Format.TheVariants.{Text};
+ghost use Rattle.sc_class.specs.View.{root_of};
+ghost use Rattle.sc_serve.specs.AllFaults.{IsAllOf, IsAllOn};
+
+use crate::fault_list::{Beside, array_of_long, list_exit, list_text, write_beside};
+use crate::serve::{Answer, Fault, answer_rejected, answer_unread};
+use sc_arguments::CheckOptions;
+use sc_frontend::check_parts;
+use sc_source::files::{Files, read_source};
+use sc_source::source::Source;
+use std::alloc::Global;
+
+/// Checks each part of the system of the named files on its own.
+#[inline(never)]
+pub fn answer_all_faults<'a, F: Files>(
+    alloc: Global,
+    options: &CheckOptions,
+    files: &F,
+    names: &[&'a str],
+) -> Result<Answer<'a>, Fault<'a>>
+    ensures answer { let named = map (λ name. name.now) names.now in
+        let held = map (λ name. F.bytes_of files.now name.now) names.now in
+        IfOk result (λ answer. IsAllOn options.now named held answer.text.items answer.exit) }
+    ensures record { IfOk result (λ answer. answer.record ≡ None) }
+    ensures object { options.now.format ≡ Text → IfOk result (λ answer. answer.object ≡ None) }
+{
+    match read_source(alloc, files, names) {
+        Ok(source) => answer_parts(alloc, options, &source),
+        Err(fault) => {
+            let array = array_of_long(alloc, options)?;
+            let mut answer = answer_unread(alloc, names, fault, options.is_explained)?;
+            answer.object = array;
+            Ok(answer)
+        }
+    }
+}
+
+/// Checks each part of the system of a source text on its own.
+fn answer_parts<'a>(
+    alloc: Global,
+    options: &CheckOptions,
+    source: &Source,
+) -> Result<Answer<'a>, Fault<'a>>
+    ensures answer { IfOk result (λ answer.
+        IsAllOf source.now (root_of options.now.root) answer.text.items answer.exit) }
+    ensures record { IfOk result (λ answer. answer.record ≡ None) }
+    ensures object { options.now.format ≡ Text → IfOk result (λ answer. answer.object ≡ None) }
+{
+    let found = check_parts(alloc, source.text(), &options.root);
+    let Beside { note, array } = write_beside(alloc, options, source, &found)?;
+    match found {
+        Ok(faults) => Ok(Answer {
+            text: list_text(alloc, source, faults.as_slice())?,
+            object: array,
+            exit: list_exit(faults.as_slice()),
+            note,
+            record: None,
+        }),
+        Err(rejection) => {
+            let mut answer = answer_rejected(alloc, source, &rejection, note)?;
+            answer.object = array;
+            Ok(answer)
+        }
+    }
+}

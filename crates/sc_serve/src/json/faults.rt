@@ -1,0 +1,252 @@
+//! What was found in a source text, as an array of JSON on a line.
+
+use crate::json::quoting::push_quoted;
+use crate::refusal::{Refusal, rules_refusal};
+use sc_class::Root;
+use sc_explain_refusal::{Diagnosis, Related, diagnose};
+use sc_explain_text::{Lines, is_slip, word_at};
+use sc_frontend::Rejection;
+use sc_rules::Fault;
+use sc_source::source::{Place, Source};
+use sc_text::Span;
+use sc_warnings::Warning;
+use std::alloc::{AllocError, Global};
+
+/// What is said of a part of a source text.
+#[derive(Clone, Copy)]
+struct Finding<'f> {
+    severity: &'static str,
+    /// The code of a refusal.
+    code: Option<&'static str>,
+    /// The name of a refusal.
+    name: Option<&'static str>,
+    span: Option<Span>,
+    message: &'f str,
+    /// What helps; nothing if it isn't known.
+    help: &'f str,
+    /// What is to be written in place of the part, if it is known.
+    edit: Option<&'f str>,
+    related: Option<Related>,
+}
+
+/// The array of what was found in a source text, with an element for each refusal and each warning.
+pub fn faults_array(
+    alloc: Global,
+    source: &Source,
+    root: &Root,
+    found: &Result<Vec<Fault>, Rejection>,
+    warnings: &[Warning],
+) -> Result<Vec<u8>, AllocError> {
+    let mut lines = Lines::new(alloc);
+    match found {
+        Ok(faults) => {
+            for fault in faults {
+                push_refusal(alloc, &mut lines, source, root, rules_refusal(*fault))
+            }
+        }
+        Err(rejection) => {
+            if let Some(refusal) = Refusal::of(rejection) {
+                push_refusal(alloc, &mut lines, source, root, refusal)
+            }
+        }
+    }
+    for warning in warnings {
+        push_finding(alloc, &mut lines, source, finding_of(*warning))
+    }
+    let end = if lines.is_empty() { "[]\n" } else { "]\n" };
+    lines.push(end);
+    lines.finish()
+}
+
+/// What is said of a warning.
+fn finding_of(warning: Warning) -> Finding<'static> {
+    Finding {
+        severity: "warning",
+        code: None,
+        name: None,
+        span: Some(warning.span),
+        message: warning.kind.message(),
+        help: "",
+        edit: None,
+        related: None,
+    }
+}
+
+/// Adds a refusal, with what is said of it.
+fn push_refusal(alloc: Global, lines: &mut Lines, source: &Source, root: &Root, refusal: Refusal) {
+    match diagnose(alloc, source.text(), root, refusal.code, refusal.span) {
+        Ok(diagnosis) => push_diagnosis(alloc, lines, source, refusal, &diagnosis),
+        Err(_) => lines.lack(),
+    }
+}
+
+/// Adds a refusal of which this is said.
+fn push_diagnosis(
+    alloc: Global,
+    lines: &mut Lines,
+    source: &Source,
+    refusal: Refusal,
+    diagnosis: &Diagnosis,
+) {
+    let Refusal { code, span } = refusal;
+    let said = str::from_utf8(diagnosis.lines.as_slice()).unwrap_or("");
+    let (message, help) = match said.split_once("\nhelp: ") {
+        Some(parts) => parts,
+        None => (said, ""),
+    };
+    let help = help.trim_end();
+    push_finding(
+        alloc,
+        lines,
+        source,
+        Finding {
+            severity: "error",
+            code: Some(code.code()),
+            name: Some(code.name()),
+            span,
+            message: message.trim_end(),
+            help,
+            edit: edit_by(help, part_at(source, span)),
+            related: diagnosis.related,
+        },
+    )
+}
+
+/// The text of a part of the source text; nothing if there is none.
+fn part_at(source: &Source, span: Option<Span>) -> &str {
+    match span {
+        Some(span) => word_at(source.text(), span),
+        None => "",
+    }
+}
+
+/// What a help says to write in place of this part: the name that was meant, if the part is a slip for it.
+fn edit_by<'h>(help: &'h str, part: &str) -> Option<&'h str> {
+    if let Some(meant) = help.strip_prefix("did you mean `")
+        && let Some(meant) = meant.strip_suffix("`?")
+        && is_slip(meant.as_bytes(), part.as_bytes())
+    {
+        return Some(meant);
+    }
+    None
+}
+
+/// Adds an element. Its members are in the order of their names.
+fn push_finding(alloc: Global, lines: &mut Lines, source: &Source, finding: Finding<'_>) {
+    let begins = if lines.is_empty() {
+        r#"[{"begin":"#
+    } else {
+        r#",{"begin":"#
+    };
+    lines.push(begins);
+    push_begin(alloc, lines, source, finding.span);
+    push_name(lines, r#","code":"#, finding.code);
+    lines.push(r#","edit":"#);
+    push_edit(alloc, lines, source, finding);
+    lines.push(r#","end":"#);
+    push_end(alloc, lines, source, finding.span);
+    lines.push(r#","help":"#);
+    push_help(alloc, lines, finding.help);
+    lines.push(r#","message":"#);
+    push_quoted(alloc, lines, String::from_str(alloc, finding.message));
+    push_name(lines, r#","name":"#, finding.name);
+    lines.push(r#","related":"#);
+    push_related(alloc, lines, source, finding.related);
+    lines.fill_name(r#","severity":"~"}"#, finding.severity)
+}
+
+/// Adds a name that needs no escapes after these words, or null.
+fn push_name(lines: &mut Lines, before: &str, name: Option<&str>) {
+    lines.push(before);
+    match name {
+        Some(name) => lines.fill_name(r#""~""#, name),
+        None => lines.push("null"),
+    }
+}
+
+/// Adds what helps, or null.
+fn push_help(alloc: Global, lines: &mut Lines, help: &str) {
+    if help.is_empty() {
+        lines.push("null")
+    } else {
+        push_quoted(alloc, lines, String::from_str(alloc, help))
+    }
+}
+
+/// Adds what is to be written in place of the part, or null.
+fn push_edit(alloc: Global, lines: &mut Lines, source: &Source, finding: Finding<'_>) {
+    match finding.edit {
+        Some(text) => {
+            lines.push(r#"{"begin":"#);
+            push_begin(alloc, lines, source, finding.span);
+            lines.push(r#","end":"#);
+            push_end(alloc, lines, source, finding.span);
+            lines.push(r#","text":"#);
+            push_quoted(alloc, lines, String::from_str(alloc, text));
+            lines.push("}")
+        }
+        None => lines.push("null"),
+    }
+}
+
+/// Adds the array of the places that belong to a refusal.
+fn push_related(alloc: Global, lines: &mut Lines, source: &Source, related: Option<Related>) {
+    match related {
+        Some(Related { what, span }) => {
+            lines.push(r#"[{"begin":"#);
+            push_begin(alloc, lines, source, Some(span));
+            lines.push(r#","end":"#);
+            push_end(alloc, lines, source, Some(span));
+            lines.fill_name(r#","message":"~"}]"#, what)
+        }
+        None => lines.push("[]"),
+    }
+}
+
+/// Adds the place at which a part begins, or null.
+fn push_begin(alloc: Global, lines: &mut Lines, source: &Source, span: Option<Span>) {
+    match span {
+        Some(span) => push_place(alloc, lines, source, span.start as usize),
+        None => lines.push("null"),
+    }
+}
+
+/// Adds the place after the last byte of a part, or null.
+fn push_end(alloc: Global, lines: &mut Lines, source: &Source, span: Option<Span>) {
+    match span {
+        Some(span) => push_place(alloc, lines, source, span.end as usize),
+        None => lines.push("null"),
+    }
+}
+
+/// Adds the place of a byte of the source text: its offset in its file, from 0, its column, which counts bytes, its file and
+/// its line.
+fn push_place(alloc: Global, lines: &mut Lines, source: &Source, offset: usize) {
+    match source.place_of(offset) {
+        Some(Place { file, line, column }) => {
+            let before = source.text().as_bytes().get(..offset).unwrap_or(&[]);
+            lines.fill_number(r#"{"byte":~"#, bytes_of_lines(before, line) as u64);
+            lines.fill_number(r#","column":~,"file":"#, column as u64);
+            push_quoted(alloc, lines, String::from_str(alloc, file));
+            lines.fill_number(r#","line":~}"#, line as u64)
+        }
+        None => lines.push("null"),
+    }
+}
+
+/// How many bytes the last lines of a text have, if the last of them isn't ended: so many lines of a file are before a place,
+/// and a line feed or nothing is before the file.
+fn bytes_of_lines(text: &[u8], count: usize) -> usize {
+    let mut bytes = 0_usize;
+    let mut left = count;
+    for byte in text.iter().rev() {
+        if *byte == b'\n' {
+            left = left.saturating_sub(1);
+        }
+        if left == 0 {
+            break;
+        }
+        bytes = bytes.saturating_add(1);
+    }
+    bytes
+}
