@@ -38,7 +38,7 @@ _scoop() {
         ;;
     esac
     case $command:$word in
-    check:-*) mapfile -t COMPREPLY < <(compgen -W '--root --explain --no-explain --format --help' -- "$word") ;;
+    check:-*) mapfile -t COMPREPLY < <(compgen -W '--all --root --explain --no-explain --format --help' -- "$word") ;;
     run:-*) mapfile -t COMPREPLY < <(compgen -W '--workers --turns --output-limit --record --audit --trace --trace=print --root --explain --no-explain --format --help' -- "$word") ;;
     replay:-*) mapfile -t COMPREPLY < <(compgen -W '--trace --trace=print --root --explain --no-explain --format --help' -- "$word") ;;
     search:-*) mapfile -t COMPREPLY < <(compgen -W '--for --states --record --outcomes --explain --no-explain --format --root --help' -- "$word") ;;

@@ -3,5 +3,5 @@ if exists("current_compiler")
   finish
 endif
 let current_compiler = "scoop"
-CompilerSet makeprg=scoop\ check\ %
-CompilerSet errorformat=refused\ %m\ %f:%l:%c,%f:%l:%c:\ %m
+CompilerSet makeprg=scoop\ check\ --all\ %
+CompilerSet errorformat=refused\ %m\ %f:%l:%c,%tarning:\ %m\ %f:%l:%c,%f:%l:%c:\ %m
