@@ -68,19 +68,19 @@ module _ {W : Type 0} (Turn : ℕ → W → W → Type 0) (has_turn : ℕ → W 
 
       -- What becomes of an order from a world to another, if the turn of a mover is put before it: it leads to a bad
       -- world; or the mover moves in it, and the rest leads to the end as before; or it goes on as it is, and leads to
-      -- the world after the mover's turn at the end.
+      -- the world after the turn at the end of the mover, which still is one there.
       pub data Carried (g : ℕ) (moved end : W) (hs : List ℕ) : Type 0 where
         Bad : (ks : List ℕ) → (v : W) → length ks ≤ length hs → Makes ks moved v → bad v ≡ true → Carried g moved end hs
         WithIt : (ks : List ℕ) → suc (length ks) ≡ length hs → Makes ks moved end → ((x : ℕ) → IsAmong x hs → (x ≡ g) ⊎ IsAmong x ks) →
             Carried g moved end hs
-        WithoutIt : (v : W) → Makes hs moved v → Turn g end v → Carried g moved end hs
+        WithoutIt : (v : W) → Makes hs moved v → IsMover g end → Turn g end v → Carried g moved end hs
 
       -- a turn of another handler first
       put_before : (g h : ℕ) (moved both end : W) (hs : List ℕ) → has_turn h moved ≡ true → Turn h moved both → Carried g both end hs → Carried g moved end (h ∷ hs)
       put_before g h moved both end hs t turn c = elim c [
         | Bad ks v short makes b ↦ Bad (h ∷ ks) v (omega (arith, short)) (t, both, turn, makes) b
         | WithIt ks short makes covers ↦ WithIt (h ∷ ks) (omega (arith, short)) (t, both, turn, makes) (λ x i. covered x ks i covers)
-        | WithoutIt v makes last ↦ WithoutIt v (t, both, turn, makes) last
+        | WithoutIt v makes still last ↦ WithoutIt v (t, both, turn, makes) still last
       ]
         where
           covered : (x : ℕ) (ks : List ℕ) → (x ≡ h) ⊎ IsAmong x hs → ((y : ℕ) → IsAmong y hs → (y ≡ g) ⊎ IsAmong y ks) → (x ≡ g) ⊎ ((x ≡ h) ⊎ IsAmong x ks)
@@ -91,7 +91,7 @@ module _ {W : Type 0} (Turn : ℕ → W → W → Type 0) (has_turn : ℕ → W 
           ]
 
       carry : (hs : List ℕ) (g : ℕ) (w moved end : W) → IsReached w → bad w ≡ false → IsMover g w → Turn g w moved → bad moved ≡ false → Makes hs w end → Carried g moved end hs
-      carry [] g w moved end reached good mover turn after same = WithoutIt moved refl (subst (λ v. Turn g v moved) (sym same) turn)
+      carry [] g w moved end reached good mover turn after same = WithoutIt moved refl (subst (IsMover g) (sym same) mover) (subst (λ v. Turn g v moved) (sym same) turn)
       carry (h ∷ hs) g w moved end reached good mover turn after makes = elim (either g h) [
         | inl same ↦
             let one : makes.1 ≡ moved = m.one g w makes.1 moved (subst (λ (n : ℕ). Turn n w makes.1) (sym same) makes.2) turn in
@@ -170,7 +170,7 @@ module _ {W : Type 0} (Turn : ℕ → W → W → Type 0) (has_turn : ℕ → W 
           pub none_bad : bad v ≡ false
           pub found : P v → SomeKept IsKept P
 
-        module _ (P : W → Type 0) (stable : IsStable Turn P) where
+        module _ (P : W → Type 0) (stable : IsStable Turn IsMover P) where
           abbrev Shorter : ℕ → Type 0
           Shorter n = (w end : W) → IsReached w → Chain w → (hs : List ℕ) → suc (length hs) ≤ n → Makes hs w end → Shows P end
 
@@ -185,9 +185,9 @@ module _ {W : Type 0} (Turn : ℕ → W → W → Type 0) (has_turn : ℕ → W 
                     let shown = walk n shorter moved u (m.reached g w moved reached turn) l ks (omega (arith, le, short)) there in
                     absurd (not_both (bad u) is_bad shown.none_bad)
                 | WithIt ks short there covers ↦ walk n shorter moved end (m.reached g w moved reached turn) l ks (omega (arith, le, short)) there
-                | WithoutIt u there last ↦
+                | WithoutIt u there still last ↦
                     let shown = walk n shorter moved u (m.reached g w moved reached turn) l hs le there in
-                    record { none_bad = good_before g end u last shown.none_bad; found = λ p. shown.found (stable g end u p last) }
+                    record { none_bad = good_before g end u last shown.none_bad; found = λ p. shown.found (stable g end u p still last) }
               ]
 
           walks : (n : ℕ) (w end : W) → IsReached w → Chain w → (hs : List ℕ) → length hs ≤ n → Makes hs w end → Shows P end
@@ -199,15 +199,9 @@ module _ {W : Type 0} (Turn : ℕ → W → W → Type 0) (has_turn : ℕ → W 
               let short = trimmed hs w end reached leads in
               walks (length short.0) w end reached l short.0 (omega arith) short.1
 
-        pub closed_find_all : IsReached opening → FindAll Turn bad opening IsKept
-        closed_find_all reached = record {
-          none_bad = λ hs v leads. (shows (λ w. Unit {0}) (λ h x y p t. tt) opening v reached c.opens hs leads).none_bad;
-          found = λ P stable hs v leads. (shows P stable opening v reached c.opens hs leads).found;
-        }
-
         all_good : (w : W) → IsReached w → Chain w → AllGood w
         unfolding AllGood
-        all_good w reached l hs v leads = (shows (λ u. Unit {0}) (λ h x y p t. tt) w v reached l hs leads).none_bad
+        all_good w reached l hs v leads = (shows (λ u. Unit {0}) (λ g x y p n t. tt) w v reached l hs leads).none_bad
 
         -- from each world from which movers lead to a kept one any handlers may have their turns
         goes_from : (n : ℕ) (w : W) → IsReached w → Chain w → Goes n w
@@ -224,6 +218,13 @@ module _ {W : Type 0} (Turn : ℕ → W → W → Type 0) (has_turn : ℕ → W 
         ]
         goes_from n w reached (Moved v g moved mover turn b l) hs le =
             goes_before n g w moved reached (all_good w reached (Moved w g moved mover turn b l)) mover turn (goes_from n moved (m.reached g w moved reached turn) l) hs le
+
+        pub closed_find_all : IsReached opening → FindAll Turn bad IsMover opening IsKept
+        closed_find_all reached = record {
+          none_bad = λ hs v leads. (shows (λ u. Unit {0}) (λ g x y p n t. tt) opening v reached c.opens hs leads).none_bad;
+          goes = λ hs. goes_from (length hs) opening reached c.opens hs (omega arith);
+          found = λ P stable hs v leads. (shows P stable opening v reached c.opens hs leads).found;
+        }
 
         -- ---- who moves
 
@@ -282,12 +283,12 @@ module _ {W : Type 0} (Turn : ℕ → W → W → Type 0) (has_turn : ℕ → W 
               elim (carry hs g w moved end reached (good_before g w moved turn b) mover turn b makes) [
                 | Bad ks u short there is_bad ↦
                     absurd (not_both (bad u) is_bad
-                    (shows (λ u. Unit {0}) (λ h x y p t. tt) moved u (m.reached g w moved reached turn) l ks (leads_so ks moved u there)).none_bad)
+                    (shows (λ u. Unit {0}) (λ g x y p n t. tt) moved u (m.reached g w moved reached turn) l ks (leads_so ks moved u there)).none_bad)
                 | WithIt ks short there covers ↦ elim (covers x i) [
                   | inl is ↦ inl (inl is)
                   | inr still ↦ past w g moved mover turn b l (walk_to n shorter moved end (m.reached g w moved reached turn) l ks (omega (arith, le, short)) there still)
                 ]
-                | WithoutIt u there last ↦ past w g moved mover turn b l (walk_to n shorter moved u (m.reached g w moved reached turn) l hs le there i)
+                | WithoutIt u there still last ↦ past w g moved mover turn b l (walk_to n shorter moved u (m.reached g w moved reached turn) l hs le there i)
               ]
 
           walks_to : (n : ℕ) (w end : W) → IsReached w → (l : Chain w) → (hs : List ℕ) → length hs ≤ n → Makes hs w end → IsAmong x hs → MovesFrom l

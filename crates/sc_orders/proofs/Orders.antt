@@ -14,6 +14,13 @@ pub leads_join : {W : Type 0} (Turn : ℕ → W → W → Type 0) (hs gs : List 
 leads_join Turn [] gs x y z same more = subst (λ w. Leads Turn gs w z) same more
 leads_join Turn (h ∷ hs) gs x y z leads more = (leads.0, leads.1, leads_join Turn hs gs leads.0 y z leads.2 more)
 
+-- turns, and then others
+pub leads_split : {W : Type 0} (Turn : ℕ → W → W → Type 0) (hs gs : List ℕ) (x z : W) → Leads Turn (hs ++ gs) x z → (y : W) × Leads Turn hs x y × Leads Turn gs y z
+leads_split Turn [] gs x z leads = (x, refl, leads)
+leads_split Turn (h ∷ hs) gs x z leads =
+    let rest = leads_split Turn hs gs leads.0 z leads.2 in
+    (rest.0, (leads.0, leads.1, rest.1), rest.2)
+
 module _ {W : Type 0} (Turn : ℕ → W → W → Type 0) (IsIn : ℕ → W → Type 0) (has_turn : ℕ → W → Bool) (edges : List Edge) (are : AreEdges Turn IsIn edges)
     (h : ℕ) (busy : List Bool) (are_busy : AreBusy IsIn has_turn h busy) where
   -- edges are turns
@@ -46,7 +53,7 @@ module _ {W : Type 0} (Turn : ℕ → W → W → Type 0) (IsIn : ℕ → W → 
 
 module _ {W : Type 0} (Turn : ℕ → W → W → Type 0) (one : (h : ℕ) (x y z : W) → Turn h x y → Turn h x z → y ≡ z) where
   -- so does each order,
-  one_end : (hs : List ℕ) (x y z : W) → Leads Turn hs x y → Leads Turn hs x z → y ≡ z
+  pub one_end : (hs : List ℕ) (x y z : W) → Leads Turn hs x y → Leads Turn hs x z → y ≡ z
   one_end [] x y z e f = e ∙ sym f
   one_end (h ∷ hs) x y z l m =
       let same : m.0 ≡ l.0 = one h x m.0 l.0 m.1 l.1 in

@@ -73,21 +73,22 @@ pub record AreClosed {W : Type 0} (Turn : ℕ → W → W → Type 0) (has_turn 
   pub leads : (k : W) → IsKept k → (h : ℕ) → has_turn h k ≡ true → (v : W) → Turn h k v →
       LeadsTo Turn bad IsMover IsKept v
 
--- Turns keep it.
-abbrev pub IsStable : {W : Type 0} → (ℕ → W → W → Type 0) → (W → Type 0) → Type 0
-IsStable {W} Turn P = (h : ℕ) (x y : W) → P x → Turn h x y → P y
+-- The turns of movers keep it.
+abbrev pub IsStable : {W : Type 0} → (ℕ → W → W → Type 0) → (ℕ → W → Type 0) → (W → Type 0) → Type 0
+IsStable {W} Turn IsMover P = (g : ℕ) (x y : W) → P x → IsMover g x → Turn g x y → P y
 
 pub record SomeKept {W : Type 0} (IsKept P : W → Type 0) : Type 0 where
   pub world : W
   pub kept : IsKept world
   pub has : P world
 
--- No order leads to a world that is bad, and whatever turns keep is found: if an order leads to a world that has it, so
--- has one that is kept.
-pub record FindAll {W : Type 0} (Turn : ℕ → W → W → Type 0) (bad : W → Bool) (opening : W)
+-- No order leads to a world that is bad. Whatever handlers have their turns, one after the other, they lead somewhere.
+-- Whatever the turns of movers keep is found: if an order leads to a world that has it, so has one that is kept.
+pub record FindAll {W : Type 0} (Turn : ℕ → W → W → Type 0) (bad : W → Bool) (IsMover : ℕ → W → Type 0) (opening : W)
     (IsKept : W → Type 0) : Type 1 where
   pub none_bad : (hs : List ℕ) (v : W) → Leads Turn hs opening v → bad v ≡ false
-  pub found : (P : W → Type 0) → IsStable Turn P → (hs : List ℕ) (v : W) → Leads Turn hs opening v → P v →
+  pub goes : (hs : List ℕ) → (v : W) × Leads Turn hs opening v
+  pub found : (P : W → Type 0) → IsStable Turn IsMover P → (hs : List ℕ) (v : W) → Leads Turn hs opening v → P v →
       SomeKept IsKept P
 
 -- ---- who moves
