@@ -3,6 +3,7 @@ mod Threaded
 mod TurnsMade
 mod Rows
 mod Exactness
+mod JoinedTurns
 mod SearchLaws
 mod Stuck
 mod Everywhere

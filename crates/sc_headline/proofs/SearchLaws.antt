@@ -1,5 +1,5 @@
 -- What a search finds, or doesn't, beside the machine.
-use Rattle.std.proofs.Common.{◌≡◌, ◌⊎◌, ◌<◌, ◌*◌, ◌++◌, ◌∙◌, ◌&&◌, inl, inr, ℕ, Bool, true, false, List, [], ◌∷◌, Option, Some, None, get_or, length, slice_get, refl, sym, ap, subst, arith}
+use Rattle.std.proofs.Common.{◌≡◌, ◌⊎◌, ◌<◌, ◌*◌, ◌++◌, ◌∙◌, ◌&&◌, inl, inr, ℕ, Bool, true, false, List, [], ◌∷◌, Option, Some, None, get_or, refl, sym, ap, subst, arith}
 use Rattle.std.specs.Prelude.{nat_lt}
 use Rattle.std.proofs.lemmas.Bool.{cases_lt, ltb-true}
 use Rattle.std.proofs.lemmas.List.FromFn.{get_or-map-range_with_len, length-map-range_with_len}
@@ -10,22 +10,23 @@ use Rattle.sc_lockpass.specs.Versions.{most_handlers}
 use Rattle.sc_lockpass.specs.declared.version.Version.{Version}
 use Rattle.sc_model.specs.declared.cause.Cause.{Cause}
 use Rattle.sc_model.specs.declared.status.Status.{Status}
-use Rattle.sc_model.specs.declared.status.Status.TheVariants.{Busy, Failed, Free, Waiting}
+use Rattle.sc_model.specs.declared.status.Status.TheVariants.{Busy, Free, Waiting}
 use Rattle.sc_model.specs.Handlers.{Frame, World}
 use Rattle.sc_model.specs.Reports.{status_of, status_with}
-use Rattle.sc_model.specs.Runs.{has_turn, has_turn_with, opening, run}
+use Rattle.sc_model.specs.Runs.{has_turn, has_turn_with, opening}
 use Rattle.sc_model.proofs.Joins.{run_append}
 use Rattle.sc_code.specs.declared.program.Image.{Image}
 use Rattle.sc_orders.specs.Orders.{Leads}
-use Rattle.sc_world.specs.Kept.{KeptAlikeReadAlike, PlainKept, kept}
+use Rattle.sc_world.specs.Kept.{KeptAlikeReadAlike, OpeningsAreOf, PlainKept, RunsStayOf, kept}
 use Rattle.sc_world.specs.Reports.{statuses}
 use Rattle.sc_world.specs.Turning.{Runs}
 use Rattle.sc_world.specs.Worlds.{PlainWorld, opened}
 use Rattle.sc_world.proofs.Runs.{runs-more}
 use Rattle.sc_frontend.specs.Texts.{IsLoaded}
 use Rattle.sc_refines_world.specs.Anew.{AnewRunsAsMachine, IsKeptAs, IsPlayed, RunsAnew}
-use Rattle.sc_refines_world.specs.Refining.{StandingWorldIsNear, WorldReportsAsMachine, WorldRunsAsMachine}
+use Rattle.sc_refines_world.specs.Refining.{StandingWorldIsNear, WorldReportsAsMachine}
 use Rattle.sc_refines_world.specs.Standing.{StandsFor}
+use Rattle.sc_movers.specs.Own.{OwnMovers, OwnTurnsAreMovers}
 use Rattle.sc_search.specs.declared.aims.Aim.{Aim}
 use Rattle.sc_search.specs.declared.aims.Aim.TheVariants as aim
 use Rattle.sc_search.specs.Aims.{HasFailed, HasRefused, IsMet}
@@ -37,21 +38,9 @@ use Rattle.sc_search.specs.Waiting as world
 use Rattle.sc_headline.specs.Exactly.{OneWorld}
 use Rattle.sc_headline.specs.Headline.{machine_after}
 use Rattle.sc_headline.specs.Searched.{FoundOrdersAreTheMachines, IsSought, SearchesGiveUpAtLimits, SomeHasRefused, SomeWaits, WaitsForGood, WholeSearchesFindAll, statuses_in}
+use Rattle.sc_headline.proofs.JoinedTurns as joined
+use Rattle.sc_headline.proofs.JoinedTurns.{is_busy, is_waiting}
 use Rattle.sc_headline.proofs.Stuck.{busy_with, lives}
-
--- ---- statuses
-
-abbrev is_waiting : Status → Bool
-is_waiting (Failed why) = false
-is_waiting Busy = false
-is_waiting Waiting = true
-is_waiting Free = false
-
-abbrev is_busy : Status → Bool
-is_busy (Failed why) = false
-is_busy Busy = true
-is_busy Waiting = false
-is_busy Free = false
 
 -- ---- a handler's status in the list of all
 
@@ -109,6 +98,13 @@ idle_in h w e = by (has_turn h w) refl
         let no : true ≡ false = sym (ap is_busy (listed h w few ∙ busy)) ∙ e in
         cc
 
+not_busy : (h : ℕ) (w : World) → has_turn h w ≡ false → is_busy (get_or (statuses_in w) h Free) ≡ false
+not_busy h w none = by (is_busy (get_or (statuses_in w) h Free)) refl
+  where
+    by : (b : Bool) → is_busy (get_or (statuses_in w) h Free) ≡ b → is_busy (get_or (statuses_in w) h Free) ≡ false
+    by false is = is
+    by true is = let no : true ≡ false = sym (turns_in h w is) ∙ none in cc
+
 -- ---- refused requests
 
 -- Worlds that are kept alike have refused the same.
@@ -151,20 +147,6 @@ module _ (p : Image) (v : Version) where
       let t = leads.1 in
       let on : IsPlayed p v leads.0 = (t.played.0 ++ h ∷ [], runs-more t.played.0 h (opened p v) t.before leads.0 t.played.1 t.turn) in
       (t.before, leads.0, t.played, t.alike, t.turn, anew_leads hs leads.0 y on leads.2)
-
-  module _ (a : Aim) (ks : List PlainKept) (closed : IsClosed p v a ks) where
-    -- From a world in one of the states the turns of any handlers lead to one of the states, each in a world that is played anew.
-    reaches : (hs : List ℕ) (x : PlainWorld) (i : ℕ) → slice_get ks i ≡ Some (kept x) →
-        (j : ℕ) × (k : PlainKept) × (slice_get ks j ≡ Some k) × ((y : PlainWorld) → IsPlayed p v y → kept y ≡ k → RunsAnew p v hs x y)
-    reaches [] x i at = (i, kept x, at, λ y played same. (played, same))
-    reaches (h ∷ hs) x i at =
-        let t = closed.tried i (kept x) at h in
-        let next = reaches hs t.after t.among.number t.among.stands in (
-          next.0,
-          next.1,
-          next.2,
-          λ y played same. (t.before, t.after, (t.stands_in.handlers, t.stands_in.runs), t.stands_in.kept, t.turn, next.3 y played same),
-        )
 
 -- ---- an order that was found
 
@@ -223,31 +205,26 @@ module _ (anew : AnewRunsAsMachine) (alike : KeptAlikeReadAlike) (near : Standin
 
   -- ---- where nothing was found
 
-  module _ (a : Aim) (ks : List PlainKept) (closed : IsClosed p v a ks) where
-    -- no world that is played anew shows what is looked for
+  waits_anew : (hs : List ℕ) (h : ℕ) → WaitsForGood s v h (machine_after s root v hs) → (y : PlainWorld) → RunsAnew p v hs (opened p v) y →
+      is_waiting (get_or (statuses y) h Free) ≡ true
+  waits_anew hs h waits y runs =
+      ap (λ (ss : List Status). is_waiting (get_or ss h Free)) (told hs y runs)
+      ∙ ap is_waiting (listed h (machine_after s root v hs) waits.there ∙ waits.waits)
+
+  idle_anew : (hs : List ℕ) (h : ℕ) → WaitsForGood s v h (machine_after s root v hs) → (gs : List ℕ) (y : PlainWorld) → RunsAnew p v (hs ++ gs) (opened p v) y →
+      is_busy (get_or (statuses y) h Free) ≡ false
+  idle_anew hs h waits gs y runs =
+      let after = machine_after s root v (hs ++ gs) in
+      let none : has_turn h after ≡ false = ap (has_turn h) (run_append most s hs gs (opening s root)) ∙ waits.never gs in
+      ap (λ (ss : List Status). is_busy (get_or ss h Free)) (told (hs ++ gs) y runs) ∙ not_busy h after none
+
+  module _ (own : OwnMovers p v) (open_of : OpeningsAreOf) (stay : RunsStayOf) (a : Aim) (ks : List PlainKept) (closed : IsClosed p v a ks) where
     none_shows : (hs : List ℕ) → ((y : PlainWorld) → RunsAnew p v hs (opened p v) y → IsMet a y) → ⊥
-    none_shows hs shows =
-        let there = reaches p v a ks closed hs (opened p v) closed.opens.number closed.opens.stands in
-        let u = closed.unmet there.0 there.1 there.2 in
-        u.unmet (shows u.world (there.3 u.world (u.stands_in.handlers, u.stands_in.runs) u.stands_in.kept))
+    none_shows hs shows = joined.none_shows alike open_of stay p v own a ks closed hs shows
 
     none_waits : (hs : List ℕ) → AreMoving p v a ks → world.seeks_stuck a ≡ true → SomeWaits s v (machine_after s root v hs) → ⊥
     none_waits hs moving seeks waits =
-        let w = machine_after s root v hs in
-        let h : ℕ = waits.0 in
-        let there = reaches p v a ks closed hs (opened p v) closed.opens.number closed.opens.stands in
-        let m = moving seeks there.0 there.1 there.2 in
-        let runs = there.3 m.world m.played m.kept_is in
-        let now : is_waiting (get_or (statuses m.world) h Free) ≡ true =
-        ap (λ (ss : List Status). is_waiting (get_or ss h Free)) (told hs m.world runs)
-        ∙ ap is_waiting (listed h w waits.1.there ∙ waits.1.waits) in
-        let on = m.moves h now in
-        let gs : List ℕ = on.handlers in
-        let all = anew_join p v hs gs (opened p v) m.world on.world runs (anew_leads p v gs m.world on.world m.played on.leads) in
-        let turns : has_turn h (machine_after s root v (hs ++ gs)) ≡ true =
-        turns_in h (machine_after s root v (hs ++ gs)) (subst (λ (ss : List Status). is_busy (get_or ss h Free) ≡ true) (told (hs ++ gs) on.world all) on.turn) in
-        let no : true ≡ false = sym turns ∙ ap (has_turn h) (run_append most s hs gs (opening s root)) ∙ waits.1.never gs in
-        cc
+        joined.none_waits alike open_of stay p v own a ks closed moving seeks hs waits.0 (waits_anew hs waits.0 waits.1) (idle_anew hs waits.0 waits.1)
 
   fails_anew : (hs : List ℕ) (y : PlainWorld) → RunsAnew p v hs (opened p v) y → HasFailed (statuses_in (machine_after s root v hs)) → HasFailed (statuses y)
   fails_anew hs y runs failed = subst HasFailed (sym (told hs y runs)) failed
@@ -257,13 +234,14 @@ module _ (anew : AnewRunsAsMachine) (alike : KeptAlikeReadAlike) (near : Standin
       let k = kept_as hs y runs in
       refused_alike k.world y k.alike.same (world_refuses s p (machine_after s root v hs) k.world k.stands refused)
 
-  pub none_sought : (a : Aim) (ks : List PlainKept) → IsClosed p v a ks → AreMoving p v a ks → (hs : List ℕ) → IsSought s v a (machine_after s root v hs) → ⊥
-  none_sought aim.Stuck ks closed moving hs waits = none_waits aim.Stuck ks closed hs moving refl waits
-  none_sought aim.Fails ks closed moving hs failed = none_shows aim.Fails ks closed hs (λ y runs. fails_anew hs y runs failed)
-  none_sought aim.Refused ks closed moving hs refused = none_shows aim.Refused ks closed hs (λ y runs. refuses_anew hs y runs refused)
-  none_sought aim.Any ks closed moving hs (inl waits) = none_waits aim.Any ks closed hs moving refl waits
-  none_sought aim.Any ks closed moving hs (inr (inl failed)) = none_shows aim.Any ks closed hs (λ y runs. inr (inl (fails_anew hs y runs failed)))
-  none_sought aim.Any ks closed moving hs (inr (inr refused)) = none_shows aim.Any ks closed hs (λ y runs. inr (inr (refuses_anew hs y runs refused)))
+  pub none_sought : OwnMovers p v → OpeningsAreOf → RunsStayOf → (a : Aim) (ks : List PlainKept) → IsClosed p v a ks → AreMoving p v a ks →
+      (hs : List ℕ) → IsSought s v a (machine_after s root v hs) → ⊥
+  none_sought own open_of stay aim.Stuck ks closed moving hs waits = none_waits own open_of stay aim.Stuck ks closed hs moving refl waits
+  none_sought own open_of stay aim.Fails ks closed moving hs failed = none_shows own open_of stay aim.Fails ks closed hs (λ y runs. fails_anew hs y runs failed)
+  none_sought own open_of stay aim.Refused ks closed moving hs refused = none_shows own open_of stay aim.Refused ks closed hs (λ y runs. refuses_anew hs y runs refused)
+  none_sought own open_of stay aim.Any ks closed moving hs (inl waits) = none_waits own open_of stay aim.Any ks closed hs moving refl waits
+  none_sought own open_of stay aim.Any ks closed moving hs (inr (inl failed)) = none_shows own open_of stay aim.Any ks closed hs (λ y runs. inr (inl (fails_anew hs y runs failed)))
+  none_sought own open_of stay aim.Any ks closed moving hs (inr (inr refused)) = none_shows own open_of stay aim.Any ks closed hs (λ y runs. inr (inr (refuses_anew hs y runs refused)))
 
 pub found : AnewRunsAsMachine → KeptAlikeReadAlike → StandingWorldIsNear → WorldReportsAsMachine → FoundOrdersAreTheMachines
 found anew alike near tells text root program version lines a loaded leads = record {
@@ -273,12 +251,15 @@ found anew alike near tells text root program version lines a loaded leads = rec
   sought = sought_too anew alike near tells text root program version loaded a (turns_of lines) leads.world leads.runs leads.holds;
 }
 
-pub whole : AnewRunsAsMachine → KeptAlikeReadAlike → StandingWorldIsNear → WorldReportsAsMachine → WholeSearchesFindAll
-whole anew alike near tells text root program version a states loaded closed moving = record {
+pub whole : AnewRunsAsMachine → KeptAlikeReadAlike → StandingWorldIsNear → WorldReportsAsMachine → OwnTurnsAreMovers → OpeningsAreOf → RunsStayOf → WholeSearchesFindAll
+whole anew alike near tells movers open_of stay text root program version a states loaded closed moving = record {
   system = loaded.system;
   read = loaded.read;
   sound = loaded.sound;
-  none = λ handlers sought. none_sought anew alike near tells text root program version loaded a states closed moving handlers sought;
+  none = λ handlers sought.
+      none_sought anew alike near tells text root program version loaded
+      (movers loaded.system root loaded.sound.faultless loaded.sound.well_formed program version loaded.is_program loaded.fits) open_of stay a states closed moving
+      handlers sought;
 }
 
 -- ---- where a search gives up

@@ -8,6 +8,7 @@ ghost use Rattle.sc_headline.specs.ThreadsHeadline.{ThreadsHaveHeadline, Threads
 ghost use Rattle.sc_world.specs.Views.{world_of};
 
 use sc_driver::laws::{misfits_are_no_record, one_misfit, runs_audit_yes};
+use sc_movers::laws::own_turns_are_movers;
 use sc_plant::laws::runs_are_one_threads;
 use sc_refines_world::laws::{
     anew_runs_as_machine, attempts_have_headline, idle_world_is_idle, machine_has_headline,
@@ -18,6 +19,7 @@ use sc_request::laws::core_picks_where_the_machine_turns;
 use sc_world::World;
 use sc_world::laws::{
     attempts_stay_of_their_program, kept_alike_read_alike, openings_are_of_their_program,
+    runs_stay_of_their_program,
 };
 
 /// For every source text that is accepted, and whatever handlers make turns, in every order, of the state that the machine on
@@ -158,6 +160,9 @@ pub fn whole_searches_find_all()
     kept_alike_read_alike();
     standing_world_is_near();
     world_reports_as_machine();
+    own_turns_are_movers();
+    openings_are_of_their_program();
+    runs_stay_of_their_program();
 }
 
 /// For every source text that is accepted: where a search of its program gives up, it has met as many states as it may keep, or has

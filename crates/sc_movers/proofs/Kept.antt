@@ -21,7 +21,7 @@ use Rattle.sc_world.specs.Worlds.{PlainWorld, opened}
 use Rattle.sc_world.proofs.Runs.{runs-more}
 use Rattle.sc_refines_world.specs.Anew.{IsPlayed}
 use Rattle.sc_refines_world.specs.Functional.{RunsAreFunctional}
-use Rattle.sc_movers.specs.Kept.{IsReached, Turn, has_failed, has_turn}
+use Rattle.sc_movers.specs.Kept.{IsReached, Turn, has_failed, has_turn, never}
 use Rattle.sc_movers.proofs.Failed.{failed_stays}
 
 -- a handler that isn't out has its job to do
@@ -114,3 +114,7 @@ module _ (turn_alike : KeptAlikeTurnAlike) (open_of : OpeningsAreOf) (stay : Run
 
     pub kept_machine : IsMachine (Turn p v) has_turn has_failed (IsReached p v)
     kept_machine = record { one = leads_to_one; idle = idles; reached = reaches; stays_bad = fails_still }
+
+    -- a machine in which nothing ends a search
+    pub whole_machine : IsMachine (Turn p v) has_turn never (IsReached p v)
+    whole_machine = record { one = leads_to_one; idle = idles; reached = reaches; stays_bad = λ h x y e t. e }

@@ -1,5 +1,5 @@
 -- Turns that ask nothing of other handlers are movers.
-use Rattle.std.proofs.Common.{◌≡◌, ◌∙◌, ℕ, zero, suc, true, false, List, [], ◌∷◌, Option, Some, None, refl, sym, ap}
+use Rattle.std.proofs.Common.{◌≡◌, ◌∙◌, ℕ, zero, suc, Bool, true, false, List, [], ◌∷◌, Option, Some, None, refl, sym, ap}
 use Rattle.std.specs.Prelude.{is_some, slice_get, slice_set}
 use Rattle.std.proofs.lemmas.List.{set_comm}
 use Rattle.sc_lockpass.specs.declared.version.Version.{Version}
@@ -22,9 +22,9 @@ use Rattle.sc_world.specs.Worlds.{PlainWorld}
 use Rattle.sc_refines_world.specs.Anew.{IsPlayed}
 use Rattle.sc_refines_world.specs.Functional.{RunsAreFunctional}
 use Rattle.sc_refines_world.proofs.OtherStages.{go_runs, going_stays, has_job, job_there}
-use Rattle.sc_movers.specs.Kept.{IsReached, Turn, has_failed, has_turn}
+use Rattle.sc_movers.specs.Kept.{IsReached, Turn, has_failed, has_turn, never, some_below}
 use Rattle.sc_movers.specs.Own.{IsOwn, IsOwnTurn, OwnTurnsAreMovers}
-use Rattle.sc_movers.proofs.Kept.{Goes, Idles, TurnCases, cases_turn, job_is, kept_machine, out_none, plays_on, turn_from, turn_of_job}
+use Rattle.sc_movers.proofs.Kept.{Goes, Idles, TurnCases, cases_turn, job_is, kept_machine, out_none, plays_on, turn_from, turn_of_job, whole_machine}
 
 -- ---- one turn
 
@@ -147,9 +147,10 @@ none_is_some None e t = cc
 none_is_some (Some j) e t = cc
 
 module _ (turn_alike : KeptAlikeTurnAlike) (open_of : OpeningsAreOf) (stay : RunsStayOf) (p : Image) (v : Version)
-    (one : (h : ℕ) (k l m : PlainKept) → Turn p v h k l → Turn p v h k m → l ≡ m) where
+    (one : (h : ℕ) (k l m : PlainKept) → Turn p v h k l → Turn p v h k m → l ≡ m) (bad : PlainKept → Bool)
+    (by_state : (k l : PlainKept) → k.state ≡ l.state → bad k ≡ bad l) where
   abbrev Meets : ℕ → ℕ → PlainKept → PlainKept → Type 0
-  Meets g h k moved = Meet (Turn p v) has_turn has_failed (IsReached p v) (IsOwn p v) g h k moved
+  Meets g h k moved = Meet (Turn p v) has_turn bad (IsReached p v) (IsOwn p v) g h k moved
 
   -- the own turn, between kept states
   own_turn : (g : ℕ) (k : PlainKept) → (o : IsOwn p v g k) → Turn p v g k (kept o.after)
@@ -162,8 +163,15 @@ module _ (turn_alike : KeptAlikeTurnAlike) (open_of : OpeningsAreOf) (stay : Run
     kept_after = refl;
   }
 
-  has : (g : ℕ) (k : PlainKept) → IsReached p v k → has_failed k ≡ false → IsOwn p v g k → has_turn g k ≡ true
+  has : (g : ℕ) (k : PlainKept) → IsReached p v k → bad k ≡ false → IsOwn p v g k → has_turn g k ≡ true
   has g k r good o = ap is_some (sym (job_is turn_alike open_of stay p v g k o.before o.kept_is) ∙ o.own.goes)
+
+  -- it leaves the core's state as it is
+  own_stays : (g : ℕ) (k l : PlainKept) → (o : IsOwn p v g k) → Turn p v g k l → l.state ≡ k.state
+  own_stays g k l o t =
+      ap (λ (m : PlainKept). m.state) (one g k l (kept o.after) t (own_turn g k o))
+      ∙ ap canon (own_state g o.before o.after o.own)
+      ∙ ap (λ (m : PlainKept). m.state) o.kept_is
 
   module _ (g h : ℕ) (k moved : PlainKept) (meet : Meets g h k moved) where
     abbrev o : IsOwn p v g k
@@ -225,8 +233,8 @@ module _ (turn_alike : KeptAlikeTurnAlike) (open_of : OpeningsAreOf) (stay : Run
           };
         }
 
-    shows : (other : PlainKept) → Turn p v h k other → has_failed other ≡ true → ShowsBad (Turn p v) has_failed h moved
-    shows other t bad =
+    shows : (other : PlainKept) → Turn p v h k other → bad other ≡ true → ShowsBad (Turn p v) bad h moved
+    shows other t is_bad =
         let there = other_turn other t in
         let last = after_own g h meet.differ there.job o.before o.after o.own there.world there.makes in
         let state = after_state g h meet.differ there.job o.before o.after o.own there.world there.makes in
@@ -241,9 +249,7 @@ module _ (turn_alike : KeptAlikeTurnAlike) (open_of : OpeningsAreOf) (stay : Run
                 (ap (job_of h) (own_state g o.before o.after o.own) ∙ there.due) last.makes;
             kept_after = refl;
           };
-          is_bad =
-              ap (λ (s : State). has_failed (record { state = canon s; regions = contents_at last.world.regions })) state
-              ∙ ap has_failed there.kept_is ∙ bad;
+          is_bad = by_state (kept last.world) (kept there.world) (ap canon state) ∙ ap bad there.kept_is ∙ is_bad;
         }
 
     goes : (after : PlainKept) → Turn p v h moved after → (other : PlainKept) × Turn p v h k other
@@ -269,16 +275,26 @@ module _ (turn_alike : KeptAlikeTurnAlike) (open_of : OpeningsAreOf) (stay : Run
               },
             )
 
-  own_movers : AreMovers (Turn p v) has_turn has_failed (IsReached p v) (IsOwn p v)
+  own_movers : AreMovers (Turn p v) has_turn bad (IsReached p v) (IsOwn p v)
   own_movers = record {
     has = has;
     leaves = leaves;
     commute = λ g h k moved other meet t good. commutes g h k moved meet other t;
-    shows = λ g h k moved other meet t bad. shows g h k moved meet other t bad;
+    shows = λ g h k moved other meet t is_bad. shows g h k moved meet other t is_bad;
     goes = λ g h k moved after meet t. goes g h k moved meet after t;
   }
+
+failed_by_state : (k l : PlainKept) → k.state ≡ l.state → has_failed k ≡ has_failed l
+failed_by_state k l e = ap (λ (s : State). some_below s.count (λ h. is_some (s.handlers h).failure)) e
 
 pub own_turns_are_movers : KeptAlikeTurnAlike → OpeningsAreOf → RunsStayOf → RunsAreFunctional → OwnTurnsAreMovers
 own_turns_are_movers turn_alike open_of stay one_run s root faultless well p v program fits =
     let machine = kept_machine turn_alike open_of stay p v s root one_run faultless well program fits in
-    record { machine = machine; movers = own_movers turn_alike open_of stay p v machine.one }
+    let whole = whole_machine turn_alike open_of stay p v s root one_run faultless well program fits in
+    record {
+      machine = machine;
+      movers = own_movers turn_alike open_of stay p v machine.one has_failed failed_by_state;
+      whole_machine = whole;
+      movers_anywhere = own_movers turn_alike open_of stay p v machine.one never (λ k l e. refl);
+      stays = own_stays turn_alike open_of stay p v machine.one never (λ k l e. refl);
+    }

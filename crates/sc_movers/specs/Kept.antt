@@ -34,3 +34,7 @@ some_below (suc n) f = f n || some_below n f
 -- whether some handler has failed
 abbrev pub has_failed : PlainKept → Bool
 has_failed k = some_below k.state.count (λ h. is_some (k.state.handlers h).failure)
+
+-- whether something is shown that ends a search: nothing is
+abbrev pub never : PlainKept → Bool
+never k = false

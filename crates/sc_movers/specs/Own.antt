@@ -13,7 +13,7 @@ use Rattle.sc_world.specs.Kept.{PlainKept, kept}
 use Rattle.sc_world.specs.Turning.{Makes}
 use Rattle.sc_world.specs.Worlds.{PlainWorld}
 use Rattle.sc_refines_world.specs.Anew.{IsPlayed}
-use Rattle.sc_movers.specs.Kept.{IsReached, Turn, has_failed, has_turn}
+use Rattle.sc_movers.specs.Kept.{IsReached, Turn, has_failed, has_turn, never}
 
 -- The turn of the handler goes on with its routine and asks nothing: it prints, goes round in a loop, starts a body, or
 -- makes, reads or calls an object of its own.
@@ -31,10 +31,13 @@ pub record IsOwn (p : Image) (v : Version) (h : ℕ) (k : PlainKept) : Type 0 wh
   pub own : IsOwnTurn h before after
 
 -- In the program of an accepted system, what is kept of worlds are the states of a machine, and the turns that ask nothing
--- are movers in it.
+-- are movers in it, wherever handlers have failed or not. They leave the core's state as it is.
 pub record OwnMovers (p : Image) (v : Version) : Type 0 where
   pub machine : IsMachine (Turn p v) has_turn has_failed (IsReached p v)
   pub movers : AreMovers (Turn p v) has_turn has_failed (IsReached p v) (IsOwn p v)
+  pub whole_machine : IsMachine (Turn p v) has_turn never (IsReached p v)
+  pub movers_anywhere : AreMovers (Turn p v) has_turn never (IsReached p v) (IsOwn p v)
+  pub stays : (g : ℕ) (k l : PlainKept) → IsOwn p v g k → Turn p v g k l → l.state ≡ k.state
 
 abbrev pub OwnTurnsAreMovers : Type 0
 OwnTurnsAreMovers = WhereAccepted λ s root.

@@ -19,7 +19,7 @@ use Rattle.sc_search.proofs.Reasons.{there_is}
 use Rattle.sc_search.proofs.TriedTurns.{TriesBelow, tries_all, tries_none}
 use Rattle.sc_search.proofs.Waits.{idle_job}
 
-module _ (p : Image) (v : Version) (a : Aim) (x : Met) (os : List (List ℕ)) (ts : List (List Status)) (turns number : ℕ) (row : List Status)
+module _ (p : Image) (v : Version) (a : Aim) (joined : ℕ) (x : Met) (os : List (List ℕ)) (ts : List (List Status)) (turns number : ℕ) (row : List Status)
     (so : AreReached p v a x.states os ts turns) (there : number < length x.states) (at : slice_get ts number ≡ Some row) where
   state : (k : PlainKept) × (slice_get x.states number ≡ Some k)
   state = there_is x.states number there
@@ -37,11 +37,11 @@ module _ (p : Image) (v : Version) (a : Aim) (x : Met) (os : List (List ℕ)) (t
   none h idle = idle_job p v a was.world h (ap (λ (ss : List Status). is_of kind.IsBusy (get_or ss h Free)) same_row ∙ idle)
 
   -- the turn of one that isn't busy leads nowhere
-  pub tries_idle : (h : ℕ) → is_of kind.IsBusy (get_or row h Free) ≡ false → Tries p v a x x number h
-  tries_idle h idle = tries_none p v a number h was.order was.world x stands (none h idle)
+  pub tries_idle : (h : ℕ) → is_of kind.IsBusy (get_or row h Free) ≡ false → Tries p v a joined x x number h
+  tries_idle h idle = tries_none p v a joined number h was.order was.world x stands (none h idle)
 
   -- nor does that of one that there isn't
-  pub tries_rest : (y : Met) (below : ℕ) → TriesBelow p v a x y number below → length row ≤ below → TriesAll p v a x y number
+  pub tries_rest : (y : Met) (below : ℕ) → TriesBelow p v a joined x y number below → length row ≤ below → TriesAll p v a joined x y number
   tries_rest y below so_far all =
-      tries_all p v a x y number was.order was.world below so_far stands
+      tries_all p v a joined x y number was.order was.world below so_far stands
       (λ h past. none h (ap (is_of kind.IsBusy) (get_or_past row h Free (omega (arith, all, past)))))

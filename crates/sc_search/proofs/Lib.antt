@@ -4,11 +4,12 @@ mod Stores
 mod LineTurns
 mod OrderEnds
 mod Reasons
-mod TriedTurns
+pub mod TriedTurns
 mod Orders
+mod Joins
 mod Loaded
 mod LoadedStates
-mod Waits
+pub mod Waits
 mod IdleHandlers
 mod Verdicts
 mod Rows

@@ -1,26 +1,30 @@
 -- Worlds that are loaded, and the worlds that were reached.
-use Rattle.std.proofs.Common.{◌≡◌, ◌⊎◌, ◌<◌, ◌++◌, ◌∷◌, [], ◌∙◌, ℕ, List, Option, Some, get_or, length, slice_get, refl, sym, ap, subst, append_assoc}
+use Rattle.std.proofs.Common.{◌≡◌, ◌⊎◌, ◌<◌, ◌++◌, ◌∷◌, [], ◌∙◌, ℕ, zero, suc, List, Option, Some, get_or, length, slice_get, refl, sym, ap, subst, append_assoc}
 use Rattle.std.proofs.lemmas.List.{append-nil}
 use Rattle.std.proofs.lemmas.Option.{get_or_from_slice_get}
 use Rattle.sc_lockpass.specs.Versions.{most_handlers}
 use Rattle.sc_lockpass.specs.declared.version.Version.{Version}
 use Rattle.sc_model.specs.declared.status.Status.{Status}
 use Rattle.sc_code.specs.declared.program.Image.{Image}
+use Rattle.sc_play.specs.Regions.{PlainRegion}
 use Rattle.sc_world.specs.Free.{OpeningsAreLinked, RunsStayLinked}
-use Rattle.sc_world.specs.Kept.{IsOf, KeptAlikeReadAlike, KeptAlikeTurnAlike, OpeningsAreOf, PlainKept, RunsStayOf, kept}
+use Rattle.sc_world.specs.Kept.{AreKeptAlike, IsOf, KeptAlikeReadAlike, KeptAlikeTurnAlike, OpeningsAreOf, PlainKept, RunsStayOf, kept}
 use Rattle.sc_world.specs.Reports.{statuses}
 use Rattle.sc_world.specs.Turning.{IsTurn, Runs}
 use Rattle.sc_world.specs.Worlds.{PlainWorld, opened}
+use Rattle.sc_world.proofs.KeptWorlds.{regions_are}
 use Rattle.sc_world.proofs.Runs.{runs-more}
 use Rattle.sc_search.specs.declared.aims.Aim.{Aim}
 use Rattle.sc_search.specs.Aims.{IsMet}
+use Rattle.sc_search.specs.Joined.{AsksNothing, GoesOn, GoesOnUpTo}
 use Rattle.sc_search.specs.Steps.{Keeps, Tries}
 use Rattle.sc_search.specs.Stops.{AreReached, MeetsAfter}
 use Rattle.sc_search.specs.Stored.{IsAlikeAfter, IsBacked}
 use Rattle.sc_search.specs.Views.{Met}
+use Rattle.sc_search.specs.Waiting.{IsPlayed}
 use Rattle.sc_search.proofs.KeptStates.{met_alike}
 use Rattle.sc_search.proofs.Reasons.{there_is}
-use Rattle.sc_search.proofs.TriedTurns.{tries}
+use Rattle.sc_search.proofs.TriedTurns.{plays_on, tries}
 
 module _ (open_of : OpeningsAreOf) (stay_of : RunsStayOf) (p : Image) (v : Version) where
   pub of_reached : (order : List ℕ) (w : PlainWorld) → Runs order (opened p v) w → IsOf p (most_handlers v) w
@@ -97,13 +101,43 @@ module _ (open_of : OpeningsAreOf) (stay_of : RunsStayOf) (p : Image) (v : Versi
   }
 
   module _ (alike_turn : KeptAlikeTurnAlike) (alike_read : KeptAlikeReadAlike) where
-    -- a turn in a loaded world is tried
-    pub tries_alike : (a : Aim) (order : List ℕ) (number h : ℕ) (w u : PlainWorld) (x y : Met) → IsOf p (most_handlers v) w → IsOf p (most_handlers v) u → IsAlikeAfter p v order w →
-        slice_get x.states number ≡ Some (kept w) → IsTurn h w u → Keeps a u (Some number) x y → Tries p v a x y number h
-    tries_alike a order number h w u x y of its after at turn keeps =
-        let t = alike_turn p (most_handlers v) w after.world (record { of = of; its = of_reached order after.world after.runs; same = sym after.alike }) h u turn in
-        let more : Runs (order ++ h ∷ []) (opened p v) t.after = runs-more order h (opened p v) after.world t.after after.runs t.turn in
-        let same : statuses t.after ≡ statuses u =
-        (alike_read p (most_handlers v) t.after u (record { of = of_reached (order ++ h ∷ []) t.after more; its = its; same = t.kept })).statuses in
-        tries p v a order number h after.world t.after x y after.runs (at ∙ ap (λ (z : PlainKept). Some z) (sym after.alike)) t.turn
-        (keeps_alike a t.after u (Some number) x y t.kept same keeps)
+    -- what asks nothing in a world asks nothing in one that is kept alike
+    asks_alike : (h : ℕ) (x y : PlainWorld) → AreKeptAlike p (most_handlers v) x y → AsksNothing h x → AsksNothing h y
+    asks_alike h x y alike asks = record {
+      goes = sym ((alike_read p (most_handlers v) x y alike).jobs h) ∙ asks.goes;
+      region = asks.region;
+      stands = ap (λ (rs : List PlainRegion). slice_get rs h) (sym (regions_are p (most_handlers v) x y alike)) ∙ asks.stands;
+      wants = asks.wants;
+    }
+
+    -- turns that ask nothing stay in the program
+    of_on : (h n : ℕ) (x y : PlainWorld) → IsOf p (most_handlers v) x → GoesOn h n x y → IsOf p (most_handlers v) y
+    of_on h zero x y of same = subst (IsOf p (most_handlers v)) (sym same) of
+    of_on h (suc n) x y of on = stay_of p (most_handlers v) (h ∷ []) on.0 y (of_on h n x on.0 of on.1) (y, on.3, refl)
+
+    -- they go on alike from a world that was played
+    goes_alike : (h n : ℕ) (x y w : PlainWorld) → IsOf p (most_handlers v) x → IsPlayed p v w → kept w ≡ kept x → GoesOn h n x y → (z : PlainWorld) × GoesOn h n w z × (kept z ≡ kept y)
+    goes_alike h zero x y w of played same on = (w, refl, same ∙ ap kept (sym on))
+    goes_alike h (suc n) x y w of played same on =
+        let m = on.0 in
+        let before = goes_alike h n x m w of played same on.1 in
+        let there : IsPlayed p v before.0 = plays_on p v h n w before.0 played before.1 in
+        let alike : AreKeptAlike p (most_handlers v) m before.0 =
+        record { of = of_on h n x m of on.1; its = of_reached there.0 before.0 there.1; same = sym before.2 } in
+        let t = alike_turn p (most_handlers v) m before.0 alike h y on.3 in
+        (t.after, (before.0, before.1, asks_alike h m before.0 alike on.2, t.turn), t.kept)
+
+    -- a turn in a loaded world, joined with others, is tried
+    pub tries_alike : (a : Aim) (joined : ℕ) (order : List ℕ) (number h : ℕ) (w m u : PlainWorld) (x y : Met) → IsOf p (most_handlers v) w → IsOf p (most_handlers v) m →
+        IsAlikeAfter p v order w → slice_get x.states number ≡ Some (kept w) → IsTurn h w m → GoesOnUpTo joined h m u → Keeps a u (Some number) x y →
+        Tries p v a joined x y number h
+    tries_alike a joined order number h w m u x y of its after at turn on keeps =
+        let t = alike_turn p (most_handlers v) w after.world (record { of = of; its = of_reached order after.world after.runs; same = sym after.alike }) h m turn in
+        let next : IsPlayed p v t.after = (order ++ h ∷ [], runs-more order h (opened p v) after.world t.after after.runs t.turn) in
+        let last = goes_alike h on.turns m u t.after its next t.kept on.goes_on in
+        let there : IsPlayed p v last.0 = plays_on p v h on.turns t.after last.0 next last.1 in
+        let same : statuses last.0 ≡ statuses u =
+        (alike_read p (most_handlers v) last.0 u (record { of = of_reached there.0 last.0 there.1; its = of_on h on.turns m u its on.goes_on; same = last.2 })).statuses in
+        tries p v a joined order number h after.world last.0 x y after.runs (at ∙ ap (λ (z : PlainKept). Some z) (sym after.alike))
+        (record { next = t.after; turn = t.turn; on = record { turns = on.turns; few = on.few; goes_on = last.1 } })
+        (keeps_alike a last.0 u (Some number) x y last.2 same keeps)

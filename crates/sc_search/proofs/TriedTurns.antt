@@ -1,5 +1,5 @@
 -- Turns that are tried.
-use Rattle.std.proofs.Common.{◌≡◌, ◌⊎◌, ◌+◌, ◌<◌, ◌^◌, ◌≤◌, ◌++◌, ◌∙◌, inl, inr, ℕ, Bool, true, false, List, [], ◌∷◌, Option, Some, None, get_or, is_some, length, slice_get, refl, sym, ap, subst, arith}
+use Rattle.std.proofs.Common.{◌≡◌, ◌⊎◌, ◌+◌, ◌<◌, ◌^◌, ◌≤◌, ◌++◌, ◌∙◌, inl, inr, ℕ, zero, suc, Bool, true, false, List, [], ◌∷◌, Option, Some, None, get_or, is_some, length, slice_get, refl, sym, ap, subst, arith}
 use Rattle.std.specs.Prelude.{nat_lt, if◌then◌else◌}
 use Rattle.std.proofs.lemmas.Bool.{cases_lt, ltb-true}
 use Rattle.std.proofs.lemmas.Option.{slice_get-get_or, slice_get_within}
@@ -16,8 +16,10 @@ use Rattle.sc_world.proofs.Runs.{runs-more}
 use Rattle.sc_search.specs.declared.aims.Aim.{Aim}
 use Rattle.sc_search.specs.Closed.{IsAmong, IsClosed, IsUnmet}
 use Rattle.sc_search.specs.Aims.{IsMet}
+use Rattle.sc_search.specs.Joined.{GoesOn, IsJoinedTurn}
 use Rattle.sc_search.specs.Steps.{AddsEdge, AreTurns, AreUnmet, Extends, IsEdge, IsExplored, IsTriedAlong, IsTriedAt, Keeps, Opens, OpensAlone, Stands, Tries, TriesAll}
 use Rattle.sc_search.specs.Views.{Met, nothing_met}
+use Rattle.sc_search.specs.Waiting.{IsPlayed}
 use Rattle.sc_search.proofs.KeptStates.{get_before, get_either, get_last, same_some}
 
 -- an edge that is added
@@ -35,12 +37,36 @@ adds_here from to es fs more = record {
 }
 
 module _ (p : Image) (v : Version) (a : Aim) where
+  -- there is none from the count on
+  pub none_past : (h : ℕ) (c : Center) → c.state.count ≤ h → pick_for h c ≡ None
+  none_past h c past = by (is_some (c.out h)) (nat_lt h c.state.count) _ refl
+    where
+      by : (o b : Bool) (j : Option Job) → nat_lt h c.state.count ≡ b → (if o then None else (if b then j else None)) ≡ None
+      by true b j e = refl
+      by false false j e = refl
+      by false true j e = absurd (omega (arith, past, ltb-true h c.state.count e))
+
+-- ---- joined turns
+
+module _ (p : Image) (v : Version) where
+  -- they are turns, one after the other
+  pub plays_on : (h n : ℕ) (x y : PlainWorld) → IsPlayed p v x → GoesOn h n x y → IsPlayed p v y
+  plays_on h zero x y played same = subst (IsPlayed p v) (sym same) played
+  plays_on h (suc n) x y played on =
+      let before = plays_on h n x on.0 played on.1 in
+      (before.0 ++ h ∷ [], runs-more before.0 h (opened p v) on.0 y before.1 on.3)
+
+  pub plays_joined : (joined h : ℕ) (x y : PlainWorld) → IsPlayed p v x → IsJoinedTurn joined h x y → IsPlayed p v y
+  plays_joined joined h x y played t =
+      plays_on h t.on.turns t.next y (played.0 ++ h ∷ [], runs-more played.0 h (opened p v) x t.next played.1 t.turn) t.on.goes_on
+
+module _ (p : Image) (v : Version) (a : Aim) (joined : ℕ) where
   -- ---- states behind others
 
-  pub extends_none : (x : Met) → Extends p v a x x
+  pub extends_none : (x : Met) → Extends p v a joined x x
   extends_none x = record { stay = λ i k at. at; unmet = λ all. all; edges_stay = λ place e at. at; turns = λ all. all }
 
-  pub extends_all : (x y z : Met) → Extends p v a x y → Extends p v a y z → Extends p v a x z
+  pub extends_all : (x y z : Met) → Extends p v a joined x y → Extends p v a joined y z → Extends p v a joined x z
   extends_all x y z e f = record {
     stay = λ i k at. f.stay i k (e.stay i k at);
     unmet = λ all. f.unmet (e.unmet all);
@@ -61,7 +87,7 @@ module _ (p : Image) (v : Version) (a : Aim) where
       one i k (inl at) = all i k at
       one i k (inr new) = record { world = w; stands_in = record { handlers = hs; runs = runs; kept = sym new }; unmet = unmet }
 
-  edge_still : (ks ls : List PlainKept) (e : Edge) → ((i : ℕ) (k : PlainKept) → slice_get ks i ≡ Some k → slice_get ls i ≡ Some k) → IsEdge p v ks e → IsEdge p v ls e
+  edge_still : (ks ls : List PlainKept) (e : Edge) → ((i : ℕ) (k : PlainKept) → slice_get ks i ≡ Some k → slice_get ls i ≡ Some k) → IsEdge p v joined ks e → IsEdge p v joined ls e
   edge_still ks ls e stay is = record {
     handler = is.handler;
     before = is.before;
@@ -73,7 +99,7 @@ module _ (p : Image) (v : Version) (a : Aim) where
   }
 
   -- the first state is kept
-  pub extends_opening : (hs : List ℕ) (w : PlainWorld) (x y : Met) → Runs hs (opened p v) w → Keeps a w None x y → Extends p v a x y
+  pub extends_opening : (hs : List ℕ) (w : PlainWorld) (x y : Met) → Runs hs (opened p v) w → Keeps a w None x y → Extends p v a joined x y
   extends_opening hs w x y runs keeps = record {
     stay = grows_stay w x.states y.states keeps.grows;
     unmet = grows_unmet hs w x.states y.states runs keeps.unmet keeps.grows;
@@ -83,20 +109,23 @@ module _ (p : Image) (v : Version) (a : Aim) where
   }
 
   -- a world to which the turn of a handler leads is kept
-  pub extends_kept : (hs : List ℕ) (number h : ℕ) (u w : PlainWorld) (x y : Met) → Runs hs (opened p v) u → slice_get x.states number ≡ Some (kept u) → IsTurn h u w →
-      Keeps a w (Some number) x y → Extends p v a x y
+  pub extends_kept : (hs : List ℕ) (number h : ℕ) (u w : PlainWorld) (x y : Met) → Runs hs (opened p v) u → slice_get x.states number ≡ Some (kept u) → IsJoinedTurn joined h u w →
+      Keeps a w (Some number) x y → Extends p v a joined x y
   extends_kept hs number h u w x y runs at turn keeps = record {
     stay = stay;
-    unmet = grows_unmet (hs ++ h ∷ []) w x.states y.states (runs-more hs h (opened p v) u w runs turn) keeps.unmet keeps.grows;
+    unmet = grows_unmet all.0 w x.states y.states all.1 keeps.unmet keeps.grows;
     edges_stay = adds_stay (Some number) keeps.among.number x.edges y.edges keeps.edge;
     turns = λ all place e at_e. one all place e
         (get_either x.edges keeps.edge.0 place e (subst (λ (xs : List Edge). slice_get xs place ≡ Some e) keeps.edge.3 at_e));
   }
     where
+      all : IsPlayed p v w
+      all = plays_joined p v joined h u w (hs, runs) turn
+
       stay : (i : ℕ) (k : PlainKept) → slice_get x.states i ≡ Some k → slice_get y.states i ≡ Some k
       stay = grows_stay w x.states y.states keeps.grows
 
-      new : IsEdge p v y.states keeps.edge.0
+      new : IsEdge p v joined y.states keeps.edge.0
       new = record {
         handler = h;
         before = u;
@@ -107,11 +136,11 @@ module _ (p : Image) (v : Version) (a : Aim) where
         to = subst (λ (n : ℕ). slice_get y.states n ≡ Some (kept w)) (sym keeps.edge.2) keeps.among.stands;
       }
 
-      one : AreTurns p v x → (place : ℕ) (e : Edge) → (slice_get x.edges place ≡ Some e) ⊎ (e ≡ keeps.edge.0) → IsEdge p v y.states e
+      one : AreTurns p v joined x → (place : ℕ) (e : Edge) → (slice_get x.edges place ≡ Some e) ⊎ (e ≡ keeps.edge.0) → IsEdge p v joined y.states e
       one all place e (inl before) = edge_still x.states y.states e stay (all place e before)
-      one all place e (inr last) = subst (IsEdge p v y.states) (sym last) new
+      one all place e (inr last) = subst (IsEdge p v joined y.states) (sym last) new
 
-  tried_still : (y z : Met) (number : ℕ) (k : PlainKept) (h : ℕ) → Extends p v a y z → IsTriedAlong p v y number k h → IsTriedAlong p v z number k h
+  tried_still : (y z : Met) (number : ℕ) (k : PlainKept) (h : ℕ) → Extends p v a joined y z → IsTriedAlong p v joined y number k h → IsTriedAlong p v joined z number k h
   tried_still y z number k h e t = record {
     tried = record {
       before = t.tried.before;
@@ -129,8 +158,8 @@ module _ (p : Image) (v : Version) (a : Aim) where
 
   -- ---- one turn
 
-  pub tries : (hs : List ℕ) (number h : ℕ) (u w : PlainWorld) (x y : Met) → Runs hs (opened p v) u → slice_get x.states number ≡ Some (kept u) → IsTurn h u w →
-      Keeps a w (Some number) x y → Tries p v a x y number h
+  pub tries : (hs : List ℕ) (number h : ℕ) (u w : PlainWorld) (x y : Met) → Runs hs (opened p v) u → slice_get x.states number ≡ Some (kept u) → IsJoinedTurn joined h u w →
+      Keeps a w (Some number) x y → Tries p v a joined x y number h
   tries hs number h u w x y runs at turn keeps = record {
     extends = extends_kept hs number h u w x y runs at turn keeps;
     tried = λ k here. record {
@@ -149,56 +178,47 @@ module _ (p : Image) (v : Version) (a : Aim) where
   stays : (h : ℕ) (x : PlainWorld) → pick_for h x.center ≡ None → IsTurn h x x
   stays h x e = subst (λ (o : Option Job). TurnsUnder h o x x) (sym e) refl
 
-  stays_tried : (number h : ℕ) (hs : List ℕ) (w : PlainWorld) (x : Met) → Stands p v x.states number hs w → pick_for h w.center ≡ None → IsTriedAt p v x x number h
+  stays_tried : (number h : ℕ) (hs : List ℕ) (w : PlainWorld) (x : Met) → Stands p v x.states number hs w → pick_for h w.center ≡ None → IsTriedAt p v joined x x number h
   stays_tried number h hs w x stands e k here = record {
     tried = record {
       before = w;
       after = w;
       stands_in = record { handlers = hs; runs = stands.runs; kept = same_some (kept w) k (sym stands.stands ∙ here) };
-      turn = stays h w e;
+      turn = record { next = w; turn = stays h w e; on = record { turns = 0; few = omega arith; goes_on = refl } };
       among = record { number = number; stands = stands.stands };
     };
     edge = inl refl;
   }
 
-  pub tries_none : (number h : ℕ) (hs : List ℕ) (w : PlainWorld) (x : Met) → Stands p v x.states number hs w → pick_for h w.center ≡ None → Tries p v a x x number h
+  pub tries_none : (number h : ℕ) (hs : List ℕ) (w : PlainWorld) (x : Met) → Stands p v x.states number hs w → pick_for h w.center ≡ None → Tries p v a joined x x number h
   tries_none number h hs w x stands e = record { extends = extends_none x; tried = stays_tried number h hs w x stands e }
 
   -- ---- the turns of all
 
   -- the turns of the handlers below are tried
   pub record TriesBelow (x y : Met) (number below : ℕ) : Type 0 where
-    pub extends : Extends p v a x y
-    pub tried : (h : ℕ) → h < below → IsTriedAt p v x y number h
+    pub extends : Extends p v a joined x y
+    pub tried : (h : ℕ) → h < below → IsTriedAt p v joined x y number h
 
   pub tries_first : (x : Met) (number : ℕ) → TriesBelow x x number 0
   tries_first x number = record { extends = extends_none x; tried = λ h few. absurd (omega (arith, few)) }
 
-  pub stands_still : (x y : Met) (number : ℕ) (hs : List ℕ) (w : PlainWorld) → Extends p v a x y → Stands p v x.states number hs w → Stands p v y.states number hs w
+  pub stands_still : (x y : Met) (number : ℕ) (hs : List ℕ) (w : PlainWorld) → Extends p v a joined x y → Stands p v x.states number hs w → Stands p v y.states number hs w
   stands_still x y number hs w e stands = record { runs = stands.runs; stands = e.stay number (kept w) stands.stands }
 
-  pub tries_next : (x y z : Met) (number below : ℕ) → TriesBelow x y number below → Tries p v a y z number below → TriesBelow x z number (below + 1)
+  pub tries_next : (x y z : Met) (number below : ℕ) → TriesBelow x y number below → Tries p v a joined y z number below → TriesBelow x z number (below + 1)
   tries_next x y z number below so one = record {
     extends = extends_all x y z so.extends one.extends;
     tried = λ h few k here. elim (cases_lt h below) [
       | inl less ↦ tried_still y z number k h one.extends (so.tried h less k here)
       | inr more ↦
           let same : h ≡ below = omega (arith, few, more) in
-          subst (λ (i : ℕ). IsTriedAlong p v z number k i) (sym same) (one.tried k (so.extends.stay number k here))
+          subst (λ (i : ℕ). IsTriedAlong p v joined z number k i) (sym same) (one.tried k (so.extends.stay number k here))
     ];
   }
 
-  -- there is none from the count on
-  pub none_past : (h : ℕ) (c : Center) → c.state.count ≤ h → pick_for h c ≡ None
-  none_past h c past = by (is_some (c.out h)) (nat_lt h c.state.count) _ refl
-    where
-      by : (o b : Bool) (j : Option Job) → nat_lt h c.state.count ≡ b → (if o then None else (if b then j else None)) ≡ None
-      by true b j e = refl
-      by false false j e = refl
-      by false true j e = absurd (omega (arith, past, ltb-true h c.state.count e))
-
   pub tries_all : (x y : Met) (number : ℕ) (hs : List ℕ) (w : PlainWorld) (below : ℕ) → TriesBelow x y number below → Stands p v x.states number hs w →
-      ((h : ℕ) → below ≤ h → pick_for h w.center ≡ None) → TriesAll p v a x y number
+      ((h : ℕ) → below ≤ h → pick_for h w.center ≡ None) → TriesAll p v a joined x y number
   tries_all x y number hs w below so stands all = record {
     extends = so.extends;
     tried = λ h k here. elim (cases_lt h below) [
@@ -213,20 +233,8 @@ module _ (p : Image) (v : Version) (a : Aim) where
   -- the states of the numbers below are done
   pub record ClosesBelow (x : Met) (below : ℕ) : Type 0 where
     pub opens : Opens p v a x.states
-    pub turns : AreTurns p v x
-    pub tried : (i : ℕ) (k : PlainKept) → i < below → slice_get x.states i ≡ Some k → (h : ℕ) → IsTriedAlong p v x i k h
-
-  pub opens_kept : (w : PlainWorld) (x y : Met) → x ≡ nothing_met → Runs [] (opened p v) w → Keeps a w None x y → OpensAlone p v a y
-  opens_kept w x y none runs keeps = record {
-    opens = record {
-      opens = subst (λ (u : PlainWorld). IsAmong y.states (kept u)) runs keeps.among;
-      unmet = (extends_opening [] w x y runs keeps).unmet (λ i k at. nowhere i k (subst (λ (m : Met). slice_get m.states i ≡ Some k) none at));
-    };
-    alone = keeps.edge ∙ ap (λ (m : Met). m.edges) none;
-  }
-    where
-      nowhere : (i : ℕ) (k : PlainKept) → slice_get [] i ≡ Some k → IsUnmet p v a k
-      nowhere i k at = cc
+    pub turns : AreTurns p v joined x
+    pub tried : (i : ℕ) (k : PlainKept) → i < below → slice_get x.states i ≡ Some k → (h : ℕ) → IsTriedAlong p v joined x i k h
 
   pub closes_first : (x : Met) → OpensAlone p v a x → ClosesBelow x 0
   closes_first x opens = record {
@@ -235,10 +243,10 @@ module _ (p : Image) (v : Version) (a : Aim) where
     tried = λ i k few at h. absurd (omega (arith, few));
   }
     where
-      nowhere : (place : ℕ) (e : Edge) → slice_get [] place ≡ Some e → IsEdge p v x.states e
+      nowhere : (place : ℕ) (e : Edge) → slice_get [] place ≡ Some e → IsEdge p v joined x.states e
       nowhere place e at = cc
 
-  pub closes_next : (x y : Met) (below : ℕ) → ClosesBelow x below → TriesAll p v a x y below → below < length x.states → ClosesBelow y (below + 1)
+  pub closes_next : (x y : Met) (below : ℕ) → ClosesBelow x below → TriesAll p v a joined x y below → below < length x.states → ClosesBelow y (below + 1)
   closes_next x y below so all there = record {
     opens = record {
       opens = record { number = so.opens.opens.number; stands = all.extends.stay so.opens.opens.number (kept (opened p v)) so.opens.opens.stands };
@@ -248,7 +256,7 @@ module _ (p : Image) (v : Version) (a : Aim) where
     tried = λ i k few at h. one i k few at h;
   }
     where
-      one : (i : ℕ) (k : PlainKept) → i < below + 1 → slice_get y.states i ≡ Some k → (h : ℕ) → IsTriedAlong p v y i k h
+      one : (i : ℕ) (k : PlainKept) → i < below + 1 → slice_get y.states i ≡ Some k → (h : ℕ) → IsTriedAlong p v joined y i k h
       one i k few at h =
           let was : PlainKept = get_or x.states i k in
           let stood : slice_get x.states i ≡ Some was = slice_get-get_or x.states i k (omega (arith, few, there)) in
@@ -258,19 +266,35 @@ module _ (p : Image) (v : Version) (a : Aim) where
             | inl less ↦ tried_still x y i k h all.extends (so.tried i k less here h)
             | inr more ↦
                 let last : i ≡ below = omega (arith, few, more) in
-                subst (λ (j : ℕ). IsTriedAlong p v y j k h) (sym last) (all.tried h k (subst (λ (j : ℕ). slice_get x.states j ≡ Some k) last here))
+                subst (λ (j : ℕ). IsTriedAlong p v joined y j k h) (sym last) (all.tried h k (subst (λ (j : ℕ). slice_get x.states j ≡ Some k) last here))
           ]
 
   pub closes : (x : Met) (below : ℕ) → ClosesBelow x below → length x.states ≤ below → IsClosed p v a x.states
   closes x below so all = record {
+    joined = joined;
     opens = so.opens.opens;
     unmet = so.opens.unmet;
     tried = λ i k at h. let there = slice_get_within x.states i k at in (so.tried i k (omega (arith, all, there)) at h).tried;
   }
 
-  pub explores : (x : Met) (below : ℕ) → ClosesBelow x below → length x.states ≤ below → below < 2 ^ 32 → IsExplored p v x
+  pub explores : (x : Met) (below : ℕ) → ClosesBelow x below → length x.states ≤ below → below < 2 ^ 32 → IsExplored p v joined x
   explores x below so all few = record {
     along = λ i k at h. let there = slice_get_within x.states i k at in so.tried i k (omega (arith, all, there)) at h;
     turns = so.turns;
     few = omega (arith, all, few);
   }
+
+-- ---- the opening
+
+module _ (p : Image) (v : Version) (a : Aim) where
+  pub opens_kept : (w : PlainWorld) (x y : Met) → x ≡ nothing_met → Runs [] (opened p v) w → Keeps a w None x y → OpensAlone p v a y
+  opens_kept w x y none runs keeps = record {
+    opens = record {
+      opens = subst (λ (u : PlainWorld). IsAmong y.states (kept u)) runs keeps.among;
+      unmet = (extends_opening p v a 0 [] w x y runs keeps).unmet (λ i k at. nowhere i k (subst (λ (m : Met). slice_get m.states i ≡ Some k) none at));
+    };
+    alone = keeps.edge ∙ ap (λ (m : Met). m.edges) none;
+  }
+    where
+      nowhere : (i : ℕ) (k : PlainKept) → slice_get [] i ≡ Some k → IsUnmet p v a k
+      nowhere i k at = cc

@@ -14,16 +14,16 @@ use Rattle.sc_model.specs.declared.status.Status.TheVariants.{Free}
 use Rattle.sc_code.specs.declared.program.Image.{Image}
 use Rattle.sc_region.specs.declared.job.Job.{Job}
 use Rattle.sc_orders.specs.declared.edges.Edge.{Edge}
-use Rattle.sc_orders.specs.Edges.{AreWithin, Leads}
+use Rattle.sc_orders.specs.Edges.{Along, AreWithin, Here, Leads}
 use Rattle.sc_orders.specs.Orders.{AreEdges, EdgesTell}
 use Rattle.sc_orders.specs.Orders as orders
-use Rattle.sc_orders.proofs.Orders.{edges_tell}
+use Rattle.sc_orders.proofs.Orders.{edges_tell, leads_join}
 use Rattle.sc_handler.specs.Handlers.{HandlerStage, State}
 use Rattle.sc_handler.specs.Picking.{job_of, job_with, status_with}
 use Rattle.sc_request.specs.Logs.{pick_for, status_in}
 use Rattle.sc_world.specs.Kept.{IsOf, KeptAlikeReadAlike, OpeningsAreOf, PlainKept, RunsStayOf, kept}
 use Rattle.sc_world.specs.Reports.{statuses}
-use Rattle.sc_world.specs.Turning.{TurnsUnder}
+use Rattle.sc_world.specs.Turning.{IsTurn, TurnsUnder}
 use Rattle.sc_world.specs.Worlds.{PlainWorld, opened}
 use Rattle.sc_world.proofs.Runs.{runs-more}
 use Rattle.sc_search.specs.declared.aims.Aim.{Aim}
@@ -31,12 +31,13 @@ use Rattle.sc_search.specs.declared.aims.Aim.TheVariants as aim
 use Rattle.sc_search.specs.declared.judging.Kind.{Kind}
 use Rattle.sc_search.specs.declared.judging.Kind.TheVariants as kind
 use Rattle.sc_search.specs.Aims.{AreStuck, IsMet, is_of, some_is}
+use Rattle.sc_search.specs.Joined.{GoesOn, IsJoinedTurn}
 use Rattle.sc_search.specs.Steps.{IsExplored}
 use Rattle.sc_search.specs.Stops.{AreReached}
 use Rattle.sc_search.specs.Views.{Met}
-use Rattle.sc_search.specs.Waiting.{AreMoving, HasStuck, IsAnewTurn, IsLed, IsLeft, IsPlayed, IsSought, SomeWaits, column, has_status, seeks_stuck}
+use Rattle.sc_search.specs.Waiting.{AreMoving, HasStuck, IsAnewTurn, IsLed, IsLeft, IsPlayed, IsSought, MayMove, SomeWaits, column, has_status, seeks_stuck}
 use Rattle.sc_search.proofs.KeptStates.{same_some}
-use Rattle.sc_search.proofs.TriedTurns.{none_past}
+use Rattle.sc_search.proofs.TriedTurns.{none_past, plays_joined, plays_on}
 
 -- ---- columns
 
@@ -61,46 +62,35 @@ module _ (alike : KeptAlikeReadAlike) (open_of : OpeningsAreOf) (stay : RunsStay
   same_statuses : (w u : PlainWorld) → IsPlayed p v w → IsPlayed p v u → kept w ≡ kept u → statuses w ≡ statuses u
   same_statuses w u played its same = (alike p (most_handlers v) w u (record { of = of_program w played; its = of_program u its; same = same })).statuses
 
-  module _ (a : Aim) (x : Met) (os : List (List ℕ)) (rows : List (List Status)) (turns : ℕ) (explored : IsExplored p v x)
+  -- a turn that is joined with no other
+  single : (h : ℕ) (w u : PlainWorld) → IsJoinedTurn 0 h w u → IsTurn h w u
+  single h w u t = subst (IsTurn h w) (sym (by t.on.turns t.on.few t.on.goes_on)) t.turn
+    where
+      by : (n : ℕ) → n ≤ 0 → GoesOn h n t.next u → u ≡ t.next
+      by zero few same = same
+      by (suc n) few on = absurd (omega (arith, few))
+
+  -- turns that ask nothing, each in a world that is played anew
+  anew_on : (h n : ℕ) (w u : PlainWorld) → IsPlayed p v w → GoesOn h n w u → (hs : List ℕ) × orders.Leads (IsAnewTurn p v) hs w u
+  anew_on h zero w u played same = ([], same)
+  anew_on h (suc n) w u played on =
+      let before = anew_on h n w on.0 played on.1 in
+      let last : IsAnewTurn p v h on.0 u = record { before = on.0; played = plays_on p v h n w on.0 played on.1; alike = refl; turn = on.3 } in
+      (before.0 ++ h ∷ [], leads_join (IsAnewTurn p v) before.0 (h ∷ []) w on.0 u before.1 (u, last, refl))
+
+  -- a turn that is joined with others
+  anew_joined : (joined h : ℕ) (before after w : PlainWorld) → IsPlayed p v before → kept before ≡ kept w → IsJoinedTurn joined h before after →
+      (hs : List ℕ) × orders.Leads (IsAnewTurn p v) hs w after
+  anew_joined joined h before after w played alike t =
+      let next : IsPlayed p v t.next = (played.0 ++ h ∷ [], runs-more played.0 h (opened p v) before t.next played.1 t.turn) in
+      let rest = anew_on h t.on.turns t.next after next t.on.goes_on in
+      (h ∷ rest.0, (t.next, record { before = before; played = played; alike = alike; turn = t.turn }, rest.1))
+
+  module _ (a : Aim) (joined : ℕ) (x : Met) (os : List (List ℕ)) (rows : List (List Status)) (turns : ℕ) (explored : IsExplored p v joined x)
       (reached : AreReached p v a x.states os (rows) turns) where
     -- the world was played, and is in the state of the number
     abbrev InState : ℕ → PlainWorld → Type 0
     InState i w = IsPlayed p v w × (slice_get x.states i ≡ Some (kept w))
-
-    are_edges : AreEdges (IsAnewTurn p v) InState x.edges
-    are_edges = record {
-      each = λ place e at w is_in.
-          let t = explored.turns place e at in
-          record {
-            handler = t.handler;
-            world = t.after;
-            turn = record {
-              before = t.before;
-              played = t.played;
-              alike = same_some (kept t.before) (kept w) (sym t.from ∙ is_in.1);
-              turn = t.turn;
-            };
-            is_in = ((t.played.0 ++ t.handler ∷ [], runs-more t.played.0 t.handler (opened p v) t.before t.after t.played.1 t.turn), t.to);
-          };
-      all = λ i w is_in h.
-          let t = explored.along i (kept w) is_in.1 h in
-          let hs = t.tried.stands_in.handlers in
-          record {
-            world = t.tried.after;
-            number = t.tried.among.number;
-            turn = record {
-              before = t.tried.before;
-              played = (hs, t.tried.stands_in.runs);
-              alike = t.tried.stands_in.kept;
-              turn = t.tried.turn;
-            };
-            is_in = (
-              (hs ++ h ∷ [], runs-more hs h (opened p v) t.tried.before t.tried.after t.tried.stands_in.runs t.tried.turn),
-              t.tried.among.stands,
-            );
-            edge = t.edge;
-          };
-    }
 
     told : (k : Kind) (h i : ℕ) (w : PlainWorld) → InState i w → get_or (column k h rows) i false ≡ has_status k h w
     told k h i w is_in =
@@ -108,22 +98,77 @@ module _ (alike : KeptAlikeReadAlike) (open_of : OpeningsAreOf) (stay : RunsStay
         column_at k h rows i (statuses r.world) r.told_is
         ∙ ap (λ (ss : List Status). is_of k (get_or ss h Free)) (same_statuses r.world w (r.order, r.runs) is_in.0 r.kept_is)
 
-    tell : (h i : ℕ) (w : PlainWorld) → InState i w → EdgesTell (IsAnewTurn p v) (has_status kind.IsBusy) h w (Leads x.edges (column kind.IsBusy h rows) i)
-    tell h i w is_in = edges_tell (IsAnewTurn p v) InState (has_status kind.IsBusy) x.edges are_edges h (column kind.IsBusy h rows) (told kind.IsBusy h) i w is_in
+    -- ---- if turns are joined with no others
+
+    are_edges : IsExplored p v 0 x → AreEdges (IsAnewTurn p v) InState x.edges
+    are_edges singly = record {
+      each = λ place e at w is_in.
+          let t = singly.turns place e at in
+          record {
+            handler = t.handler;
+            world = t.after;
+            turn = record {
+              before = t.before;
+              played = t.played;
+              alike = same_some (kept t.before) (kept w) (sym t.from ∙ is_in.1);
+              turn = single t.handler t.before t.after t.turn;
+            };
+            is_in = (plays_joined p v 0 t.handler t.before t.after t.played t.turn, t.to);
+          };
+      all = λ i w is_in h.
+          let t = singly.along i (kept w) is_in.1 h in
+          let before : IsPlayed p v t.tried.before = (t.tried.stands_in.handlers, t.tried.stands_in.runs) in
+          record {
+            world = t.tried.after;
+            number = t.tried.among.number;
+            turn = record {
+              before = t.tried.before;
+              played = before;
+              alike = t.tried.stands_in.kept;
+              turn = single h t.tried.before t.tried.after t.tried.turn;
+            };
+            is_in = (plays_joined p v 0 h t.tried.before t.tried.after before t.tried.turn, t.tried.among.stands);
+            edge = t.edge;
+          };
+    }
+
+    tell : IsExplored p v 0 x → (h i : ℕ) (w : PlainWorld) → InState i w →
+        EdgesTell (IsAnewTurn p v) (has_status kind.IsBusy) h w (Leads x.edges (column kind.IsBusy h rows) i)
+    tell singly h i w is_in =
+        edges_tell (IsAnewTurn p v) InState (has_status kind.IsBusy) x.edges (are_edges singly) h (column kind.IsBusy h rows) (told kind.IsBusy h) i w is_in
 
     -- a handler that waits where no edges lead on waits for good,
-    pub left_is_stuck : (h number : ℕ) → IsLeft x.edges rows h number → HasStuck p v x.states number
-    left_is_stuck h number left = record {
+    pub left_is_stuck : IsExplored p v 0 x → (h number : ℕ) → IsLeft x.edges rows h number → HasStuck p v x.states number
+    left_is_stuck singly h number left = record {
       there =
           let below = within_column kind.IsWaiting h rows number left.waits in
           omega (arith, below, reached.rows);
       waits = λ w played at. (
         h,
-        record { waits_now = sym (told kind.IsWaiting h number w (played, at)) ∙ left.waits; never = (tell h number w (played, at)).never left.left },
+        record {
+          waits_now = sym (told kind.IsWaiting h number w (played, at)) ∙ left.waits;
+          never = (tell singly h number w (played, at)).never left.left;
+        },
       );
     }
 
-    -- and where edges lead on from wherever one waits, none does.
+    -- ---- if they may be joined
+
+    -- edges are turns
+    may_lead : (h i : ℕ) → Leads x.edges (column kind.IsBusy h rows) i → (w : PlainWorld) → InState i w → MayMove p v h w
+    may_lead h i (Here state e) w is_in = record { handlers = []; world = w; leads = refl; turn = sym (told kind.IsBusy h i w is_in) ∙ e }
+    may_lead h i (Along place e at rest) w is_in =
+        let t = explored.turns place e at in
+        let on = anew_joined joined t.handler t.before t.after w t.played (same_some (kept t.before) (kept w) (sym t.from ∙ is_in.1)) t.turn in
+        let more = may_lead h e.to rest t.after (plays_joined p v joined t.handler t.before t.after t.played t.turn, t.to) in
+        record {
+          handlers = on.0 ++ more.handlers;
+          world = more.world;
+          leads = leads_join (IsAnewTurn p v) on.0 more.handlers w t.after more.world on.1 more.leads;
+          turn = more.turn;
+        }
+
+    -- so where edges lead on from wherever one waits, none waits for good.
     pub led_are_moving : ((h number : ℕ) → IsLed x.edges rows h number) → AreMoving p v a x.states
     led_are_moving led seeks i k at =
         let r = reached.each i k at in
@@ -132,7 +177,7 @@ module _ (alike : KeptAlikeReadAlike) (open_of : OpeningsAreOf) (stay : RunsStay
           world = r.world;
           played = is_in.0;
           kept_is = r.kept_is;
-          moves = λ h waits. (tell h i r.world is_in).may (led h i (told kind.IsWaiting h i r.world is_in ∙ waits));
+          moves = λ h waits. may_lead h i (led h i (told kind.IsWaiting h i r.world is_in ∙ waits)) r.world is_in;
         }
 
     pub edges_within : AreWithin x.edges (length rows)

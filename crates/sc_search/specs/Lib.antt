@@ -2,6 +2,7 @@ pub mod Aims
 pub mod Waiting
 pub mod Found
 pub mod Ends
+pub mod Joined
 pub mod Closed
 pub mod Limits
 pub mod Numbering

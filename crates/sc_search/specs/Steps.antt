@@ -5,11 +5,12 @@ use Rattle.sc_code.specs.declared.program.Image.{Image}
 use Rattle.sc_world.specs.Kept.{PlainKept, kept}
 use Rattle.sc_orders.specs.declared.edges.Edge.{Edge}
 use Rattle.sc_orders.specs.Edges.{HasEdge}
-use Rattle.sc_world.specs.Turning.{IsTurn, Runs}
+use Rattle.sc_world.specs.Turning.{Runs}
 use Rattle.sc_world.specs.Worlds.{PlainWorld, opened}
 use Rattle.sc_search.specs.declared.aims.Aim.{Aim}
 use Rattle.sc_search.specs.Aims.{IsMet}
 use Rattle.sc_search.specs.Closed.{IsAmong, IsTried, IsUnmet}
+use Rattle.sc_search.specs.Joined.{IsJoinedTurn}
 use Rattle.sc_search.specs.Views.{Met}
 use Rattle.sc_search.specs.Waiting.{IsPlayed}
 
@@ -49,48 +50,49 @@ pub record Stands (p : Image) (v : Version) (ks : List PlainKept) (number : ℕ)
 abbrev pub IsLedTo : Image → Version → List PlainKept → ℕ → List ℕ → Type 0
 IsLedTo p v ks number path = (w : PlainWorld) × Stands p v ks number path w
 
--- The edge is the turn of a handler from a world in a state to one in another, or in the same.
-pub record IsEdge (p : Image) (v : Version) (ks : List PlainKept) (e : Edge) : Type 0 where
+-- The edge is the turn of a handler, joined with others, from a world in a state to one in another, or in the same.
+pub record IsEdge (p : Image) (v : Version) (joined : ℕ) (ks : List PlainKept) (e : Edge) : Type 0 where
   pub handler : ℕ
   pub before : PlainWorld
   pub after : PlainWorld
   pub played : IsPlayed p v before
-  pub turn : IsTurn handler before after
+  pub turn : IsJoinedTurn joined handler before after
   pub from : slice_get ks e.from ≡ Some (kept before)
   pub to : slice_get ks e.to ≡ Some (kept after)
 
-abbrev pub AreTurns : Image → Version → Met → Type 0
-AreTurns p v x = (place : ℕ) (e : Edge) → slice_get x.edges place ≡ Some e → IsEdge p v x.states e
+abbrev pub AreTurns : Image → Version → ℕ → Met → Type 0
+AreTurns p v joined x = (place : ℕ) (e : Edge) → slice_get x.edges place ≡ Some e → IsEdge p v joined x.states e
 
 -- States are met after these, and none of them shows what is looked for. Edges are added, each a turn.
-pub record Extends (p : Image) (v : Version) (a : Aim) (x y : Met) : Type 0 where
+pub record Extends (p : Image) (v : Version) (a : Aim) (joined : ℕ) (x y : Met) : Type 0 where
   pub stay : (i : ℕ) (k : PlainKept) → slice_get x.states i ≡ Some k → slice_get y.states i ≡ Some k
   pub unmet : AreUnmet p v a x.states → AreUnmet p v a y.states
   pub edges_stay : (place : ℕ) (e : Edge) → slice_get x.edges place ≡ Some e → slice_get y.edges place ≡ Some e
-  pub turns : AreTurns p v x → AreTurns p v y
+  pub turns : AreTurns p v joined x → AreTurns p v joined y
 
 -- The turn of the handler is tried in the state of this number, and leads along an edge, or stays in the state.
-pub record IsTriedAlong (p : Image) (v : Version) (x : Met) (number : ℕ) (k : PlainKept) (h : ℕ) : Type 0 where
-  pub tried : IsTried p v x.states k h
+pub record IsTriedAlong (p : Image) (v : Version) (joined : ℕ) (x : Met) (number : ℕ) (k : PlainKept) (h : ℕ) : Type 0 where
+  pub tried : IsTried p v joined x.states k h
   pub edge : (tried.among.number ≡ number) ⊎ HasEdge x.edges number tried.among.number
 
-abbrev pub IsTriedAt : Image → Version → Met → Met → ℕ → ℕ → Type 0
-IsTriedAt p v x y number h = (k : PlainKept) → slice_get x.states number ≡ Some k → IsTriedAlong p v y number k h
+abbrev pub IsTriedAt : Image → Version → ℕ → Met → Met → ℕ → ℕ → Type 0
+IsTriedAt p v joined x y number h =
+    (k : PlainKept) → slice_get x.states number ≡ Some k → IsTriedAlong p v joined y number k h
 
 -- It is tried, and on the way there.
-pub record Tries (p : Image) (v : Version) (a : Aim) (x y : Met) (number h : ℕ) : Type 0 where
-  pub extends : Extends p v a x y
-  pub tried : IsTriedAt p v x y number h
+pub record Tries (p : Image) (v : Version) (a : Aim) (joined : ℕ) (x y : Met) (number h : ℕ) : Type 0 where
+  pub extends : Extends p v a joined x y
+  pub tried : IsTriedAt p v joined x y number h
 
 -- The turns of all handlers are tried in the state of this number.
-pub record TriesAll (p : Image) (v : Version) (a : Aim) (x y : Met) (number : ℕ) : Type 0 where
-  pub extends : Extends p v a x y
-  pub tried : (h : ℕ) → IsTriedAt p v x y number h
+pub record TriesAll (p : Image) (v : Version) (a : Aim) (joined : ℕ) (x y : Met) (number : ℕ) : Type 0 where
+  pub extends : Extends p v a joined x y
+  pub tried : (h : ℕ) → IsTriedAt p v joined x y number h
 
 -- ---- when all turns of all states are tried
 
 -- Each turn of each state is tried along an edge, each edge is a turn, and there are no more states than numbers.
-pub record IsExplored (p : Image) (v : Version) (x : Met) : Type 0 where
-  pub along : (i : ℕ) (k : PlainKept) → slice_get x.states i ≡ Some k → (h : ℕ) → IsTriedAlong p v x i k h
-  pub turns : AreTurns p v x
+pub record IsExplored (p : Image) (v : Version) (joined : ℕ) (x : Met) : Type 0 where
+  pub along : (i : ℕ) (k : PlainKept) → slice_get x.states i ≡ Some k → (h : ℕ) → IsTriedAlong p v joined x i k h
+  pub turns : AreTurns p v joined x
   pub few : length x.states < 2 ^ 32

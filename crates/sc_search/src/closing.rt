@@ -1,4 +1,7 @@
 //! The search over all turns.
+//!
+//! A turn that asks nothing of other handlers may be joined with the one before it: it does the same before and after the turns
+//! of others. Only the state that joined turns lead to is kept.
 ghost use Rattle.std.specs.Prelude.{◌≡◌, ◌<◌, IfNone, IfOk, IfSome, length};
 ghost use Rattle.sc_world.specs.Views.{world_in};
 ghost use Rattle.sc_world.specs.Worlds.{opened};
@@ -18,14 +21,15 @@ use sc_world::laws::{
 };
 use std::alloc::AllocError;
 
-/// Plays each turn of each state, as long as at most this number of states are kept. Returns why it stopped before
-/// all was played.
+/// Plays each turn of each state, as long as at most `limit` states are kept. It is joined with the handler's next turns, at most
+/// `joined` of them, as long as these ask nothing of others. Returns why it stopped before all was played.
 ///
 /// # Errors
 /// Memory ran out.
 pub(crate) fn play_all<'p, W: Watch>(
     subject: Subject<'p>,
     progress: &mut Progress<'p>,
+    joined: u32,
     limit: u32,
     watch: &mut W,
 ) -> Result<Option<Stop>, AllocError>
@@ -33,7 +37,7 @@ pub(crate) fn play_all<'p, W: Watch>(
     requires opens { world_in progress.old.world ≡ opened subject.program.now.image subject.version }
     requires reached { HasReached subject.program.now.image subject.version subject.aim progress.old }
     ensures closed { IfOk result (λ stop. IfNone stop (IsClosedFor subject.entry (states_of progress.new))) }
-    ensures explored { IfOk result (λ stop. IfNone stop (IsExplored subject.entry.program.now.image subject.entry.version (met_of progress.new))) }
+    ensures explored { IfOk result (λ stop. IfNone stop (IsExplored subject.entry.program.now.image subject.entry.version joined (met_of progress.new))) }
     ensures reached { IfOk result (λ stop. IfNone stop (HasReached subject.entry.program.now.image subject.entry.version subject.entry.aim progress.new)) }
     ensures stops { IfOk result (λ stop. IfSome stop (StopsFor subject.entry.program.now.image subject.entry.version subject.entry.aim limit)) }
 {
@@ -45,7 +49,7 @@ pub(crate) fn play_all<'p, W: Watch>(
         if number >= progress.store.len() {
             break;
         }
-        if let Some(stop) = try_all(subject, progress, number, limit)? {
+        if let Some(stop) = try_all(subject, progress, number, joined, limit)? {
             return Ok(Some(stop));
         }
         number += 1;
@@ -83,17 +87,25 @@ fn try_all<'p>(
     subject: Subject<'p>,
     progress: &mut Progress<'p>,
     number: u32,
+    joined: u32,
     limit: u32,
 ) -> Result<Option<Stop>, AllocError>
     requires there { number < length (states_of progress.old) }
     requires reached { HasReached subject.program.now.image subject.version subject.aim progress.old }
     ensures tries { IfOk result (λ stop. IfNone stop
-        (TriesAll subject.entry.program.now.image subject.entry.version subject.entry.aim (met_of progress.old) (met_of progress.new) number)) }
+        (TriesAll subject.entry.program.now.image subject.entry.version subject.entry.aim joined (met_of progress.old) (met_of progress.new) number)) }
     ensures reached { IfOk result (λ stop. IfNone stop (HasReached subject.entry.program.now.image subject.entry.version subject.entry.aim progress.new)) }
     ensures stops { IfOk result (λ stop. IfSome stop (StopsFor subject.entry.program.now.image subject.entry.version subject.entry.aim limit)) }
 {
     for handler in 0..progress.store.statuses(number).len() {
-        if let Some(stop) = try_turn(subject, progress, number, handler as HandlerNumber, limit)? {
+        if let Some(stop) = try_turn(
+            subject,
+            progress,
+            number,
+            handler as HandlerNumber,
+            joined,
+            limit,
+        )? {
             return Ok(Some(stop));
         }
     }
@@ -106,12 +118,13 @@ fn try_turn<'p>(
     progress: &mut Progress<'p>,
     number: u32,
     handler: HandlerNumber,
+    joined: u32,
     limit: u32,
 ) -> Result<Option<Stop>, AllocError>
     requires there { number < length (states_of progress.old) }
     requires reached { HasReached subject.program.now.image subject.version subject.aim progress.old }
     ensures tries { IfOk result (λ stop. IfNone stop
-        (Tries subject.entry.program.now.image subject.entry.version subject.entry.aim (met_of progress.old) (met_of progress.new) number handler)) }
+        (Tries subject.entry.program.now.image subject.entry.version subject.entry.aim joined (met_of progress.old) (met_of progress.new) number handler)) }
     ensures reached { IfOk result (λ stop. IfNone stop (HasReached subject.entry.program.now.image subject.entry.version subject.entry.aim progress.new)) }
     ensures stops { IfOk result (λ stop. IfSome stop (StopsFor subject.entry.program.now.image subject.entry.version subject.entry.aim limit)) }
 {
@@ -122,21 +135,22 @@ fn try_turn<'p>(
     ) {
         return Ok(None);
     }
-    move_on(subject, progress, number, handler, limit)
+    move_on(subject, progress, number, handler, joined, limit)
 }
 
-/// Makes the turn of a handler in a state, and keeps the state that it leads to.
+/// Makes the turn of a handler in a state, joined with further ones, and keeps the state that they lead to.
 fn move_on<'p>(
     subject: Subject<'p>,
     progress: &mut Progress<'p>,
     number: u32,
     handler: HandlerNumber,
+    joined: u32,
     limit: u32,
 ) -> Result<Option<Stop>, AllocError>
     requires there { number < length (states_of progress.old) }
     requires reached { HasReached subject.program.now.image subject.version subject.aim progress.old }
     ensures tries { IfOk result (λ stop. IfNone stop
-        (Tries subject.entry.program.now.image subject.entry.version subject.entry.aim (met_of progress.old) (met_of progress.new) number handler)) }
+        (Tries subject.entry.program.now.image subject.entry.version subject.entry.aim joined (met_of progress.old) (met_of progress.new) number handler)) }
     ensures reached { IfOk result (λ stop. IfNone stop (HasReached subject.entry.program.now.image subject.entry.version subject.entry.aim progress.new)) }
     ensures stops { IfOk result (λ stop. IfSome stop (StopsFor subject.entry.program.now.image subject.entry.version subject.entry.aim limit)) }
 {
@@ -146,9 +160,11 @@ fn move_on<'p>(
     runs_stay_of_their_program();
     progress.load(subject, number)?;
     progress.turn(subject, handler)?;
+    let mut turns = Vec::from_slice(subject.alloc, &[handler])?;
+    progress.go_on(subject, number, handler, joined, &mut turns)?;
     let way = Way {
         parent: Some(number),
-        turns: &[handler],
+        turns: &turns,
     };
     progress.keep(subject, way, limit)
 }

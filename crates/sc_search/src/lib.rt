@@ -8,6 +8,7 @@ mod aims;
 mod choices;
 mod closing;
 mod ends;
+mod joining;
 mod judging;
 mod length;
 mod lines;

@@ -9,6 +9,7 @@ ghost use Rattle.sc_search.specs.Aims.{IsMet};
 ghost use Rattle.sc_search.specs.Steps.{AddsEdge, Keeps};
 
 use crate::ends::{FoundEnd, push_outcome};
+use crate::joining::go_on;
 use crate::judging::{Kind, is_met, some_is};
 use crate::replay::Subject;
 use crate::store::Store;
@@ -59,7 +60,8 @@ pub(crate) struct Way<'w> {
 
 impl<'p> Progress<'p> {
     ghost use Rattle.sc_search.specs.Stored.{IsAlikeAfter, IsFrom, IsTupleOf, order_after};
-    ghost use Rattle.sc_search.specs.Stops.{HasReached, StopsFor};
+    ghost use Rattle.sc_search.specs.Joined.{GoesOnUpTo};
+    ghost use Rattle.sc_search.specs.Stops.{HasReached, Moves, StopsFor};
     ghost use Rattle.sc_search.specs.Views.{met_of, nothing_met, orders_of, states_of, tuples_in};
 
     /// Progress with nothing searched yet. The world is the opening.
@@ -121,6 +123,32 @@ impl<'p> Progress<'p> {
     {
         runs_stay_of_their_program();
         self.world.turn(handler)?;
+        Ok(())
+    }
+
+    /// Makes further turns of a handler in the world, which began in the state with the number: at most `most`, as long as they ask
+    /// nothing of others. Adds them.
+    ///
+    /// # Errors
+    /// Memory ran out.
+    pub(crate) fn go_on(
+        &mut self,
+        subject: Subject<'p>,
+        number: u32,
+        handler: HandlerNumber,
+        most: u32,
+        turns: &mut Vec<HandlerNumber>,
+    ) -> Result<(), AllocError>
+        requires there { number < length (states_of self.old) }
+        requires reached { HasReached subject.program.now.image subject.version subject.aim self.old }
+        ensures store { self.new.store ≡ self.old.store }
+        ensures edges { self.new.edges ≡ self.old.edges }
+        ensures reached { OnOk result (HasReached subject.entry.program.now.image subject.entry.version subject.entry.aim self.new) }
+        ensures moves { OnOk result (Moves turns.old.items turns.new.items (world_in self.old.world) (world_in self.new.world)) }
+        ensures goes { OnOk result (GoesOnUpTo most handler (world_in self.old.world) (world_in self.new.world)) }
+    {
+        let begun = self.store.region(number, handler);
+        go_on(subject.alloc, &mut self.world, begun, handler, most, turns)?;
         Ok(())
     }
 

@@ -19,17 +19,20 @@ use crate::length::length_of;
 use crate::progress::{Progress, Stop};
 use crate::replay::{Subject, finding_after, stuck_after};
 use crate::verdict::{Finding, Length, Verdict};
-use crate::waiting::first_stuck;
+use crate::waiting::{all_may_move, first_stuck};
 use crate::watch::Watch;
 use sc_code::Program;
 use sc_lockpass::Version;
 use std::alloc::{AllocError, Global};
 
+/// How many turns that ask nothing of others are joined with the one before them.
+const MOST_JOINED: u32 = 1_000;
+
 /// Looks for an order of turns of a program, with the version's limit on handlers, that meets the aim. It gives up if
 /// it would have to keep more than this number of states, or has played 2,000 turns for each of them.
 ///
 /// First, orders that differ only in turns that touch nothing of others are played once. If nothing is found so, all
-/// are played.
+/// are played. A turn that asks nothing of others then follows the one before it at once.
 ///
 /// # Errors
 /// Memory ran out.
@@ -80,7 +83,8 @@ fn is_undecided(finding: &Finding) -> bool
     matches!(finding, Finding::Undecided)
 }
 
-/// The search over all turns.
+/// The search over all turns, joined with turns that ask nothing of others. If that doesn't show that each handler may go on, each
+/// turn is tried by itself.
 fn search_all<W: Watch>(
     subject: Subject<'_>,
     limit: u32,
@@ -93,7 +97,29 @@ fn search_all<W: Watch>(
     ensures why { IfOk result (λ verdict. SaysWhyFor subject.entry limit verdict.is_whole verdict.finding) }
 {
     let mut progress = Progress::new(subject)?;
-    if let Some(stop) = play_all(subject, &mut progress, limit, watch)? {
+    if let Some(stop) = play_all(subject, &mut progress, MOST_JOINED, limit, watch)? {
+        return verdict_of(subject, progress, Some(stop), true);
+    }
+    if all_may_move(subject, &progress)? {
+        return verdict_of(subject, progress, None, true);
+    }
+    search_singly(subject, limit, watch)
+}
+
+/// The search over all turns, each by itself.
+fn search_singly<W: Watch>(
+    subject: Subject<'_>,
+    limit: u32,
+    watch: &mut W,
+) -> Result<Verdict, AllocError>
+    ensures found { IfOk result (λ verdict. IsFound subject.entry.program.now.image subject.entry.version verdict.finding) }
+    ensures first { IfOk result (λ verdict. IsFirst subject.entry.program.now.image subject.entry.version subject.entry.aim verdict.finding) }
+    ensures ends { IfOk result (λ verdict. AreEnds subject.entry.program.now.image subject.entry.version verdict.ends.items) }
+    ensures whole { IfOk result (IsShown subject.entry.program.now.image subject.entry.version subject.entry.aim) }
+    ensures why { IfOk result (λ verdict. SaysWhyFor subject.entry limit verdict.is_whole verdict.finding) }
+{
+    let mut progress = Progress::new(subject)?;
+    if let Some(stop) = play_all(subject, &mut progress, 0, limit, watch)? {
         return verdict_of(subject, progress, Some(stop), true);
     }
     if seeks_stuck(subject.aim) {
@@ -102,10 +128,10 @@ fn search_all<W: Watch>(
     verdict_of(subject, progress, None, true)
 }
 
-/// The verdict on states of which all turns are tried, if stuck handlers are looked for.
+/// The verdict on states of which all turns are tried, each by itself, if stuck handlers are looked for.
 fn closed_verdict<'p>(subject: Subject<'p>, progress: Progress<'p>) -> Result<Verdict, AllocError>
     requires closed { IsClosedFor subject (states_of progress) }
-    requires explored { IsExplored subject.program.now.image subject.version (met_of progress) }
+    requires explored { IsExplored subject.program.now.image subject.version 0 (met_of progress) }
     requires reached { HasReached subject.program.now.image subject.version subject.aim progress }
     requires seeks { seeks_stuck subject.aim ≡ true }
     ensures found { IfOk result (λ verdict. IsFound subject.entry.program.now.image subject.entry.version verdict.finding) }

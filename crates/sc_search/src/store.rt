@@ -96,6 +96,14 @@ impl<'p> Store<'p> {
         Ok(())
     }
 
+    /// The region of a handler in the state with the number, if it was asked for something by then.
+    pub(crate) fn region(&self, number: u32, handler: HandlerNumber) -> Option<&Region<'p>>
+        requires { number < length (states_in self.now) }
+    {
+        let place = self.states.tuple(number).get(1 + handler as usize)?;
+        self.regions.values().get(*place as usize)
+    }
+
     /// The state that has this tuple, if it was met.
     pub(crate) fn find(&self, tuple: &[u32]) -> Option<u32>
         ensures found { IfSome result (λ number. slice_get (states_in self.now) number ≡ Some (state_by (contents_in self.now) (parts_in self.now) tuple.now)) }

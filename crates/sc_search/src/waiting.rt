@@ -11,7 +11,7 @@ ghost use Rattle.sc_search.specs.Stops.{HasReached};
 ghost use Rattle.sc_search.specs.Views.{met_of, states_of};
 ghost use Rattle.sc_search.specs.Waiting.{AreMoving, HasStuck, IsLed, IsLeft, column};
 
-use crate::judging::{Kind, is_at};
+use crate::judging::{Kind, is_at, seeks_stuck};
 use crate::progress::Progress;
 use crate::replay::Subject;
 use sc_model::Status;
@@ -22,7 +22,7 @@ use sc_world::laws::{
 };
 use std::alloc::{AllocError, Global};
 
-/// The first state in which a handler waits for good, if there is one. All turns of all states are tried.
+/// The first state in which a handler waits for good, if there is one. All turns of all states are tried, each by itself.
 ///
 /// # Errors
 /// Memory ran out.
@@ -30,7 +30,7 @@ pub(crate) fn first_stuck<'p>(
     subject: Subject<'p>,
     progress: &Progress<'p>,
 ) -> Result<Option<u32>, AllocError>
-    requires explored { IsExplored subject.program.now.image subject.version (met_of progress.now) }
+    requires explored { IsExplored subject.program.now.image subject.version 0 (met_of progress.now) }
     requires reached { HasReached subject.program.now.image subject.version subject.aim progress.now }
     ensures stuck { IfOk result (λ first. IfSome first (HasStuck subject.entry.program.now.image subject.entry.version (states_of progress.now))) }
     ensures none { IfOk result (λ first. IfNone first
@@ -40,6 +40,30 @@ pub(crate) fn first_stuck<'p>(
     openings_are_of_their_program();
     runs_stay_of_their_program();
     first_waiting(subject.alloc, &progress.edges, &progress.store.statuses)
+}
+
+/// Whether each handler that waits in a state may move from there, if stuck handlers are looked for. All turns of all states
+/// are tried, each perhaps joined with others.
+///
+/// # Errors
+/// Memory ran out.
+pub(crate) fn all_may_move<'p>(
+    subject: Subject<'p>,
+    progress: &Progress<'p>,
+) -> Result<bool, AllocError>
+    requires explored { (joined : ℕ) × IsExplored subject.program.now.image subject.version joined (met_of progress.now) }
+    requires reached { HasReached subject.program.now.image subject.version subject.aim progress.now }
+    ensures { IfOk result (λ all. all ≡ true →
+        AreMoving subject.entry.program.now.image subject.entry.version subject.entry.aim (states_of progress.now)) }
+{
+    if !seeks_stuck(subject.aim) {
+        return Ok(true);
+    }
+    kept_alike_read_alike();
+    openings_are_of_their_program();
+    runs_stay_of_their_program();
+    let first = first_waiting(subject.alloc, &progress.edges, &progress.store.statuses)?;
+    Ok(first.is_none())
 }
 
 /// The first state in which some handler waits and from which no edges lead to one in which it has a turn.

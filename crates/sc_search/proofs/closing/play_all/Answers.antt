@@ -11,7 +11,7 @@ loop-init g c =
     record {
       count = omega arith;
       there = omega arith;
-      closes = closes_first c.args.subject.program.now.image c.args.subject.version c.args.subject.aim (met_of c.keep_opening.new.progress) opens;
+      closes = closes_first c.args.subject.program.now.image c.args.subject.version c.args.subject.aim c.args.joined (met_of c.keep_opening.new.progress) opens;
       reached = at_none c.in_ok-stop.field-0 c.in_default.is c.in_ok-stop.ensures.reached;
     }
 
@@ -23,7 +23,7 @@ loop-preserved g c =
     record {
       count = omega (arith, c.loop.invariant.count);
       there = omega (arith, still);
-      closes = closes_next c.args.subject.program.now.image c.args.subject.version c.args.subject.aim (met_of c.loop.progress) (met_of c.try_all.new.progress)
+      closes = closes_next c.args.subject.program.now.image c.args.subject.version c.args.subject.aim c.args.joined (met_of c.loop.progress) (met_of c.try_all.new.progress)
           c.loop.number c.loop.invariant.closes tries there;
       reached = at_none c.in_ok-stop-2.field-0 c.in_default-2.is c.in_ok-stop-2.ensures.reached;
     }
@@ -32,10 +32,10 @@ pub returns-clause-closed : goal.returns-clause-closed
 returns-clause-closed g c =
     let fits : c.loop.number < 4294967296 = omega (arith, c.loop.auto.number-fits) in
     let all : length (states_of c.loop.progress) ≤ c.loop.number = omega (arith, c.if-number-len-2.false, c.len-2.ensures, c.if-number.false) in
-    closes c.args.subject.program.now.image c.args.subject.version c.args.subject.aim (met_of c.loop.progress) c.loop.number c.loop.invariant.closes all
+    closes c.args.subject.program.now.image c.args.subject.version c.args.subject.aim c.args.joined (met_of c.loop.progress) c.loop.number c.loop.invariant.closes all
 
 pub returns-clause-explored : goal.returns-clause-explored
 returns-clause-explored g c =
     let fits : c.loop.number < 4294967296 = omega (arith, c.loop.auto.number-fits) in
     let all : length (states_of c.loop.progress) ≤ c.loop.number = omega (arith, c.if-number-len-2.false, c.len-2.ensures, c.if-number.false) in
-    explores c.args.subject.program.now.image c.args.subject.version c.args.subject.aim (met_of c.loop.progress) c.loop.number c.loop.invariant.closes all fits
+    explores c.args.subject.program.now.image c.args.subject.version c.args.subject.aim c.args.joined (met_of c.loop.progress) c.loop.number c.loop.invariant.closes all fits

@@ -9,6 +9,6 @@ abbrev pub invariant-loop : goal.invariant-loop
 invariant-loop g l = record {
   count : l.number ≡ l.counter;
   there : l.number ≤ length (states_of l.progress);
-  closes : ClosesBelow l.subject.program.now.image l.subject.version l.subject.aim (met_of l.progress) l.number;
+  closes : ClosesBelow l.subject.program.now.image l.subject.version l.subject.aim l.joined (met_of l.progress) l.number;
   reached : HasReached l.subject.program.now.image l.subject.version l.subject.aim l.progress;
 }

@@ -9,7 +9,7 @@ use Rattle.sc_search.proofs.closing.try_all.Goals as goal
 
 pub loop-handler-init : goal.loop-handler-init
 loop-handler-init c = record {
-  tries = tries_first c.args.subject.program.now.image c.args.subject.version c.args.subject.aim (met_of c.args.progress.now) c.args.number;
+  tries = tries_first c.args.subject.program.now.image c.args.subject.version c.args.subject.aim c.args.joined (met_of c.args.progress.now) c.args.number;
   reached = c.requires.reached;
 }
 
@@ -17,7 +17,7 @@ pub loop-handler-preserved : goal.loop-handler-preserved
 loop-handler-preserved c =
     let tries = at_none c.in_ok-stop.field-0 c.in_default.is c.in_ok-stop.ensures.tries in
     record {
-      tries = tries_next c.args.subject.program.now.image c.args.subject.version c.args.subject.aim (met_of c.args.progress.now) (met_of c.loop-handler.progress)
+      tries = tries_next c.args.subject.program.now.image c.args.subject.version c.args.subject.aim c.args.joined (met_of c.args.progress.now) (met_of c.loop-handler.progress)
           (met_of c.try_turn.new.progress) c.args.number c.loop-handler.handler c.loop-handler.invariant.tries tries;
       reached = at_none c.in_ok-stop.field-0 c.in_default.is c.in_ok-stop.ensures.reached;
     }
@@ -25,7 +25,7 @@ loop-handler-preserved c =
 pub returns-clause-tries : goal.returns-clause-tries
 returns-clause-tries c =
     let x = c.args.progress.now in
-    tries_rest c.args.subject.program.now.image c.args.subject.version c.args.subject.aim (met_of x) (orders_of x) (statuses_of x) x.turns c.args.number
+    tries_rest c.args.subject.program.now.image c.args.subject.version c.args.subject.aim c.args.joined (met_of x) (orders_of x) (statuses_of x) x.turns c.args.number
     c.statuses-handler-end.result.now c.requires.reached.reached c.requires.there c.statuses-handler-end.ensures (met_of c.loop-handler.progress) c.loop-handler.handler
     c.loop-handler.invariant.tries (omega (arith, c.loop-handler-test.false))
 

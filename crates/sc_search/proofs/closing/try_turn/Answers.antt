@@ -8,5 +8,5 @@ pub returns-then-not-is_at-clause-tries : goal.returns-then-not-is_at-clause-tri
 returns-then-not-is_at-clause-tries c =
     let x = c.args.progress.now in
     let no : c.is_at.result ≡ false = first_of (search rules, grind (arith, common_steps)) in
-    tries_idle c.args.subject.program.now.image c.args.subject.version c.args.subject.aim (met_of x) (orders_of x) (statuses_of x) x.turns c.args.number
+    tries_idle c.args.subject.program.now.image c.args.subject.version c.args.subject.aim c.args.joined (met_of x) (orders_of x) (statuses_of x) x.turns c.args.number
     c.statuses.result.now c.requires.reached.reached c.requires.there c.statuses.ensures c.args.handler (sym c.is_at.ensures ∙ no)

@@ -1,29 +1,26 @@
-use Rattle.std.proofs.Common.{◌≡◌, ◌∙◌, true, false, Some, None, sym}
-use Rattle.sc_search.specs.Limits.{SaysWhyFor}
+use Rattle.std.proofs.Common.{true, Some, None}
 use Rattle.sc_search.specs.Stops.{StopsFor}
 use Rattle.sc_search.specs.Views.{states_of}
 use Rattle.sc_search.proofs.KeptStates.{at_none}
 use Rattle.sc_search.proofs.Reasons.{whole_verdict}
-use Rattle.sc_search.proofs.Verdicts.{at_some, never_none, of_limit, other_shown}
+use Rattle.sc_search.proofs.Verdicts.{at_some, closed_shown, never_none}
 use Rattle.sc_search.proofs.searching.search_all.Goals as goal
 
-pub returns-clause-whole : goal.returns-clause-whole
-returns-clause-whole g c =
-    other_shown c.args.subject.program.now.image c.args.subject.version c.args.subject.aim (states_of c.play_all.new.progress) true c.verdict_of-2.result None
-    (at_none c.in_ok-stop.field-0 c.in_default.is c.in_ok-stop.ensures.closed)
-    (λ e seeks. let no : false ≡ true = sym c.if-seeks_stuck.false ∙ c.seeks_stuck.ensures ∙ seeks in cc)
-    c.verdict_of-2.ensures.whole c.verdict_of-2.ensures.states
-
-pub returns-clause-why : goal.returns-clause-why
-returns-clause-why g c =
-    whole_verdict c.args.subject.program.now.image c.args.subject.version c.args.subject.aim c.verdict_of-2.result None c.args.limit tt c.verdict_of-2.ensures.done
-    c.verdict_of-2.ensures.why
+pub all_may_move-requires-clause-explored : goal.all_may_move-requires-clause-explored
+all_may_move-requires-clause-explored g c = (1000, at_none c.in_ok-stop.field-0 c.in_default.is c.in_ok-stop.ensures.explored)
 
 pub returns-in-Some-clause-why : goal.returns-in-Some-clause-why
 returns-in-Some-clause-why g c =
     whole_verdict c.args.subject.program.now.image c.args.subject.version c.args.subject.aim c.verdict_of.result (Some c.in-Some.stop) c.args.limit
     (at_some (StopsFor c.args.subject.program.now.image c.args.subject.version c.args.subject.aim c.args.limit) c.in_ok-stop.field-0 c.in-Some.stop c.in-Some.is c.in_ok-stop.ensures.stops) (λ e. never_none c.in-Some.stop e) c.verdict_of.ensures.why
 
-pub returns-then-seeks_stuck-clause-why : goal.returns-then-seeks_stuck-clause-why
-returns-then-seeks_stuck-clause-why g c =
-    of_limit (λ d limit. SaysWhyFor c.args.subject limit d.is_whole d.finding) c.closed_verdict.result c.args.limit c.closed_verdict.ensures.why
+pub returns-then-branch-clause-whole : goal.returns-then-branch-clause-whole
+returns-then-branch-clause-whole g c =
+    closed_shown c.args.subject.program.now.image c.args.subject.version c.args.subject.aim (states_of c.play_all.new.progress) true c.verdict_of-then-branch.result
+    (at_none c.in_ok-stop.field-0 c.in_default.is c.in_ok-stop.ensures.closed) (c.in_ok-all_may_move.ensures c.if-branch.true)
+    c.verdict_of-then-branch.ensures.whole c.verdict_of-then-branch.ensures.states
+
+pub returns-then-branch-clause-why : goal.returns-then-branch-clause-why
+returns-then-branch-clause-why g c =
+    whole_verdict c.args.subject.program.now.image c.args.subject.version c.args.subject.aim c.verdict_of-then-branch.result None c.args.limit tt c.verdict_of-then-branch.ensures.done
+    c.verdict_of-then-branch.ensures.why

@@ -1,0 +1,316 @@
+-- A search that joins turns with others that ask nothing, beside the machine of what is kept.
+use Rattle.std.proofs.Common.{◌≡◌, ◌++◌, ◌∙◌, ◌||◌, inl, inr, ℕ, zero, suc, Bool, true, false, List, [], ◌∷◌, Option, Some, None, get_or, is_some, refl, sym, ap, subst, arith}
+use Rattle.std.specs.Prelude.{slice_set}
+use Rattle.std.proofs.lemmas.Bool.{cases_lt}
+use Rattle.std.proofs.lemmas.List.FromFn.{get_or-map-range_with_len, length-map-range_with_len}
+use Rattle.std.proofs.lemmas.List.{get_or_past}
+use Rattle.sc_lockpass.specs.Versions.{most_handlers}
+use Rattle.sc_lockpass.specs.declared.version.Version.{Version}
+use Rattle.sc_model.specs.declared.cause.Cause.{Cause}
+use Rattle.sc_model.specs.declared.status.Status.{Status}
+use Rattle.sc_model.specs.declared.status.Status.TheVariants.{Busy, Failed, Free, Waiting}
+use Rattle.sc_code.specs.declared.program.Image.{Image}
+use Rattle.sc_region.specs.declared.job.Job.{Job}
+use Rattle.sc_region.specs.declared.job.Job.TheVariants as job
+use Rattle.sc_handler.specs.Handlers.{Awaits, HandlerStage, HasMade, Idle, Reserves, Runs, State}
+use Rattle.sc_handler.specs.Picking.{job_of, status_with}
+use Rattle.sc_counts.proofs.Jobs.{job_canon}
+use Rattle.sc_request.specs.Logs.{picked, settles, status_in}
+use Rattle.sc_play.specs.Contents.{contents_at}
+use Rattle.sc_orders.specs.Movers.{AreClosed, FindAll, IsStable, Kept, LeadsTo, Moved}
+use Rattle.sc_orders.specs.Orders.{Leads, NeverMoves}
+use Rattle.sc_orders.proofs.Movers.{closed_find_all}
+use Rattle.sc_orders.proofs.Orders.{leads_split, never_at_all, one_end}
+use Rattle.sc_world.specs.Kept.{IsOf, KeptAlikeReadAlike, OpeningsAreOf, PlainKept, RunsStayOf, kept}
+use Rattle.sc_world.specs.Reports.{statuses}
+use Rattle.sc_world.specs.Turning.{IsTurn}
+use Rattle.sc_world.specs.Worlds.{PlainWorld, opened}
+use Rattle.sc_world.proofs.Runs.{runs-more}
+use Rattle.sc_refines_world.specs.Anew.{IsPlayed, RunsAnew}
+use Rattle.sc_movers.specs.Kept.{IsReached, Turn, has_turn, never}
+use Rattle.sc_movers.specs.Own.{IsOwn, OwnMovers}
+use Rattle.sc_movers.proofs.Kept.{pick_is}
+use Rattle.sc_search.specs.declared.aims.Aim.{Aim}
+use Rattle.sc_search.specs.declared.aims.Aim.TheVariants as aim
+use Rattle.sc_search.specs.Aims.{AreStuck, HasFailed, HasRefused, IsMet}
+use Rattle.sc_search.specs.Closed.{IsAmong, IsClosed, IsTried}
+use Rattle.sc_search.specs.Joined.{AsksNothing, GoesOn}
+use Rattle.sc_search.specs.Waiting.{AreMoving, IsAnewTurn, seeks_stuck}
+use Rattle.sc_search.proofs.TriedTurns.{plays_on}
+use Rattle.sc_search.proofs.Waits.{idle_job}
+
+-- ---- statuses
+
+abbrev pub is_waiting : Status → Bool
+is_waiting (Failed why) = false
+is_waiting Busy = false
+is_waiting Waiting = true
+is_waiting Free = false
+
+abbrev pub is_busy : Status → Bool
+is_busy (Failed why) = false
+is_busy Busy = true
+is_busy Waiting = false
+is_busy Free = false
+
+-- the handler waits in the world
+abbrev pub waits_at : ℕ → PlainWorld → Bool
+waits_at h w = is_waiting (get_or (statuses w) h Free)
+
+-- it has a turn there
+abbrev pub busy_at : ℕ → PlainWorld → Bool
+busy_at h w = is_busy (get_or (statuses w) h Free)
+
+-- only who has something to do is busy
+busy_needs : (why : Option Cause) (b : Bool) (stage : HandlerStage) → is_busy (status_with why b stage) ≡ true → b ≡ true
+busy_needs (Some c) b stage e = cc
+busy_needs None true stage e = refl
+busy_needs None false Idle e = cc
+busy_needs None false Runs e = cc
+busy_needs None false (HasMade k) e = cc
+busy_needs None false (Reserves ks mark) e = cc
+busy_needs None false (Awaits k is_creation) e = cc
+
+abbrev state_of : PlainKept → State
+state_of k = k.state
+
+module _ (alike : KeptAlikeReadAlike) (open_of : OpeningsAreOf) (stay : RunsStayOf) (p : Image) (v : Version) where
+  of_program : (w : PlainWorld) → IsPlayed p v w → IsOf p (most_handlers v) w
+  of_program w played = stay p (most_handlers v) played.0 (opened p v) w (open_of p v) played.1
+
+  -- they are those of each world with the same state
+  by_state : (w u : PlainWorld) → IsPlayed p v w → IsPlayed p v u → (kept w).state ≡ (kept u).state → statuses w ≡ statuses u
+  by_state w u played its same =
+      let of = of_program w played in
+      let its_of = of_program u its in
+      let beside : PlainWorld = record u { regions = w.regions } in
+      (alike p (most_handlers v) w beside (record {
+        of = of;
+        its = record {
+          most = its_of.most;
+          few = its_of.few;
+          nobody_out = its_of.nobody_out;
+          places = of.places;
+          programs = of.programs;
+          counted = its_of.counted;
+        };
+        same = λ i. record { state = same i; regions = contents_at w.regions };
+      })).statuses
+
+  met_by_state : (a : Aim) (w u : PlainWorld) → (kept w).state ≡ (kept u).state → statuses w ≡ statuses u → IsMet a w → IsMet a u
+  met_by_state aim.Stuck w u state same met = subst AreStuck same met
+  met_by_state aim.Fails w u state same met = subst HasFailed same met
+  met_by_state aim.Refused w u state same met = subst HasRefused state met
+  met_by_state aim.Any w u state same (inl stuck) = inl (subst AreStuck same stuck)
+  met_by_state aim.Any w u state same (inr (inl failed)) = inr (inl (subst HasFailed same failed))
+  met_by_state aim.Any w u state same (inr (inr refused)) = inr (inr (subst HasRefused state refused))
+
+  idle_has_none : (h : ℕ) (w : PlainWorld) → IsPlayed p v w → busy_at h w ≡ false → has_turn h (kept w) ≡ false
+  idle_has_none h w played idle =
+      ap is_some (job_canon h w.center.state ∙ sym (pick_is h w.center ((of_program w played).nobody_out h)) ∙ idle_job p v aim.Any w h idle)
+
+  busy_has : (h : ℕ) (w : PlainWorld) → IsPlayed p v w → busy_at h w ≡ true → has_turn h (kept w) ≡ true
+  busy_has h w played busy = elim (cases_lt h w.center.state.count) [
+    | inl few ↦
+        let at : get_or (statuses w) h Free ≡ status_in h w.center =
+        get_or-map-range_with_len (λ (k : ℕ). status_in k w.center) 0 w.center.state.count h h Free few (omega arith) in
+        let some : (is_some (w.center.out h) || is_some (job_of h w.center.state)) ≡ true =
+        busy_needs (w.center.state.handlers h).failure (is_some (w.center.out h) || is_some (job_of h w.center.state)) (w.center.state.handlers h).stage
+        (sym (ap is_busy at) ∙ busy) in
+        ap is_some (job_canon h w.center.state)
+        ∙ ap (λ (o : Option Job). is_some o || is_some (job_of h w.center.state)) (sym ((of_program w played).nobody_out h)) ∙ some
+    | inr past ↦
+        let none : get_or (statuses w) h Free ≡ Free =
+        get_or_past (statuses w) h Free (omega (arith, past, length-map-range_with_len (λ (k : ℕ). status_in k w.center) 0 w.center.state.count)) in
+        let no : true ≡ false = sym busy ∙ ap is_busy none in
+        cc
+  ]
+
+  -- ---- turns between what is kept
+
+  module _ (own : OwnMovers p v) where
+    one : (h : ℕ) (k l m : PlainKept) → Turn p v h k l → Turn p v h k m → l ≡ m
+    one = own.whole_machine.one
+
+    turn_kept : (h : ℕ) (x y : PlainWorld) → IsPlayed p v x → IsTurn h x y → Turn p v h (kept x) (kept y)
+    turn_kept h x y played turn = record { before = x; after = y; played = played; kept_before = refl; turn = turn; kept_after = refl }
+
+    plays : (h : ℕ) (k l : PlainKept) → (t : Turn p v h k l) → IsPlayed p v t.after
+    plays h k l t = (t.played.0 ++ h ∷ [], runs-more t.played.0 h (opened p v) t.before t.after t.played.1 t.turn)
+
+    -- each in a world that is played anew
+    anew_kept : (hs : List ℕ) (x : PlainWorld) (l : PlainKept) → IsPlayed p v x → Leads (Turn p v) hs (kept x) l →
+        (y : PlainWorld) × IsPlayed p v y × RunsAnew p v hs x y × (kept y ≡ l)
+    anew_kept [] x l played same = (x, played, (played, refl), sym same)
+    anew_kept (h ∷ hs) x l played leads =
+        let t = leads.1 in
+        let rest = anew_kept hs t.after l (plays h (kept x) leads.0 t) (subst (λ (k : PlainKept). Leads (Turn p v) hs k l) (sym t.kept_after) leads.2) in
+        (rest.0, rest.1, (t.before, t.after, t.played, t.kept_before, t.turn, rest.2), rest.3)
+
+    kept_leads : (hs : List ℕ) (x y : PlainWorld) → Leads (IsAnewTurn p v) hs x y → Leads (Turn p v) hs (kept x) (kept y)
+    kept_leads [] x y same = ap kept same
+    kept_leads (h ∷ hs) x y leads =
+        let t = leads.1 in (
+          kept leads.0,
+          record { before = t.before; after = leads.0; played = t.played; kept_before = t.alike; turn = t.turn; kept_after = refl },
+          kept_leads hs leads.0 y leads.2,
+        )
+
+    anew_played : (hs : List ℕ) (x y : PlainWorld) → IsPlayed p v x → Leads (IsAnewTurn p v) hs x y → IsPlayed p v y
+    anew_played [] x y played same = subst (IsPlayed p v) (sym same) played
+    anew_played (h ∷ hs) x y played leads =
+        let t = leads.1 in
+        anew_played hs leads.0 y (t.played.0 ++ h ∷ [], runs-more t.played.0 h (opened p v) t.before leads.0 t.played.1 t.turn) leads.2
+
+    -- a turn that asks nothing of others
+    asks_own : (h : ℕ) (x : PlainWorld) → IsPlayed p v x → AsksNothing h x → IsOwn p v h (kept x)
+    asks_own h x played asks =
+        let wants = asks.wants in
+        let few = wants.plays.few in
+        let some = wants.plays.some in
+        record {
+          before = x;
+          after = record {
+            most = x.most;
+            center = settles x.most h job.Go 1 wants.outcome.want (picked h job.Go x.center);
+            regions = slice_set x.regions h wants.after;
+          };
+          played = played;
+          kept_is = refl;
+          own = record {
+            goes = sym (pick_is h x.center ((of_program x played).nobody_out h)) ∙ asks.goes;
+            makes = record {
+              before = asks.region;
+              after = wants.after;
+              stands = asks.stands;
+              settles = record { outcome = wants.outcome; count = omega (arith, few, some); plays = wants.plays; center = refl };
+              regions = refl;
+              most = refl;
+            };
+            asks_nothing = wants.nothing;
+          };
+        }
+
+    -- ---- states that are closed
+
+    module _ (a : Aim) (ks : List PlainKept) (closed : IsClosed p v a ks) where
+      abbrev Chain : PlainKept → Type 0
+      Chain k = LeadsTo (Turn p v) never (IsOwn p v) (IsAmong ks) k
+
+      leads_on : (h n : ℕ) (x y : PlainWorld) → IsPlayed p v x → GoesOn h n x y → Chain (kept y) → Chain (kept x)
+      leads_on h zero x y played same chain = subst (λ (w : PlainWorld). Chain (kept w)) same chain
+      leads_on h (suc n) x y played on chain =
+          let there = plays_on p v h n x on.0 played on.1 in
+          leads_on h n x on.0 played on.1 (Moved (kept on.0) h (kept y) (asks_own h on.0 there on.2) (turn_kept h on.0 y there on.3) refl chain)
+
+      tried : (k : PlainKept) → IsAmong ks k → (h : ℕ) → IsTried p v closed.joined ks k h
+      tried k among h = closed.tried among.number k among.stands h
+
+      tried_turn : (k : PlainKept) (among : IsAmong ks k) (h : ℕ) → Turn p v h k (kept (tried k among h).turn.next)
+      tried_turn k among h =
+          let t = tried k among h in
+          record {
+            before = t.before;
+            after = t.turn.next;
+            played = (t.stands_in.handlers, t.stands_in.runs);
+            kept_before = t.stands_in.kept;
+            turn = t.turn.turn;
+            kept_after = refl;
+          }
+
+      tried_chain : (k : PlainKept) (among : IsAmong ks k) (h : ℕ) → Chain (kept (tried k among h).turn.next)
+      tried_chain k among h =
+          let t = tried k among h in
+          let hs = t.stands_in.handlers in
+          let next : IsPlayed p v t.turn.next = (hs ++ h ∷ [], runs-more hs h (opened p v) t.before t.turn.next t.stands_in.runs t.turn.turn) in
+          leads_on h t.turn.on.turns t.turn.next t.after next t.turn.on.goes_on (Kept (kept t.after) t.among)
+
+      are_closed : AreClosed (Turn p v) has_turn never (IsReached p v) (IsOwn p v) (kept (opened p v)) (IsAmong ks)
+      are_closed = record {
+        opens = Kept (kept (opened p v)) closed.opens;
+        reached = λ k among.
+            let u = closed.unmet among.number k among.stands in
+            record { world = u.world; played = (u.stands_in.handlers, u.stands_in.runs); kept_is = u.stands_in.kept };
+        good = λ k among. refl;
+        goes = λ k among h has. (kept (tried k among h).turn.next, tried_turn k among h);
+        good_turns = λ k among h has l t. refl;
+        leads = λ k among h has l t. subst Chain (one h k (kept (tried k among h).turn.next) l (tried_turn k among h) t) (tried_chain k among h);
+      }
+
+      find : FindAll (Turn p v) never (IsOwn p v) (kept (opened p v)) (IsAmong ks)
+      find =
+          closed_find_all (Turn p v) has_turn never (IsReached p v) own.whole_machine (IsOwn p v) own.movers_anywhere (kept (opened p v)) (IsAmong ks) are_closed
+          (record { world = opened p v; played = ([], refl); kept_is = refl })
+
+      -- ---- what is looked for
+
+      abbrev ShowsIt : PlainKept → Type 0
+      ShowsIt k = (w : PlainWorld) × IsPlayed p v w × (kept w ≡ k) × IsMet a w
+
+      shows_stay : IsStable (Turn p v) (IsOwn p v) ShowsIt
+      shows_stay g k l shown o t =
+          let same : (kept shown.0).state ≡ (kept t.after).state = ap state_of shown.2 ∙ sym (own.stays g k l o t) ∙ ap state_of (sym t.kept_after) in
+          let on = plays g k l t in
+          (t.after, on, t.kept_after, met_by_state a shown.0 t.after same (by_state shown.0 t.after shown.1 on same) shown.3)
+
+      -- no order leads to worlds that all show it
+      pub none_shows : (hs : List ℕ) → ((y : PlainWorld) → RunsAnew p v hs (opened p v) y → IsMet a y) → ⊥
+      none_shows hs shows =
+          let there = find.goes hs in
+          let y = anew_kept hs (opened p v) there.0 ([], refl) there.1 in
+          let found = find.found ShowsIt shows_stay hs there.0 there.1 (y.0, y.1, y.3, shows y.0 y.2) in
+          let w = found.has in
+          let u = closed.unmet found.kept.number found.world found.kept.stands in
+          let its : IsPlayed p v u.world = (u.stands_in.handlers, u.stands_in.runs) in
+          let same : (kept w.0).state ≡ (kept u.world).state = ap state_of (w.2 ∙ sym u.stands_in.kept) in
+          u.unmet (met_by_state a w.0 u.world same (by_state w.0 u.world w.1 its same) w.3)
+
+      -- ---- handlers that wait for good
+
+      abbrev WaitsSo : ℕ → PlainKept → Type 0
+      WaitsSo h k = (w : PlainWorld) × IsPlayed p v w × (kept w ≡ k) × (waits_at h w ≡ true) × NeverMoves (Turn p v) has_turn h k
+
+      same_status : (h : ℕ) (w u : PlainWorld) → statuses w ≡ statuses u → waits_at h w ≡ true → waits_at h u ≡ true
+      same_status h w u same waits = ap (λ (ss : List Status). is_waiting (get_or ss h Free)) (sym same) ∙ waits
+
+      waits_stay : (h : ℕ) → IsStable (Turn p v) (IsOwn p v) (WaitsSo h)
+      waits_stay h g k l waits o t =
+          let same : (kept waits.0).state ≡ (kept t.after).state = ap state_of waits.2 ∙ sym (own.stays g k l o t) ∙ ap state_of (sym t.kept_after) in
+          let on = plays g k l t in (
+            t.after,
+            on,
+            t.kept_after,
+            same_status h waits.0 t.after (by_state waits.0 t.after waits.1 on same) waits.3,
+            λ hs.
+                let n = waits.4 (g ∷ hs) in
+                (n.0, subst (λ (m : PlainKept). Leads (Turn p v) hs m n.0) (one g k n.1.0 l n.1.1 t) n.1.2, n.2),
+          )
+
+      never_moves : (hs : List ℕ) (h : ℕ) (k : PlainKept) → Leads (Turn p v) hs (kept (opened p v)) k →
+          ((gs : List ℕ) (y : PlainWorld) → RunsAnew p v (hs ++ gs) (opened p v) y → busy_at h y ≡ false) → NeverMoves (Turn p v) has_turn h k
+      never_moves hs h k leads idle gs =
+          let all = find.goes (hs ++ gs) in
+          let parts = leads_split (Turn p v) hs gs (kept (opened p v)) all.0 all.1 in
+          let y = anew_kept (hs ++ gs) (opened p v) all.0 ([], refl) all.1 in (
+            all.0,
+            subst (λ (m : PlainKept). Leads (Turn p v) gs m all.0) (one_end (Turn p v) one hs (kept (opened p v)) parts.0 k parts.1 leads) parts.2,
+            ap (has_turn h) (sym y.3) ∙ idle_has_none h y.0 y.1 (idle gs y.0 y.2),
+          )
+
+      -- no order leads to where a handler waits that no further turns give one
+      pub none_waits : AreMoving p v a ks → seeks_stuck a ≡ true → (hs : List ℕ) (h : ℕ) →
+          ((y : PlainWorld) → RunsAnew p v hs (opened p v) y → waits_at h y ≡ true) →
+          ((gs : List ℕ) (y : PlainWorld) → RunsAnew p v (hs ++ gs) (opened p v) y → busy_at h y ≡ false) → ⊥
+      none_waits moving seeks hs h waits idle =
+          let there = find.goes hs in
+          let y = anew_kept hs (opened p v) there.0 ([], refl) there.1 in
+          let found = find.found (WaitsSo h) (waits_stay h) hs there.0 there.1 (y.0, y.1, y.3, waits y.0 y.2, never_moves hs h there.0 there.1 idle) in
+          let w = found.has in
+          let m = moving seeks found.kept.number found.world found.kept.stands in
+          let same : (kept w.0).state ≡ (kept m.world).state = ap state_of (w.2 ∙ sym m.kept_is) in
+          let on = m.moves h (same_status h w.0 m.world (by_state w.0 m.world w.1 m.played same) w.3) in
+          let leads : Leads (Turn p v) on.handlers found.world (kept on.world) =
+          subst (λ (k : PlainKept). Leads (Turn p v) on.handlers k (kept on.world)) m.kept_is (kept_leads on.handlers m.world on.world on.leads) in
+          let idle_there = never_at_all (Turn p v) one has_turn h found.world w.4 on.handlers (kept on.world) leads in
+          let no : true ≡ false = sym (busy_has h on.world (anew_played on.handlers m.world on.world m.played on.leads) on.turn) ∙ idle_there in
+          cc

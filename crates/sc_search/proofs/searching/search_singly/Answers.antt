@@ -1,0 +1,29 @@
+use Rattle.std.proofs.Common.{◌≡◌, ◌∙◌, true, false, Some, None, sym}
+use Rattle.sc_search.specs.Limits.{SaysWhyFor}
+use Rattle.sc_search.specs.Stops.{StopsFor}
+use Rattle.sc_search.specs.Views.{states_of}
+use Rattle.sc_search.proofs.KeptStates.{at_none}
+use Rattle.sc_search.proofs.Reasons.{whole_verdict}
+use Rattle.sc_search.proofs.Verdicts.{at_some, never_none, of_limit, other_shown}
+use Rattle.sc_search.proofs.searching.search_singly.Goals as goal
+
+pub returns-clause-whole : goal.returns-clause-whole
+returns-clause-whole g c =
+    other_shown c.args.subject.program.now.image c.args.subject.version c.args.subject.aim (states_of c.play_all.new.progress) true c.verdict_of-2.result None
+    (at_none c.in_ok-stop.field-0 c.in_default.is c.in_ok-stop.ensures.closed)
+    (λ e seeks. let no : false ≡ true = sym c.if-seeks_stuck.false ∙ c.seeks_stuck.ensures ∙ seeks in cc)
+    c.verdict_of-2.ensures.whole c.verdict_of-2.ensures.states
+
+pub returns-clause-why : goal.returns-clause-why
+returns-clause-why g c =
+    whole_verdict c.args.subject.program.now.image c.args.subject.version c.args.subject.aim c.verdict_of-2.result None c.args.limit tt c.verdict_of-2.ensures.done
+    c.verdict_of-2.ensures.why
+
+pub returns-in-Some-clause-why : goal.returns-in-Some-clause-why
+returns-in-Some-clause-why g c =
+    whole_verdict c.args.subject.program.now.image c.args.subject.version c.args.subject.aim c.verdict_of.result (Some c.in-Some.stop) c.args.limit
+    (at_some (StopsFor c.args.subject.program.now.image c.args.subject.version c.args.subject.aim c.args.limit) c.in_ok-stop.field-0 c.in-Some.stop c.in-Some.is c.in_ok-stop.ensures.stops) (λ e. never_none c.in-Some.stop e) c.verdict_of.ensures.why
+
+pub returns-then-seeks_stuck-clause-why : goal.returns-then-seeks_stuck-clause-why
+returns-then-seeks_stuck-clause-why g c =
+    of_limit (λ d limit. SaysWhyFor c.args.subject limit d.is_whole d.finding) c.closed_verdict.result c.args.limit c.closed_verdict.ensures.why
