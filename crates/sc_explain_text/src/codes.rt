@@ -4,7 +4,8 @@ ghost use Rattle.std.specs.Prelude.{IfSome, IsTrue};
 ghost use Rattle.sc_explain_text.specs.Page.{IsPageOf};
 
 use crate::{
-    class_pages, failure_pages, grammar_pages, lowering_pages, record_pages, rule_pages, text_pages,
+    class_pages, failure_pages, grammar_pages, lowering_pages, record_pages, rule_pages,
+    subject_pages, text_pages,
 };
 use std::alloc::{AllocError, Global};
 
@@ -18,10 +19,11 @@ enum Topic {
     Lowering,
     Records,
     Failures,
+    Subjects,
 }
 
 /// In the order in which they are looked at.
-const TOPICS: [Topic; 7] = [
+const TOPICS: [Topic; 8] = [
     Topic::Text,
     Topic::Grammar,
     Topic::Classes,
@@ -29,6 +31,7 @@ const TOPICS: [Topic; 7] = [
     Topic::Lowering,
     Topic::Records,
     Topic::Failures,
+    Topic::Subjects,
 ];
 
 /// The pages that tell of a topic.
@@ -41,6 +44,7 @@ fn pages_of(topic: Topic) -> &'static [&'static str] {
         Topic::Lowering => lowering_pages::pages(),
         Topic::Records => record_pages::pages(),
         Topic::Failures => failure_pages::pages(),
+        Topic::Subjects => subject_pages::pages(),
     }
 }
 

@@ -64,9 +64,10 @@ This doesn't:
 
     class APPLICATION create make feature make do f (1) end f (n: INTEGER) require n > 0 do end end
 
-Why: The routine may do anything where its precondition doesn't hold, and nobody
-but the caller could make it hold. Where a clause names a formal on a handler
-that was just reserved it is waited for instead, since others may make it hold.
+Why: The routine may do anything if its precondition doesn't hold, and only the
+caller could make it hold. If a clause names a formal on a handler that this very
+call reserves, it is waited for instead, since others may make it hold:
+`scoop explain waiting` says more.
 "#,
     r#"F5 Overflow
 

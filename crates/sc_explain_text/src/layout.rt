@@ -13,6 +13,8 @@ pub struct Layout {
     open: Vec<Opening>,
     /// The first construct that was ended by an `end` further left than its own would be.
     early: Option<Span>,
+    /// The first `if` after an `else` in the same line, since the end of the last routine.
+    else_if: Option<Span>,
     /// How many tokens there are up to the end of the last class, or of the last routine in it.
     pub settled: usize,
     /// Whether that is a routine's end.
@@ -71,6 +73,7 @@ impl Layout {
         let mut layout = Layout {
             open: Vec::new(alloc),
             early: None,
+            else_if: None,
             settled: 0,
             is_in_class: false,
             whole: Vec::new(alloc),
@@ -86,6 +89,9 @@ impl Layout {
             }
             let terminal = terminal_of(token);
             if let Some(terminal) = terminal {
+                if terminal == Terminal::If && last == Some(Terminal::Else) {
+                    layout.note_else_if(margin, token.span);
+                }
                 let step = step_of(terminal, last, layout.open.last());
                 layout.take(step, text, margin, number, token.span);
                 layout.turn(terminal, last, number);
@@ -97,8 +103,23 @@ impl Layout {
         layout
     }
 
+    /// Notes an `if` after an `else`, if it is the first in one line with that.
+    fn note_else_if(&mut self, margin: Margin, span: Span) {
+        if !margin.is_blank && self.else_if.is_none() {
+            self.else_if = Some(span);
+        }
+    }
+
     /// The construct that hasn't ended.
     fn still_open(&self) -> Option<Related> {
+        if let Some(span) = self.else_if
+            && (self.early.is_some() || self.open.len() == 1)
+        {
+            return Some(Related {
+                what: "`else if` begins an `if` that needs an `end` of its own; `elseif` needs none",
+                span,
+            });
+        }
         match (self.open.last(), self.early) {
             (None, _) => None,
             (Some(_), Some(span)) => Some(Related {
@@ -246,6 +267,7 @@ impl Layout {
         self.settled = settled;
         self.is_in_class = is_in_class;
         self.early = None;
+        self.else_if = None;
         self.forget_from(0);
     }
 }

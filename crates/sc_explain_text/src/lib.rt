@@ -31,6 +31,7 @@ mod record_pages;
 mod related;
 mod rule_pages;
 mod spelling;
+mod subject_pages;
 mod text_pages;
 
 pub use characters::explain_character;
