@@ -56,7 +56,8 @@ fn number_of(tokens: &[Token], span: Span) -> usize {
 impl<'t> Stop<'t> {
     fn explain(self, alloc: Global, lines: &mut Lines) -> Option<Related> {
         self.push_place(lines);
-        let is_told = push_instead_of_word(lines, self.word(0))
+        let is_told = self.push_record(lines)
+            || push_instead_of_word(lines, self.word(0))
             || self.push_word_in_line(lines)
             || self.push_meant(alloc, lines)
             || self.push_real(lines)
@@ -119,6 +120,18 @@ impl<'t> Stop<'t> {
             "no system begins with the text up to `~`\n"
         };
         lines.fill_name(template, word)
+    }
+
+    /// Adds what to do with a record that is given as a text, and whether there is one.
+    fn push_record(self, lines: &mut Lines) -> bool {
+        let is_record = match self.text.get(self.start(0)..) {
+            Some(from) => from.starts_with("scoop record "),
+            None => false,
+        };
+        if is_record {
+            lines.push("help: this is a record, which `scoop replay RECORD FILE..` plays\n")
+        }
+        is_record
     }
 
     /// Adds what is written in place of a number with a point, and whether there is one.
