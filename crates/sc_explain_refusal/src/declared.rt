@@ -76,13 +76,12 @@ pub fn inherits(classes: &[Class], heir: &Class, ancestor: &Class) -> bool {
 
 /// The last feature that begins no later than the span.
 pub fn feature_around(class: &Class, span: Span) -> Option<&Feature> {
-    let mut around = None;
-    for feature in class.features.iter() {
-        if feature.name.span.start <= span.start {
-            around = Some(feature);
-        }
+    let features = &class.features;
+    let count = features.partition_point(|feature| feature.name.span.start <= span.start);
+    match count.checked_sub(1) {
+        Some(last) => features.get(last),
+        None => None,
     }
-    around
 }
 
 /// The routine that a feature is, if it is one.
@@ -126,12 +125,11 @@ fn other_name(declared: &Name, name: &str, span: Span) -> Option<Span> {
 
 /// The class that contains a part of the text, with its number.
 pub fn class_around(classes: &[Class], span: Span) -> Option<(usize, &Class)> {
-    for (number, class) in classes.iter().enumerate() {
-        if class.span.start <= span.start && span.start < class.span.end {
-            return Some((number, class));
-        }
+    let number = classes.partition_point(|class| class.span.end <= span.start);
+    match classes.get(number) {
+        Some(class) if class.span.start <= span.start => Some((number, class)),
+        _ => None,
     }
-    None
 }
 
 /// The class that a class names as its first parent, if the system has it.

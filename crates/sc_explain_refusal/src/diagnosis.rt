@@ -1,19 +1,20 @@
-//! What is said of one refusal.
+//! What is said of one refusal, or of each of several faults.
 
 use crate::class_helps::{push_left_out, push_near_class};
 use crate::declared::{other_class, other_entity};
+use crate::fresh::Fresh;
 use crate::redefinition::{push_other_name, push_unfit};
 use crate::root::explain_root;
 use crate::sentences::text_of;
 use crate::site::{Found, Search};
 use crate::words::{Spot, fill_part, part_of};
-use sc_class::Root;
+use sc_class::{ClassFault, Root, Tables, tables};
 use sc_explain_text::{
     Lines, Related, explain_character, explain_grammar, let_go, system_of, word_at,
 };
-use sc_rules::{RefusalCode, Rule};
+use sc_rules::{Fault, RefusalCode, Rule};
 use sc_text::Span;
-use sc_tree::System;
+use sc_tree::{Class, System};
 use std::alloc::{AllocError, Global};
 
 /// What is said of a refusal: lines of text, and another place, if one goes with the fault.
@@ -39,51 +40,110 @@ pub fn diagnose(
     let mut lines = Lines::new(alloc);
     let refusal = Refusal {
         text,
-        root,
         code,
         span: span.unwrap_or(NOWHERE),
     };
-    let related = refusal.tell(alloc, &mut lines);
+    let related = refusal.tell(alloc, &mut lines, root);
     Ok(Diagnosis {
         lines: lines.finish()?,
         related,
     })
 }
 
+/// What is said of each of these faults of a text that is run from this root, in their order. The text is read once.
+///
+/// # Errors
+///
+/// That memory ran out.
+pub fn diagnose_all(
+    alloc: Global,
+    text: &str,
+    root: &Root,
+    faults: &[Fault],
+) -> Result<Vec<Diagnosis>, AllocError> {
+    match system_of(alloc, text)? {
+        Some(system) => {
+            let told = diagnose_in(alloc, text, root, &system, faults);
+            let_go(system);
+            told
+        }
+        None => diagnose_each(alloc, text, &[], None, faults),
+    }
+}
+
+/// What is said of each of these faults of a text that spells this system.
+fn diagnose_in(
+    alloc: Global,
+    text: &str,
+    root: &Root,
+    system: &System,
+    faults: &[Fault],
+) -> Result<Vec<Diagnosis>, AllocError> {
+    let classes = &system.classes;
+    match tables(alloc, system, root) {
+        Ok(tables) => diagnose_each(alloc, text, classes, Some(&tables), faults),
+        Err(ClassFault::OutOfMemory) => Err(AllocError),
+        Err(_) => diagnose_each(alloc, text, classes, None, faults),
+    }
+}
+
+/// What is said of each of these faults of a text that has these classes, with these tables if the classes have no fault.
+fn diagnose_each(
+    alloc: Global,
+    text: &str,
+    classes: &[Class],
+    tables: Option<&Tables<'_>>,
+    faults: &[Fault],
+) -> Result<Vec<Diagnosis>, AllocError> {
+    let fresh = Fresh::of(text);
+    let mut told = Vec::new(alloc);
+    for fault in faults {
+        let mut lines = Lines::new(alloc);
+        let refusal = Refusal {
+            text,
+            code: RefusalCode::Rule(fault.rule),
+            span: fault.span,
+        };
+        let related = refusal.tell_of_rule(alloc, &mut lines, classes, tables, fresh, fault.rule);
+        let lines = lines.finish()?;
+        told.push(Diagnosis { lines, related })?;
+    }
+    Ok(told)
+}
+
 /// The part that is at fault where none is.
 const NOWHERE: Span = Span { start: 0, end: 0 };
 
-/// The refusal of a text that is run from this root, and the part that is at fault.
+/// The refusal of a text, and the part that is at fault.
 #[derive(Clone, Copy)]
 struct Refusal<'s> {
     text: &'s str,
-    root: &'s Root,
     code: RefusalCode,
     span: Span,
 }
 
 impl<'s> Refusal<'s> {
-    /// Adds what is said of it. Another place, if one goes with the fault.
-    fn tell(&self, alloc: Global, lines: &mut Lines) -> Option<Related> {
+    /// Adds what is said of it if the text is run from this root. Another place, if one goes with the fault.
+    fn tell(&self, alloc: Global, lines: &mut Lines, root: &Root) -> Option<Related> {
         match self.code {
             RefusalCode::BadCharacter => {
                 explain_character(lines, self.text, self.span);
                 None
             }
             RefusalCode::NotInGrammar => explain_grammar(alloc, lines, self.text, self.span),
-            _ => self.tell_of_text(alloc, lines),
+            _ => self.tell_of_text(alloc, lines, root),
         }
     }
 
     /// Adds what can be said if the text may spell a system.
-    fn tell_of_text(&self, alloc: Global, lines: &mut Lines) -> Option<Related> {
+    fn tell_of_text(&self, alloc: Global, lines: &mut Lines, root: &Root) -> Option<Related> {
         match system_of(alloc, self.text) {
             Ok(None) => {
                 self.push_sentence(lines);
                 None
             }
             Ok(Some(system)) => {
-                let related = self.tell_of_system(alloc, lines, &system);
+                let related = self.tell_of_system(alloc, lines, &system, root);
                 let_go(system);
                 related
             }
@@ -95,18 +155,45 @@ impl<'s> Refusal<'s> {
     }
 
     /// Adds what can be said if the text spells this system. Another place, if one goes with the fault.
-    fn tell_of_system(&self, alloc: Global, lines: &mut Lines, system: &System) -> Option<Related> {
+    fn tell_of_system(
+        &self,
+        alloc: Global,
+        lines: &mut Lines,
+        system: &System,
+        root: &Root,
+    ) -> Option<Related> {
         match self.code {
             RefusalCode::NoRoot => {
-                explain_root(lines, self.text, &system.classes, self.root);
+                explain_root(lines, self.text, &system.classes, root);
                 None
             }
-            RefusalCode::Rule(rule) => self.tell_of_rule(alloc, lines, system, rule),
+            RefusalCode::Rule(rule) => self.tell_by_tables(alloc, lines, system, root, rule),
             code => {
                 self.push_sentence(lines);
                 self.push_class_helps(lines, system, code);
                 self.other_declaration(system)
             }
+        }
+    }
+
+    /// Adds what the system tells of the part at which a rule fails.
+    fn tell_by_tables(
+        &self,
+        alloc: Global,
+        lines: &mut Lines,
+        system: &System,
+        root: &Root,
+        rule: Rule,
+    ) -> Option<Related> {
+        let classes = &system.classes;
+        let fresh = Fresh::of(self.text);
+        match tables(alloc, system, root) {
+            Ok(tables) => self.tell_of_rule(alloc, lines, classes, Some(&tables), fresh, rule),
+            Err(ClassFault::OutOfMemory) => {
+                lines.lack();
+                None
+            }
+            Err(_) => self.tell_of_rule(alloc, lines, classes, None, fresh, rule),
         }
     }
 
@@ -116,26 +203,30 @@ impl<'s> Refusal<'s> {
         &self,
         alloc: Global,
         lines: &mut Lines,
-        system: &System,
+        classes: &[Class],
+        tables: Option<&Tables<'_>>,
+        fresh: Fresh<'s>,
         rule: Rule,
     ) -> Option<Related> {
         let Refusal { text, span, .. } = *self;
         let name = word_at(text, span);
         let is_unknown = matches!(rule, Rule::UnknownName);
-        let related = if is_unknown && name.eq_ignore_ascii_case("print") {
-            None
-        } else {
-            let search = Search {
-                rule,
-                spot: Spot::of(text, span),
-                found: Found::Nothing,
-            };
-            search.push_told(alloc, lines, system, self.root)
+        let is_print = is_unknown && name.eq_ignore_ascii_case("print");
+        let related = match tables {
+            Some(tables) if !is_print => {
+                let search = Search {
+                    rule,
+                    spot: Spot::of(text, span, fresh),
+                    found: Found::Nothing,
+                };
+                search.push_told(alloc, lines, tables)
+            }
+            _ => None,
         };
         if lines.is_empty() {
             self.push_sentence(lines);
             if is_unknown {
-                push_near_class(lines, text, &system.classes, name)
+                push_near_class(lines, text, classes, name)
             }
         }
         related

@@ -1,4 +1,4 @@
-//! A name that is known nowhere in a text.
+//! Names that are known nowhere in a text.
 
 /// The names that are tried, in order.
 const NAMES: &[&str] = &[
@@ -6,8 +6,24 @@ const NAMES: &[&str] = &[
     "x7", "x8", "x9", "y1", "y2", "y3", "y4", "y5", "y6", "y7",
 ];
 
-/// The first of the known names that the text doesn't contain, after `but` others; nothing if it contains all of
-/// them.
+/// Names that are known nowhere in a text, or `..` for those that are lacking.
+#[derive(Clone, Copy)]
+pub struct Fresh<'s> {
+    pub first: &'s str,
+    pub second: &'s str,
+}
+
+impl<'s> Fresh<'s> {
+    /// The first two of the names above that the text doesn't contain.
+    pub fn of(text: &'s str) -> Fresh<'s> {
+        Fresh {
+            first: fresh_name(text, 0),
+            second: fresh_name(text, 1),
+        }
+    }
+}
+
+/// The first of the names above that the text doesn't contain, after `but` others.
 pub fn fresh_name(text: &str, but: usize) -> &'static str {
     let mut left = but;
     for name in NAMES {

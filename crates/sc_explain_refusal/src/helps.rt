@@ -119,7 +119,7 @@ impl<'s> Spot<'s> {
         };
         self.say(lines, said);
         if role.is_some() {
-            let local = self.fresh(0);
+            let local = self.fresh.first;
             lines.fill(
                 "help: use a local: declare `~` under `local`, and begin with `~ := ~`\n",
                 &[local, local, self.name],
@@ -191,8 +191,8 @@ impl<'s> Spot<'s> {
             }
             _ => return self.push_formal(lines, given),
         };
-        let name = self.fresh(0);
-        lines.fill(template, &[self.shown(), name, name, self.fresh(1)])
+        let name = self.fresh.first;
+        lines.fill(template, &[self.shown(), name, name, self.fresh.second])
     }
 
     /// Adds how the handler of the part at fault is reserved, where that is of this type.
@@ -202,7 +202,7 @@ impl<'s> Spot<'s> {
             Context::Invariant => return lines.push(OWN_ATTRIBUTES),
             _ => return self.push_formal(lines, given),
         }
-        let name = self.fresh(0);
+        let name = self.fresh.first;
         match self.place {
             Place::Until => lines.fill(
                 "help: let a function reserve it each time: `f (~: separate ~): BOOLEAN do Result := .. end`\n",
@@ -228,7 +228,7 @@ impl<'s> Spot<'s> {
         }
         lines.fill_name(
             "help: take it as an attached formal, which is reserved: `~` of type ",
-            self.fresh(0),
+            self.fresh.first,
         );
         let attached = EntityType {
             attached: true,

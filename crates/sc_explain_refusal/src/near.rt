@@ -2,8 +2,9 @@
 
 use crate::walk::Walk;
 use crate::words::class_name;
-use sc_class::{ClassId, FeatureEntry};
+use sc_class::ClassId;
 use sc_explain_text::{Lines, is_slip, push_instead_of, push_meant, push_near_word};
+use sc_tree::Feature;
 use sc_typing::Entity;
 use std::alloc::Global;
 
@@ -34,16 +35,18 @@ impl<'s> Walk<'s> {
         is_near_word(self.routine.alloc, spot.name)
     }
 
-    /// Adds a feature of the class whose name is near to the one at fault, and whether there is one.
+    /// Adds a feature of the class whose name is near to the one at fault, and whether there is one: its own in the order of
+    /// the text, then its parent's.
     fn push_near_feature(&self, lines: &mut Lines, class: ClassId) -> bool {
-        let routine = &self.routine;
-        match routine.tables.features(routine.alloc, class) {
-            Ok(features) => push_near_among(lines, &features, self.search.spot.name),
-            Err(_) => {
-                lines.lack();
-                true
+        let tables = self.routine.tables;
+        for number in tables.ancestors(class) {
+            if let Some(class) = tables.class(*number)
+                && push_near_among(lines, &class.features, self.search.spot.name)
+            {
+                return true;
             }
         }
+        false
     }
 }
 
@@ -66,9 +69,9 @@ fn push_near_entity(lines: &mut Lines, names: &[Entity<'_>], name: &str) -> bool
 }
 
 /// Adds the first of these features whose name is near to one, and whether there is one.
-fn push_near_among(lines: &mut Lines, features: &[FeatureEntry<'_>], name: &str) -> bool {
-    for entry in features {
-        let known = entry.feature.name.as_str();
+fn push_near_among(lines: &mut Lines, features: &[Feature], name: &str) -> bool {
+    for feature in features {
+        let known = feature.name.as_str();
         if is_slip(known.as_bytes(), name.as_bytes()) {
             push_meant(lines, known);
             return true;

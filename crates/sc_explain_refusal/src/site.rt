@@ -79,6 +79,20 @@ fn fails_at(rule: Rule, part: Part<'_>) -> bool {
     }
 }
 
+/// Whether the rule fails at parts of instructions and clauses of which more is said than by the rule alone.
+pub(crate) fn is_of_parts(rule: Rule) -> bool {
+    !matches!(
+        rule,
+        Rule::CreationTag
+            | Rule::TagName
+            | Rule::InvariantForm
+            | Rule::PreconditionArgument
+            | Rule::NotExported
+            | Rule::ObjectTestPlace
+            | Rule::VoidUse
+    )
+}
+
 /// A search for the part of a text at which a rule fails.
 #[derive(Clone, Copy)]
 pub(crate) struct Search<'s> {
@@ -100,9 +114,17 @@ impl<'s> Search<'s> {
         }
     }
 
+    /// Whether the part at fault may be in this part.
+    fn is_in(&self, span: Span) -> bool {
+        span.start <= self.spot.span.start && self.spot.span.end <= span.end
+    }
+
     /// Passes an expression.
     #[cycle(expressions)]
     pub(crate) fn pass_expression(&mut self, context: Context, e: &'s Expr) {
+        if !self.is_in(e.span()) {
+            return;
+        }
         match e {
             Expr::Call(call) => self.pass_call(context, call),
             Expr::Unary(span, operator, operand) => {
@@ -159,6 +181,9 @@ impl<'s> Search<'s> {
 
     /// Passes an instruction that has no others in it.
     pub(crate) fn pass_simple(&mut self, instruction: &'s Instr) {
+        if !self.is_in(span_of(instruction)) {
+            return;
+        }
         match instruction {
             Instr::Assign(_, variable, value) => {
                 let part = Part::Assigned(variable, value);
@@ -193,5 +218,16 @@ impl<'s> Search<'s> {
             self.pass(Context::Body, value.span(), Part::Head(value));
             self.pass_expression(Context::Body, value);
         }
+    }
+}
+
+/// The place of an instruction.
+fn span_of(instruction: &Instr) -> Span {
+    match instruction {
+        Instr::Assign(span, _, _) | Instr::PrintText(span, _) => *span,
+        Instr::Call(call) => call.span,
+        Instr::Create(span, _, _) | Instr::Check(span, _) => *span,
+        Instr::If(span, _, _, _, _) | Instr::Loop(span, _, _, _) => *span,
+        Instr::Block(span, _, _) => *span,
     }
 }

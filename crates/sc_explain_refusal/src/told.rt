@@ -1,50 +1,36 @@
 //! A sentence on one fault, with the types and names that are found in the checked tables.
 
 use crate::declared::{class_around, feature_around, routine_of};
-use crate::site::{Found, Search};
+use crate::site::{Found, Search, is_of_parts};
 use crate::walk::Walk;
-use sc_class::{ClassFault, ClassId, Root, Tables, tables};
+use sc_class::{ClassId, Tables};
 use sc_explain_text::{Lines, Related};
 use sc_rules::entity_types::EntityType;
 use sc_rules::{Context, Rule};
 use sc_text::Span;
-use sc_tree::{Class, Declaration, Name, Routine, System};
+use sc_tree::{Class, Declaration, Name, Routine};
 use sc_typing::{Purity, RoutineContext, result_type};
 use std::alloc::Global;
 
 impl<'s> Search<'s> {
-    /// Adds a sentence on this very fault, in a system that is run from this root, and what helps, if more can be said
-    /// about it than by the rule alone. (The faults of the system's classes were reported before; running out of memory
-    /// is reported here.) Returns the place that goes with it, if one does.
+    /// Adds a sentence on this very fault, in the system of these tables, and what helps, if more can be said about it than
+    /// by the rule alone: as the part in the routine around it, or else outside the routines of the class. (Running out of
+    /// memory is reported here.) Returns the place that goes with it, if one does.
     pub(crate) fn push_told(
         self,
         alloc: Global,
         lines: &mut Lines,
-        system: &System,
-        root: &Root,
+        tables: &Tables<'_>,
     ) -> Option<Related> {
-        match tables(alloc, system, root) {
-            Ok(tables) => self.push_found(alloc, lines, &tables),
-            Err(ClassFault::OutOfMemory) => {
-                lines.lack();
-                None
-            }
-            Err(_) => None,
-        }
-    }
-
-    /// Adds what can be said about the part, if it is found: in the routine around it, or else outside the routines
-    /// of the class.
-    fn push_found(self, alloc: Global, lines: &mut Lines, tables: &Tables<'_>) -> Option<Related> {
         let Some((number, class)) = class_around(tables.classes(), self.spot.span) else {
             return None;
         };
         let routine = match feature_around(class, self.spot.span) {
-            Some(feature) => routine_of(feature),
-            None => None,
+            Some(feature) if is_of_parts(self.rule) => routine_of(feature),
+            _ => None,
         };
         let related = self.push_in(alloc, lines, tables, number, class, routine);
-        if related.is_some() || !lines.is_empty() {
+        if routine.is_none() || related.is_some() || !lines.is_empty() {
             return related;
         }
         self.push_in(alloc, lines, tables, number, class, None)

@@ -1,6 +1,6 @@
 //! The part at fault and types, as sentences name them.
 
-use crate::fresh::fresh_name;
+use crate::fresh::Fresh;
 use crate::site::Place;
 use sc_class::{ClassId, Tables};
 use sc_explain_text::{Lines, word_at};
@@ -23,11 +23,13 @@ pub struct Spot<'s> {
     pub context: Context,
     /// Its position in a body.
     pub place: Place,
+    /// Names that aren't known in the text.
+    pub fresh: Fresh<'s>,
 }
 
 impl<'s> Spot<'s> {
     /// This part of a text, as an instruction of a body would stand there.
-    pub fn of(text: &'s str, span: Span) -> Spot<'s> {
+    pub fn of(text: &'s str, span: Span, fresh: Fresh<'s>) -> Spot<'s> {
         Spot {
             text,
             span,
@@ -35,6 +37,7 @@ impl<'s> Spot<'s> {
             part: part_of(text, span),
             context: Context::Body,
             place: Place::Instruction,
+            fresh,
         }
     }
 
@@ -50,11 +53,6 @@ impl<'s> Spot<'s> {
         } else {
             self.part
         }
-    }
-
-    /// The first name that isn't known in the text, or the next one after `but` others.
-    pub fn fresh(self, but: usize) -> &'s str {
-        fresh_name(self.text, but)
     }
 }
 

@@ -40,9 +40,9 @@ feeds_next : (text rest : List ℕ) (o : ℕ) → length text < o →
 feeds_next text rest o past =
     let after : List ℕ = take (o - (length text + 1)) rest in
     let all : count_by is_line_feed (text ++ (line_feed ∷ after)) ≡ count_by is_line_feed text + count_by is_line_feed (line_feed ∷ after) =
-        sum_by-append (λ c. cond (is_line_feed c) 1 0) text (line_feed ∷ after) in
+    sum_by-append (λ c. cond (is_line_feed c) 1 0) text (line_feed ∷ after) in
     let one : count_by is_line_feed (line_feed ∷ after) ≡ 1 + count_by is_line_feed after =
-        sum_by-cons (λ c. cond (is_line_feed c) 1 0) line_feed after in
+    sum_by-cons (λ c. cond (is_line_feed c) 1 0) line_feed after in
     ap (count_by is_line_feed) (take_next text rest o past) ∙ omega (arith, all, one)
 
 -- a byte that ends no line
@@ -128,7 +128,10 @@ numbers (f ∷ fs) o = by (cases_lt (length f.text) o) (numbers fs (o - (length 
 -- An earlier byte is in the same file if fewer line feeds are between than the number of the line.
 abbrev IsBack : List File → ℕ → ℕ → Place → Type 0
 IsBack fs a o p = feeds (joined fs) o < p.line + feeds (joined fs) a → place_of fs a ≡ Some (record {
-    file = p.file; line = p.line + feeds (joined fs) a - feeds (joined fs) o; column = column_after (take a (joined fs)) })
+  file = p.file;
+  line = p.line + feeds (joined fs) a - feeds (joined fs) o;
+  column = column_after (take a (joined fs));
+})
 
 abbrev at : List ℕ → ℕ → ℕ → Option Place
 at file line column = Some (record { file = file; line = line; column = column })
@@ -148,8 +151,8 @@ back_next f fs a o p before past rest within =
     let one = feeds_next f.text (joined fs) a past in
     let other = feeds_next f.text (joined fs) o (omega arith) in
     let column : column_after (take (a - (length f.text + 1)) (joined fs)) ≡ column_after (take a (joined (f ∷ fs))) =
-        ap (λ n. 1 + n) (sym (ap (suffix_len is_in_line) (take_next f.text (joined fs) a past)
-        ∙ suffix_stop f.text (take (a - (length f.text + 1)) (joined fs)))) in
+    ap (λ n. 1 + n) (sym (ap (suffix_len is_in_line) (take_next f.text (joined fs) a past)
+    ∙ suffix_stop f.text (take (a - (length f.text + 1)) (joined fs)))) in
     next f fs a past ∙ rest (omega (arith, one, other, within))
     ∙ ap (λ n. at p.file n (column_after (take (a - (length f.text + 1)) (joined fs)))) (omega (arith, one, other))
     ∙ ap (λ n. at p.file (p.line + feeds (joined (f ∷ fs)) a - feeds (joined (f ∷ fs)) o) n) column
@@ -199,8 +202,11 @@ number_before fs last file line lt more e =
     let before : IsBack fs last (last + 1) place = subst (λ r. IfSome r (IsBack fs last (last + 1))) e (back fs last (last + 1) (omega arith)) in
     let first : 1 ≡ column_after (take (last + 1) (joined fs)) = ap column_at (sym e ∙ itself (omega arith)) in
     let feed = after_feed (joined fs) last lt (omega (arith, first)) in
-    record { counted = omega arith; column = column_after (take last (joined fs));
-        place = before (omega (arith, feed)) ∙ ap (λ n. at file n (column_after (take last (joined fs)))) (omega (arith, feed)) }
+    record {
+      counted = omega arith;
+      column = column_after (take last (joined fs));
+      place = before (omega (arith, feed)) ∙ ap (λ n. at file n (column_after (take last (joined fs)))) (omega (arith, feed));
+    }
 
 pub begins_at : (fs : List File) (offset : ℕ) (l : Line) → Begins fs offset l → place_of fs offset ≡ at l.file.now l.number 1
 begins_at fs offset l h = h.0 offset (omega (arith, h.1)) h.2 ∙ ap (λ n. at l.file.now l.number n) (omega (arith, h.1))
@@ -219,7 +225,7 @@ line_to fs file line start last le begins known o from to =
     let text : List ℕ = joined fs in
     let on = in_line text o (last - o) (omega arith) (subst (λ n. last - o ≤ suffix_len is_in_line (take n text)) (sym all) (omega (arith, begins))) in
     let length_of : suffix_len is_in_line (take last text) ≡ suffix_len is_in_line (take o text) + (last - o) =
-        subst (λ n. suffix_len is_in_line (take n text) ≡ suffix_len is_in_line (take o text) + (last - o)) all on.0 in
+    subst (λ n. suffix_len is_in_line (take n text) ≡ suffix_len is_in_line (take o text) + (last - o)) all on.0 in
     let same : feeds text last ≡ feeds text o = subst (λ n. feeds text n ≡ feeds text o) all on.1 in
     let place : Place = record { file = file; line = line; column = known.column } in
     let before : IsBack fs o last place = subst (λ r. IfSome r (IsBack fs o last)) known.place (back fs o last (omega arith)) in

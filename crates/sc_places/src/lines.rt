@@ -43,11 +43,7 @@ pub(crate) fn line_before<'s>(
 }
 
 /// The file of the byte before a line, and the number of its line. The source is asked for that only at the end of a file.
-fn numbered<'s>(
-    source: &'s Source,
-    next: Option<Line<'s>>,
-    last: usize,
-) -> Option<(&'s str, usize)>
+fn numbered<'s>(source: &'s Source, next: Option<Line<'s>>, last: usize) -> Option<(&'s str, usize)>
     requires within { last < length (joined source.now) }
     requires next { IfSome next (spec.Begins source.now (last + 1)) }
     ensures { IfSome result (λ line. spec.IsInLine source.now last line.0.now line.1) }

@@ -9,6 +9,7 @@ use crate::fault_list::{Beside, array_of_long, list_exit, list_text, write_besid
 use crate::serve::{Answer, Fault, answer_rejected, answer_unread};
 use sc_arguments::CheckOptions;
 use sc_frontend::check_parts;
+use sc_places::Places;
 use sc_source::files::{Files, read_source};
 use sc_source::source::Source;
 use std::alloc::Global;
@@ -50,10 +51,11 @@ fn answer_parts<'a>(
     ensures object { options.now.format ≡ Text → IfOk result (λ answer. answer.object ≡ None) }
 {
     let found = check_parts(alloc, source.text(), &options.root);
-    let Beside { note, array } = write_beside(alloc, options, source, &found)?;
+    let places = Places::of(alloc, source)?;
+    let Beside { note, array } = write_beside(alloc, options, &places, &found)?;
     match found {
         Ok(faults) => Ok(Answer {
-            text: list_text(alloc, source, faults.as_slice())?,
+            text: list_text(alloc, &places, faults.as_slice())?,
             object: array,
             exit: list_exit(faults.as_slice()),
             note,

@@ -2,9 +2,10 @@
 
 use crate::refusal::{Refusal, rules_refusal};
 use sc_class::Root;
-use sc_explain_refusal::{Related, diagnose};
+use sc_explain_refusal::{Diagnosis, Related, diagnose, diagnose_all};
 use sc_explain_text::Lines;
 use sc_frontend::Rejection;
+use sc_places::Places;
 use sc_rules::Fault;
 use sc_source::excerpt;
 use sc_source::source::{Place, Source};
@@ -23,7 +24,8 @@ pub fn explanation(
 ) -> Result<Vec<u8>, AllocError> {
     let mut lines = Lines::new(alloc);
     if let Some(root) = explained {
-        push_rejection(alloc, &mut lines, source, root, rejection)
+        let places = Places::of(alloc, source)?;
+        push_rejection(alloc, &mut lines, &places, root, rejection)
     }
     lines.finish()
 }
@@ -32,7 +34,7 @@ pub fn explanation(
 /// fault after its line, or of the rejection; then the warnings.
 pub fn listing_notes(
     alloc: Global,
-    source: &Source,
+    places: &Places<'_>,
     explained: Option<&Root>,
     found: &Result<Vec<Fault>, Rejection>,
     warnings: &[Warning],
@@ -40,45 +42,68 @@ pub fn listing_notes(
     let mut lines = Lines::new(alloc);
     if let Some(root) = explained {
         match found {
-            Ok(faults) => push_faults(alloc, &mut lines, source, root, faults.as_slice()),
-            Err(rejection) => push_rejection(alloc, &mut lines, source, root, rejection),
+            Ok(faults) => push_faults(alloc, &mut lines, places, root, faults.as_slice()),
+            Err(rejection) => push_rejection(alloc, &mut lines, places, root, rejection),
         }
     }
     for warning in warnings {
-        push_warning(alloc, &mut lines, source, *warning, explained.is_some())
+        push_warning(alloc, &mut lines, places, *warning, explained.is_some())
     }
     lines.finish()
 }
 
 /// Adds the explanation of each fault after its line.
-fn push_faults(alloc: Global, lines: &mut Lines, source: &Source, root: &Root, faults: &[Fault]) {
-    for fault in faults {
-        let refusal = rules_refusal(*fault);
-        match refusal.line(alloc, source) {
-            Ok(line) => lines.push(line.as_str()),
-            Err(_) => lines.lack(),
+fn push_faults(
+    alloc: Global,
+    lines: &mut Lines,
+    places: &Places<'_>,
+    root: &Root,
+    faults: &[Fault],
+) {
+    match diagnose_all(alloc, places.source().text(), root, faults) {
+        Ok(told) => {
+            for (fault, diagnosis) in faults.iter().zip(told.iter()) {
+                push_fault(alloc, lines, places, *fault, diagnosis)
+            }
         }
-        push_explanation(alloc, lines, source, root, refusal)
+        Err(_) => lines.lack(),
     }
+}
+
+/// Adds the line of a fault, and its explanation.
+fn push_fault(
+    alloc: Global,
+    lines: &mut Lines,
+    places: &Places<'_>,
+    fault: Fault,
+    diagnosis: &Diagnosis,
+) {
+    let refusal = rules_refusal(fault);
+    let place = places.place_of(fault.span.start as usize);
+    match refusal.line_at(alloc, place) {
+        Ok(line) => lines.push(line.as_str()),
+        Err(_) => lines.lack(),
+    }
+    push_explanation(alloc, lines, places, refusal, diagnosis)
 }
 
 /// Adds the line of a warning, and if it is explained the line of the text.
 fn push_warning(
     alloc: Global,
     lines: &mut Lines,
-    source: &Source,
+    places: &Places<'_>,
     warning: Warning,
     is_explained: bool,
 ) {
     lines.fill_name("warning: ~", warning.kind.message());
-    if let Some(Place { file, line, column }) = source.place_of(warning.span.start as usize) {
+    if let Some(Place { file, line, column }) = places.place_of(warning.span.start as usize) {
         lines.fill_name(" ~", file);
         lines.fill_number(":~", line as u64);
         lines.fill_number(":~", column as u64)
     }
     lines.push("\n");
     if is_explained {
-        push_excerpt(alloc, lines, source, warning.span)
+        push_excerpt(alloc, lines, places, warning.span)
     }
 }
 
@@ -86,12 +111,12 @@ fn push_warning(
 fn push_rejection(
     alloc: Global,
     lines: &mut Lines,
-    source: &Source,
+    places: &Places<'_>,
     root: &Root,
     rejection: &Rejection,
 ) {
     match Refusal::of(rejection) {
-        Some(refusal) => push_explanation(alloc, lines, source, root, refusal),
+        Some(refusal) => push_refusal(alloc, lines, places, root, refusal),
         None if matches!(rejection, Rejection::CodeTooLong) => {
             lines.push("`scoop explain CodeTooLong` says more\n")
         }
@@ -100,44 +125,78 @@ fn push_rejection(
 }
 
 /// Adds the explanation of a refusal that has a code.
-fn push_explanation(
+fn push_refusal(
     alloc: Global,
     lines: &mut Lines,
-    source: &Source,
+    places: &Places<'_>,
     root: &Root,
     refusal: Refusal,
 ) {
-    if let Some(span) = refusal.span {
-        push_excerpt(alloc, lines, source, span)
-    }
-    match diagnose(alloc, source.text(), root, refusal.code, refusal.span) {
-        Ok(diagnosis) => {
-            lines.push_bytes(diagnosis.lines.as_slice());
-            if let Some(related) = diagnosis.related {
-                push_related(alloc, lines, source, related)
-            }
-        }
+    let text = places.source().text();
+    match diagnose(alloc, text, root, refusal.code, refusal.span) {
+        Ok(diagnosis) => push_explanation(alloc, lines, places, refusal, &diagnosis),
         Err(_) => lines.lack(),
+    }
+}
+
+/// Adds the line of the text in which something is refused, what is said of that, and where more is said.
+fn push_explanation(
+    alloc: Global,
+    lines: &mut Lines,
+    places: &Places<'_>,
+    refusal: Refusal,
+    diagnosis: &Diagnosis,
+) {
+    if let Some(span) = refusal.span {
+        push_excerpt(alloc, lines, places, span)
+    }
+    lines.push_bytes(diagnosis.lines.as_slice());
+    if let Some(related) = diagnosis.related {
+        push_related(alloc, lines, places, related)
     }
     lines.fill_name("`scoop explain ~` says more\n", refusal.code.code())
 }
 
 /// Adds the line of a part of the source text, with carets.
-fn push_excerpt(alloc: Global, lines: &mut Lines, source: &Source, span: Span) {
-    match excerpt(alloc, source.text().as_bytes(), span) {
+fn push_excerpt(alloc: Global, lines: &mut Lines, places: &Places<'_>, span: Span) {
+    let (text, part) = from_line(places, span);
+    match excerpt(alloc, text, part) {
         Ok(shown) => lines.push_bytes(shown.as_slice()),
         Err(_) => lines.lack(),
     }
 }
 
+/// The source text from the line on in which a part of it begins, and the part as it lies in that.
+fn from_line<'s>(places: &Places<'s>, span: Span) -> (&'s [u8], Span) {
+    let text = places.source().text().as_bytes();
+    let offset = span.start as usize;
+    let before = match places.place_of(offset) {
+        Some(place) => place.column.saturating_sub(1),
+        None => offset,
+    };
+    let start = offset.saturating_sub(before);
+    match text.get(start..) {
+        Some(text) => (text, moved_back(span, start as u32)),
+        None => (text, span),
+    }
+}
+
+/// A part of a text that begins this much later.
+fn moved_back(span: Span, start: u32) -> Span {
+    Span {
+        start: span.start.saturating_sub(start),
+        end: span.end.saturating_sub(start),
+    }
+}
+
 /// Adds the place of a part of the source text that belongs to a fault, and its line with carets.
-fn push_related(alloc: Global, lines: &mut Lines, source: &Source, related: Related) {
-    if let Some(Place { file, line, column }) = source.place_of(related.span.start as usize) {
+fn push_related(alloc: Global, lines: &mut Lines, places: &Places<'_>, related: Related) {
+    if let Some(Place { file, line, column }) = places.place_of(related.span.start as usize) {
         lines.push(file);
         lines.fill_number(":~:", line as u64);
         lines.push_number(column as u64);
         lines.fill_name(": ~\n", related.what);
-        push_excerpt(alloc, lines, source, related.span)
+        push_excerpt(alloc, lines, places, related.span)
     }
 }
 

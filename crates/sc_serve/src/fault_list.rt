@@ -12,6 +12,7 @@ use crate::serve::{Exit, root_if};
 use crate::warned::warnings_of_text;
 use sc_arguments::{CheckOptions, Format};
 use sc_frontend::Rejection;
+use sc_places::Places;
 use sc_rules::Fault;
 use sc_source::source::Source;
 use sc_text::LexFault;
@@ -30,19 +31,19 @@ pub struct Beside {
 pub fn write_beside(
     alloc: Global,
     options: &CheckOptions,
-    source: &Source,
+    places: &Places<'_>,
     found: &Result<Vec<Fault>, Rejection>,
 ) -> Result<Beside, AllocError>
     ensures { options.now.format ≡ Text → IfOk result (λ beside. beside.array ≡ None) }
 {
     let explained = root_if(options.is_explained, &options.root);
-    let warnings = warnings_of_text(alloc, source.text())?;
-    let note = listing_notes(alloc, source, explained, found, warnings.as_slice())?;
+    let warnings = warnings_of_text(alloc, places.source().text())?;
+    let note = listing_notes(alloc, places, explained, found, warnings.as_slice())?;
     let array = match options.format {
         Format::Text => None,
         Format::Json => {
             let root = &options.root;
-            Some(faults_array(alloc, source, root, found, warnings.as_slice())?)
+            Some(faults_array(alloc, places, root, found, warnings.as_slice())?)
         }
     };
     Ok(Beside { note, array })
@@ -57,7 +58,8 @@ pub fn array_of_long(alloc: Global, options: &CheckOptions) -> Result<Option<Vec
         Format::Text => Ok(None),
         Format::Json => {
             let source = Source::new(alloc);
-            let array = faults_array(alloc, &source, &options.root, &found, &[])?;
+            let places = Places::of(alloc, &source)?;
+            let array = faults_array(alloc, &places, &options.root, &found, &[])?;
             Ok(Some(array))
         }
     }
@@ -74,22 +76,26 @@ pub fn list_exit(faults: &[Fault]) -> Exit
 }
 
 /// A line for each fault, or `ok` if there is none.
-pub fn list_text(alloc: Global, source: &Source, faults: &[Fault]) -> Result<Vec<u8>, AllocError>
-    ensures { IfOk result (λ text. text.items ≡ spec.list_text source.now faults.now) }
+pub fn list_text(
+    alloc: Global,
+    places: &Places<'_>,
+    faults: &[Fault],
+) -> Result<Vec<u8>, AllocError>
+    ensures { IfOk result (λ text. text.items ≡ spec.list_text places.now faults.now) }
 {
     match faults {
         [] => Vec::from_slice(alloc, b"ok\n"),
-        [_, ..] => fault_lines(alloc, source, faults),
+        [_, ..] => fault_lines(alloc, places, faults),
     }
 }
 
 /// A line for each fault.
-fn fault_lines(alloc: Global, source: &Source, faults: &[Fault]) -> Result<Vec<u8>, AllocError>
-    ensures { IfOk result (λ lines. lines.items ≡ flat_map (spec.fault_line source.now) faults.now) }
+fn fault_lines(alloc: Global, places: &Places<'_>, faults: &[Fault]) -> Result<Vec<u8>, AllocError>
+    ensures { IfOk result (λ lines. lines.items ≡ flat_map (spec.fault_line places.now) faults.now) }
 {
     let mut lines = Vec::new(alloc);
     for fault in faults {
-        push_fault(alloc, source, *fault, &mut lines)?;
+        push_fault(alloc, places, *fault, &mut lines)?;
     }
     Ok(lines)
 }
@@ -97,12 +103,13 @@ fn fault_lines(alloc: Global, source: &Source, faults: &[Fault]) -> Result<Vec<u
 /// Adds the line that reports a fault.
 fn push_fault(
     alloc: Global,
-    source: &Source,
+    places: &Places<'_>,
     fault: Fault,
     lines: &mut Vec<u8>,
 ) -> Result<(), AllocError>
-    ensures { OnOk result (lines.new.items ≡ lines.old.items ++ spec.fault_line source.now fault) }
+    ensures { OnOk result (lines.new.items ≡ lines.old.items ++ spec.fault_line places.now fault) }
 {
-    let line = rules_refusal(fault).line(alloc, source)?;
+    let place = places.place_of(fault.span.start as usize);
+    let line = rules_refusal(fault).line_at(alloc, place)?;
     lines.extend_from_slice(line.as_bytes())
 }

@@ -3,11 +3,12 @@
 use crate::json::quoting::push_quoted;
 use crate::refusal::{Refusal, rules_refusal};
 use sc_class::Root;
-use sc_explain_refusal::{Diagnosis, Related, diagnose};
+use sc_explain_refusal::{Diagnosis, Related, diagnose, diagnose_all};
 use sc_explain_text::{Lines, is_slip, word_at};
 use sc_frontend::Rejection;
+use sc_places::Places;
 use sc_rules::Fault;
-use sc_source::source::{Place, Source};
+use sc_source::source::Place;
 use sc_text::Span;
 use sc_warnings::Warning;
 use std::alloc::{AllocError, Global};
@@ -32,30 +33,44 @@ struct Finding<'f> {
 /// The array of what was found in a source text, with an element for each refusal and each warning.
 pub fn faults_array(
     alloc: Global,
-    source: &Source,
+    places: &Places<'_>,
     root: &Root,
     found: &Result<Vec<Fault>, Rejection>,
     warnings: &[Warning],
 ) -> Result<Vec<u8>, AllocError> {
     let mut lines = Lines::new(alloc);
     match found {
-        Ok(faults) => {
-            for fault in faults {
-                push_refusal(alloc, &mut lines, source, root, rules_refusal(*fault))
-            }
-        }
+        Ok(faults) => push_faults(alloc, &mut lines, places, root, faults),
         Err(rejection) => {
             if let Some(refusal) = Refusal::of(rejection) {
-                push_refusal(alloc, &mut lines, source, root, refusal)
+                push_refusal(alloc, &mut lines, places, root, refusal)
             }
         }
     }
     for warning in warnings {
-        push_finding(alloc, &mut lines, source, finding_of(*warning))
+        push_finding(alloc, &mut lines, places, finding_of(*warning))
     }
     let end = if lines.is_empty() { "[]\n" } else { "]\n" };
     lines.push(end);
     lines.finish()
+}
+
+/// Adds each fault, with what is said of it.
+fn push_faults(
+    alloc: Global,
+    lines: &mut Lines,
+    places: &Places<'_>,
+    root: &Root,
+    faults: &[Fault],
+) {
+    match diagnose_all(alloc, places.source().text(), root, faults) {
+        Ok(told) => {
+            for (fault, diagnosis) in faults.iter().zip(told.iter()) {
+                push_diagnosis(alloc, lines, places, rules_refusal(*fault), diagnosis)
+            }
+        }
+        Err(_) => lines.lack(),
+    }
 }
 
 /// What is said of a warning.
@@ -73,9 +88,16 @@ fn finding_of(warning: Warning) -> Finding<'static> {
 }
 
 /// Adds a refusal, with what is said of it.
-fn push_refusal(alloc: Global, lines: &mut Lines, source: &Source, root: &Root, refusal: Refusal) {
-    match diagnose(alloc, source.text(), root, refusal.code, refusal.span) {
-        Ok(diagnosis) => push_diagnosis(alloc, lines, source, refusal, &diagnosis),
+fn push_refusal(
+    alloc: Global,
+    lines: &mut Lines,
+    places: &Places<'_>,
+    root: &Root,
+    refusal: Refusal,
+) {
+    let text = places.source().text();
+    match diagnose(alloc, text, root, refusal.code, refusal.span) {
+        Ok(diagnosis) => push_diagnosis(alloc, lines, places, refusal, &diagnosis),
         Err(_) => lines.lack(),
     }
 }
@@ -84,7 +106,7 @@ fn push_refusal(alloc: Global, lines: &mut Lines, source: &Source, root: &Root, 
 fn push_diagnosis(
     alloc: Global,
     lines: &mut Lines,
-    source: &Source,
+    places: &Places<'_>,
     refusal: Refusal,
     diagnosis: &Diagnosis,
 ) {
@@ -98,7 +120,7 @@ fn push_diagnosis(
     push_finding(
         alloc,
         lines,
-        source,
+        places,
         Finding {
             severity: "error",
             code: Some(code.code()),
@@ -106,16 +128,16 @@ fn push_diagnosis(
             span,
             message: message.trim_end(),
             help,
-            edit: edit_by(help, part_at(source, span)),
+            edit: edit_by(help, part_at(places, span)),
             related: diagnosis.related,
         },
     )
 }
 
 /// The text of a part of the source text; nothing if there is none.
-fn part_at(source: &Source, span: Option<Span>) -> &str {
+fn part_at<'s>(places: &Places<'s>, span: Option<Span>) -> &'s str {
     match span {
-        Some(span) => word_at(source.text(), span),
+        Some(span) => word_at(places.source().text(), span),
         None => "",
     }
 }
@@ -132,26 +154,26 @@ fn edit_by<'h>(help: &'h str, part: &str) -> Option<&'h str> {
 }
 
 /// Adds an element. Its members are in the order of their names.
-fn push_finding(alloc: Global, lines: &mut Lines, source: &Source, finding: Finding<'_>) {
+fn push_finding(alloc: Global, lines: &mut Lines, places: &Places<'_>, finding: Finding<'_>) {
     let begins = if lines.is_empty() {
         r#"[{"begin":"#
     } else {
         r#",{"begin":"#
     };
     lines.push(begins);
-    push_begin(alloc, lines, source, finding.span);
+    push_begin(alloc, lines, places, finding.span);
     push_name(lines, r#","code":"#, finding.code);
     lines.push(r#","edit":"#);
-    push_edit(alloc, lines, source, finding);
+    push_edit(alloc, lines, places, finding);
     lines.push(r#","end":"#);
-    push_end(alloc, lines, source, finding.span);
+    push_end(alloc, lines, places, finding.span);
     lines.push(r#","help":"#);
     push_help(alloc, lines, finding.help);
     lines.push(r#","message":"#);
     push_quoted(alloc, lines, String::from_str(alloc, finding.message));
     push_name(lines, r#","name":"#, finding.name);
     lines.push(r#","related":"#);
-    push_related(alloc, lines, source, finding.related);
+    push_related(alloc, lines, places, finding.related);
     lines.fill_name(r#","severity":"~"}"#, finding.severity)
 }
 
@@ -174,13 +196,13 @@ fn push_help(alloc: Global, lines: &mut Lines, help: &str) {
 }
 
 /// Adds what is to be written in place of the part, or null.
-fn push_edit(alloc: Global, lines: &mut Lines, source: &Source, finding: Finding<'_>) {
+fn push_edit(alloc: Global, lines: &mut Lines, places: &Places<'_>, finding: Finding<'_>) {
     match finding.edit {
         Some(text) => {
             lines.push(r#"{"begin":"#);
-            push_begin(alloc, lines, source, finding.span);
+            push_begin(alloc, lines, places, finding.span);
             lines.push(r#","end":"#);
-            push_end(alloc, lines, source, finding.span);
+            push_end(alloc, lines, places, finding.span);
             lines.push(r#","text":"#);
             push_quoted(alloc, lines, String::from_str(alloc, text));
             lines.push("}")
@@ -190,13 +212,13 @@ fn push_edit(alloc: Global, lines: &mut Lines, source: &Source, finding: Finding
 }
 
 /// Adds the array of the places that belong to a refusal.
-fn push_related(alloc: Global, lines: &mut Lines, source: &Source, related: Option<Related>) {
+fn push_related(alloc: Global, lines: &mut Lines, places: &Places<'_>, related: Option<Related>) {
     match related {
         Some(Related { what, span }) => {
             lines.push(r#"[{"begin":"#);
-            push_begin(alloc, lines, source, Some(span));
+            push_begin(alloc, lines, places, Some(span));
             lines.push(r#","end":"#);
-            push_end(alloc, lines, source, Some(span));
+            push_end(alloc, lines, places, Some(span));
             lines.fill_name(r#","message":"~"}]"#, what)
         }
         None => lines.push("[]"),
@@ -204,49 +226,31 @@ fn push_related(alloc: Global, lines: &mut Lines, source: &Source, related: Opti
 }
 
 /// Adds the place at which a part begins, or null.
-fn push_begin(alloc: Global, lines: &mut Lines, source: &Source, span: Option<Span>) {
+fn push_begin(alloc: Global, lines: &mut Lines, places: &Places<'_>, span: Option<Span>) {
     match span {
-        Some(span) => push_place(alloc, lines, source, span.start as usize),
+        Some(span) => push_place(alloc, lines, places, span.start as usize),
         None => lines.push("null"),
     }
 }
 
 /// Adds the place after the last byte of a part, or null.
-fn push_end(alloc: Global, lines: &mut Lines, source: &Source, span: Option<Span>) {
+fn push_end(alloc: Global, lines: &mut Lines, places: &Places<'_>, span: Option<Span>) {
     match span {
-        Some(span) => push_place(alloc, lines, source, span.end as usize),
+        Some(span) => push_place(alloc, lines, places, span.end as usize),
         None => lines.push("null"),
     }
 }
 
 /// Adds the place of a byte of the source text: its offset in its file, from 0, its column, which counts bytes, its file and
 /// its line.
-fn push_place(alloc: Global, lines: &mut Lines, source: &Source, offset: usize) {
-    match source.place_of(offset) {
-        Some(Place { file, line, column }) => {
-            let before = source.text().as_bytes().get(..offset).unwrap_or(&[]);
-            lines.fill_number(r#"{"byte":~"#, bytes_of_lines(before, line) as u64);
+fn push_place(alloc: Global, lines: &mut Lines, places: &Places<'_>, offset: usize) {
+    match (places.place_of(offset), places.byte_of(offset)) {
+        (Some(Place { file, line, column }), Some(byte)) => {
+            lines.fill_number(r#"{"byte":~"#, byte as u64);
             lines.fill_number(r#","column":~,"file":"#, column as u64);
             push_quoted(alloc, lines, String::from_str(alloc, file));
             lines.fill_number(r#","line":~}"#, line as u64)
         }
-        None => lines.push("null"),
+        _ => lines.push("null"),
     }
-}
-
-/// How many bytes the last lines of a text have, if the last of them isn't ended: so many lines of a file are before a place,
-/// and a line feed or nothing is before the file.
-fn bytes_of_lines(text: &[u8], count: usize) -> usize {
-    let mut bytes = 0_usize;
-    let mut left = count;
-    for byte in text.iter().rev() {
-        if *byte == b'\n' {
-            left = left.saturating_sub(1);
-        }
-        if left == 0 {
-            break;
-        }
-        bytes = bytes.saturating_add(1);
-    }
-    bytes
 }

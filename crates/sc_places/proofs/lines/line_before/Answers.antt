@@ -11,7 +11,13 @@ returns-in-Some-numbered c =
     let start = c.start_of_line-start.result in
     let last = c.in-Some.last in
     let begins : start + suffix_len is_in_line (take last (joined files)) ≡ last =
-        starts files c.as_bytes.result.now start last (c.as_bytes.ensures.value ∙ c.text.ensures) (omega arith) c.start_of_line-start.ensures in
-    let before : start < c.args.end = omega (arith, begins) in
-    (((λ o from to. line_to files c.in-Some-numbered.file.now c.in-Some-numbered.number start last
-    (omega arith) begins c.in-Some-numbered.ensures o from (omega (arith, to))), refl, before), before)
+    starts files c.as_bytes.result.now start last (c.as_bytes.ensures.value ∙ c.text.ensures) (omega arith) c.start_of_line-start.ensures in
+    let before : start < c.args.end = omega (arith, begins) in (
+      (
+        (λ o from to. line_to files c.in-Some-numbered.file.now c.in-Some-numbered.number start last
+            (omega arith) begins c.in-Some-numbered.ensures o from (omega (arith, to))),
+        refl,
+        before,
+      ),
+      before,
+    )

@@ -5,4 +5,4 @@ use Rattle.sc_serve.proofs.fault_list.fault_lines.Given as goal
 
 -- the lines of those before
 abbrev pub invariant-loop-fault : goal.invariant-loop-fault
-invariant-loop-fault l = l.lines.items ≡ flat_map (fault_line l.source) (take l.fault-index l.faults)
+invariant-loop-fault l = l.lines.items ≡ flat_map (fault_line l.places) (take l.fault-index l.faults)
