@@ -21,7 +21,8 @@ impl<'r> Failure<'r> {
             (Begun::Takes(_), _, _) => return,
             (Begun::GoesOn(_), Some(broken), _) => self.push_broken(lines, before, broken),
             (Begun::GoesOn(answer), None, Some(point)) if self.is_of_values() => {
-                before.push_operation_values(lines, self.handler, answer, point.place)
+                before.push_operation_values(lines, self.handler, answer, point.place);
+                before.push_held_since(lines, self.handler, point)
             }
             _ => {}
         }

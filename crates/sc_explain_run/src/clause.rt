@@ -1,11 +1,11 @@
 //! What is said of a clause that is false, and which values the parts of a text had.
 
-use crate::evaluation::{Evaluation, Goal, Start, push_evaluated};
+use crate::evaluation::{Evaluation, Frame, Goal, Start, push_evaluated};
 use crate::scene::{Scene, span_in};
 use sc_code::{FeatureCode, NameNumber, RoutineText, SiteKind};
 use sc_explain_text::Lines;
 use sc_lockpass::HandlerNumber;
-use sc_region::{Reference, Value};
+use sc_region::{Point, Reference, Value};
 use sc_text::Span;
 
 /// The most values that are shown.
@@ -16,6 +16,12 @@ impl<'r> Scene<'r> {
     /// names, on a line, as far as that is found on the objects as they are; else nothing.
     pub fn push_false_clause(&self, lines: &mut Lines, handler: HandlerNumber) {
         push_evaluated(self, lines, handler, Start::Place(0), Goal::FalseClause)
+    }
+
+    /// Adds which clause is false by which a handler refuses the request that it serves, and since when a handler is held
+    /// that the clause names, as far as that is found.
+    pub fn push_refused_clause(&self, lines: &mut Lines, handler: HandlerNumber) {
+        push_evaluated(self, lines, handler, Start::Place(0), Goal::RefusedClause)
     }
 
     /// Adds the values that the topmost routine of a handler reads and calls for the operation at a place of it, if it
@@ -111,6 +117,15 @@ impl<'r> Evaluation<'r> {
                 }
             }
             Goal::FalseClause => self.push_false(lines),
+            Goal::RefusedClause => {
+                self.push_false(lines);
+                let Frame { routine, place, .. } = self.frame;
+                self.scene.push_held_since(
+                    lines,
+                    self.frame.current.handler,
+                    Point { routine, place },
+                )
+            }
         }
     }
 

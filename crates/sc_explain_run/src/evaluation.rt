@@ -35,6 +35,8 @@ pub enum Start {
 pub enum Goal {
     /// To the first clause of a precondition that is false: which one it is, and the values of what it names.
     FalseClause,
+    /// To that, and since when a handler is held that the clause names.
+    RefusedClause,
     /// To the operation at this place: the values of what this part of the text names.
     Place(usize, Span),
 }
@@ -190,7 +192,10 @@ impl<'r> Evaluation<'r> {
         match goal {
             _ if !self.callers.is_empty() => false,
             Goal::Place(goal, _) => place == goal,
-            Goal::FalseClause => match (self.operation_at(place), self.values.last()) {
+            Goal::FalseClause | Goal::RefusedClause => match (
+                self.operation_at(place),
+                self.values.last(),
+            ) {
                 (Some(Operation::Demand(_)), Some(Value::Boolean(holds))) => !*holds,
                 _ => false,
             },

@@ -13,6 +13,7 @@ mod clause;
 mod evaluation;
 mod failure;
 mod handler_line;
+mod held;
 mod history;
 mod limit;
 mod made_turn;

@@ -202,6 +202,6 @@ fn push_refusal(
         } else {
             ", and nobody waited for it\n"
         });
-        before.push_false_clause(lines, handler)
+        before.push_refused_clause(lines, handler)
     }
 }
