@@ -4,7 +4,7 @@ use Rattle.std.specs.Prelude.{OnOk, is_ok, if◌then◌else◌}
 use Rattle.std.specs.declared.alloc.AllocError.{AllocError}
 use Rattle.sc_class.proofs.Anys.{at, drop_end}
 use Rattle.sc_rules.specs.declared.fault.Fault.{Fault}
-use Rattle.sc_faults.specs.Parts.{begins_with}
+use Rattle.sc_faults.specs.FaultLists.{begins_with}
 use Rattle.sc_faults.specs.Internal.Listing.{with_first, faults_of_each}
 
 -- two lists one after the other

@@ -24,20 +24,16 @@ use Rattle.sc_rules.specs.JudgingSystem.{is_late, is_same_span, judge_result_typ
 use Rattle.sc_rules.proofs.Refusals.{Refused, stops, Gave, refuses}
 use Rattle.sc_rules.proofs.Sound.{told_given}
 use Rattle.sc_rules.proofs.TextComplete.{refused}
-use Rattle.sc_faults.specs.Parts.{is_same_fault, begins_with}
-use Rattle.sc_faults.specs.Internal.Listing.{with_first, faults_at, faults_of_each, where_known, faults_in, faults_in_instr, faults_of, faults_of_condition, faults_of_clause, faults_of_head, judge_reserved, faults_of_simple, faults_of_instr, faults_of_instrs, faults_of_branches, faults_of_type, faults_of_types, faults_of_result, faults_of_kind, faults_of_creator, faults_of_invariant, faults_of_class, faults_of_classes, faults_of_system}
-use Rattle.sc_faults.proofs.ReportedFaults.{Some, none_left}
+use Rattle.sc_faults.specs.FaultLists.{is_same_fault, begins_with}
+use Rattle.sc_faults.specs.Internal.Listing.{with_first, faults_at, faults_of_each, where_known, judge_tag, faults_in, faults_in_instr, faults_of, faults_of_condition, faults_of_clause, faults_of_head, judge_reserved, faults_of_simple, faults_of_instr, faults_of_instrs, faults_of_branches, faults_of_type, faults_of_types, faults_of_result, faults_of_kind, faults_of_creator, faults_of_form, faults_of_invariant, faults_of_class, faults_of_classes, faults_of_system}
+use Rattle.sc_faults.proofs.ReportedFaults.{none_left}
+use Rattle.sc_faults.proofs.TypeFaults.{no_tag_fault}
 use Rattle.sc_faults.proofs.ExpressionFaults.{none_within}
 use Rattle.sc_faults.proofs.InstructionFaults.{simple_in}
 
 abbrev pub Fits : {A : Type 0} → Judged A → List Fault → Type 0
 Fits (Ok x) fs = fs ≡ []
 Fits (Err f) fs = begins_with f fs ≡ true
-
-pub fits_some : {A : Type 0} (j : Judged A) (fs : List Fault) → Fits j fs → Refused j → Some fs
-fits_some (Ok x) fs e r = absurd r
-fits_some (Err f) [] e r = cc
-fits_some (Err f) (g ∷ gs) e r = tt
 
 -- ---- a site and its operands
 
@@ -235,7 +231,7 @@ form_refused b p (Err f) r = either_refused (not b && (is_same_span f.span p && 
     (fault InvariantForm p) f
 
 type_fits : (s : System) (formals : List Declaration) (d : DeclaredType) → Fits (judge_type s formals d) (faults_of_type s formals d)
-type_fits s formals d = site_fits (judge_type s formals d) [] (λ u q. refl)
+type_fits s formals d = site_fits (judge_type s formals d) (faults_at (judge_tag formals d) []) (λ u q. no_tag_fault s formals d u q)
 
 result_fits : (s : System) (o : Option DeclaredType) → Fits (judge_result_type s o) (faults_of_result s o)
 result_fits s None = refl
@@ -274,12 +270,20 @@ module _ (s : System) (pure : RoutineName → Bool) (k : ℕ) where
   formed b p (Ok t) g fs u e q = e
   formed b p (Err f) g fs u e q = absurd (subst (λ (j : Judged (Unit {0})). Refused j) q (form_refused b p (Err f) tt))
 
+  -- and nothing is listed of the form of a clause that passes
+  form_fits : (j : Judged (Unit {0})) (fs : List Fault) (b : Bool) (p : Span) → Fits j fs → Fits j (fs ++ faults_of_form j b p)
+  form_fits (Ok u) fs b p e = subst (λ fs. fs ++ [] ≡ []) (sym e) refl
+  form_fits (Err f) fs b p e = begins_more f fs (faults_of_form (Err f) b p) e
+
   invariant_fits : (i : Clause) → Fits (judge_invariant s pure k i) (faults_of_invariant s pure k i)
   invariant_fits i =
       let h : RoutineContext = invariant_context s pure k in
-      site_fits (judge_invariant s pure k i) (faults_of h context.Invariant Plain [] i.condition)
+      let operands : List Fault = faults_of h context.Invariant Plain [] i.condition in
+      form_fits (judge_invariant s pure k i) (faults_at (judge_invariant s pure k i) operands) (may_be_formula s k i.condition)
+      (clause_span i.tag i.condition)
+      (site_fits (judge_invariant s pure k i) operands
       (λ u q. formed (may_be_formula s k i.condition) (clause_span i.tag i.condition) (judge h context.Invariant Plain [] i.condition) _
-      (faults_of h context.Invariant Plain [] i.condition) u (expression_fits h context.Invariant Plain [] i.condition) q)
+      operands u (expression_fits h context.Invariant Plain [] i.condition) q))
 
   class_fits : (c : Class) → Fits (judge_class s pure k c) (faults_of_class s pure k c)
   class_fits c =

@@ -1,32 +1,37 @@
 -- The faults that are listed of instructions: each is one of them.
 use Rattle.std.proofs.Common.{◌≡◌, Bool, true, false, List, [], ◌∷◌, ◌++◌, Option, Some as Present, None, Ok, Err, refl, sym, subst}
-use Rattle.std.specs.Prelude.{All, Contains}
+use Rattle.std.specs.Prelude.{All, Contains, not}
 use Rattle.std.proofs.lemmas.List.Elements.{All-nil}
 use Rattle.sc_text.specs.declared.token.Span.{Span}
-use Rattle.sc_tree.specs.Plain.{Clause, Head, Creation, CreationCall, Expr, Target, Exprs, Instr, Assign, PrintText, CallRoutine, Create, If, Name, Conditional, if_instr, Loop, Iteration, loop_instr, Check, Block, SeparateBlock, block_instr, Instrs, no_instrs, instr_then, Branches, no_branches, branch_then}
+use Rattle.sc_tree.specs.Plain.{Clause, Head, Variable, CreationCall, Expr, Target, no_target, target, Exprs, Instr, Assign, PrintText, CallRoutine, Create, If, Name, Conditional, if_instr, Loop, Iteration, loop_instr, Check, Block, SeparateBlock, block_instr, Instrs, no_instrs, instr_then, Branches, no_branches, branch_then}
 use Rattle.sc_rules.specs.declared.entity_types.entity_type.EntityType.{EntityType}
 use Rattle.sc_rules.specs.entity_types.Conformance.{conforms}
 use Rattle.sc_rules.specs.declared.rule.Rule.{Rule}
-use Rattle.sc_rules.specs.declared.rule.Rule.TheVariants.{ArgumentType}
+use Rattle.sc_rules.specs.declared.rule.Rule.TheVariants.{ArgumentType, NotCreation, CreationTag}
+use Rattle.sc_rules.specs.declared.fault.Fault.{Fault}
 use Rattle.sc_rules.specs.declared.position.Context.TheVariants as context
 use Rattle.sc_rules.specs.declared.position.Context.{Context}
 use Rattle.sc_rules.specs.declared.position.Position.{Position}
 use Rattle.sc_rules.specs.declared.position.Position.TheVariants.{Plain, Condition, Source}
 use Rattle.sc_rules.specs.declared.position.Role.TheVariants as role
+use Rattle.sc_rules.specs.declared.position.Use.TheVariants.{Instruction}
 use Rattle.sc_rules.specs.Positions.{span_of}
-use Rattle.sc_rules.specs.Names.{RoutineContext, Entities, Entity, entity, blocks, block_type}
+use Rattle.sc_rules.specs.Names.{RoutineContext, Entities, Entity, entity, blocks, block_type, Meaning, unknown, target_untyped, named, qualified_meaning, assignee, assignee_type, variable_span}
 use Rattle.sc_rules.specs.Typing.{Typing, typing, HasType, Gives}
 use Rattle.sc_rules.specs.Sites.{expression, instruction, instructions, branches, Reserves, no_more, one_more, source_part, call_target_part, call_actual_part, creation_actual_part, condition_part, then_part, elseif_part, else_part, from_part, until_part, loop_part, check_part, head_part, block_part, first_part, others_part, branch_condition_part, branch_part, later_branches_part, itself}
-use Rattle.sc_rules.specs.TextRules.{separate_any, InstructionFails, if_condition, until_condition, check_clause, head, at_instruction, at_branch, Fails, fails}
-use Rattle.sc_rules.specs.Judging.{Judged, ◌>>=◌, required, judge, judge_given}
-use Rattle.sc_rules.specs.JudgingText.{conforms_if_any, judge_condition, judge_instr}
-use Rattle.sc_rules.proofs.Refusals.{Tells, passes, tells, tells_more, Gave, gave, refuses}
-use Rattle.sc_rules.proofs.Sound.{told as told_expression, told_given}
-use Rattle.sc_rules.proofs.ToldActuals.{up}
-use Rattle.sc_rules.proofs.TextSound.{ConditionFails, in_condition, of_condition, tells_condition, tells_instr}
-use Rattle.sc_faults.specs.Internal.Listing.{faults_of_each, where_known, faults_in_target, faults_in_actuals, faults_in_creation, faults_in_instr, faults_of, faults_of_condition, faults_of_clause, judge_value, faults_of_head, judge_reserved, faults_of_simple, faults_of_instr, faults_of_instrs, faults_of_branches}
+use Rattle.sc_rules.specs.CallRules.{count, AtName}
+use Rattle.sc_rules.specs.TextRules.{separate_any, is_tagged, is_made_by, creation_argument, at_procedure, not_listed, tagged, InstructionFails, call_instruction, creation, if_condition, until_condition, check_clause, head, at_instruction, at_branch, Fails, fails}
+use Rattle.sc_rules.specs.Judging.{Judged, ◌>>=◌, required, formals_of, target_of, judge, judge_given}
+use Rattle.sc_rules.specs.JudgingText.{conforms_if_any, is_made_by_if_any, is_untagged, creation_meaning, judge_condition, judge_instr}
+use Rattle.sc_rules.specs.JudgingPurity.{receiver_type}
+use Rattle.sc_rules.proofs.Refusals.{Tells, passes, tells, tells_more, tells_then, Gave, gave, refuses, tells_gave}
+use Rattle.sc_rules.proofs.Sound.{MeantFails, by_actuals, by_name, told_name, told as told_expression, told_given}
+use Rattle.sc_rules.proofs.ToldActuals.{up, TargetFails, in_target, at_target, ActualsFail, in_actual, mismatch, passed_reference}
+use Rattle.sc_rules.proofs.TextSound.{tells_required, ConditionFails, in_condition, of_condition, tells_condition, tells_instr}
+use Rattle.sc_faults.specs.Internal.Listing.{faults_at, faults_of_each, where_known, judge_passed_to, meant, faults_in_actuals, judge_made, faults_in_creation, created_type, faults_in_instr, faults_of, faults_of_condition, faults_of_clause, judge_value, faults_of_head, judge_reserved, faults_of_simple, faults_of_instr, faults_of_instrs, faults_of_branches}
 use Rattle.sc_faults.proofs.ReportedFaults.{Holds, all_more, joined, at_all, known_all, each_all}
-use Rattle.sc_faults.proofs.ExpressionFaults.{expression_all, target_all, actuals_all}
+use Rattle.sc_faults.proofs.CallFaults.{untyped_fails, call_all}
+use Rattle.sc_faults.proofs.ExpressionFaults.{expression_all, target_in, actuals_in}
 
 -- ---- each is one of them
 
@@ -123,29 +128,94 @@ condition_all h c k n e P g =
     at_all P (judge_condition h c k n e) (faults_of h c k n e) (tells_more g (tells_condition h c k n e))
     (expression_all h c k n e P (λ r p f. g r p (in_condition f)))
 
-call_all : (h : RoutineContext) (n : Entities) (s : Span) (a : Target) (x : Name) (es : Exprs) →
-    All (Holds (Fails h (instruction n (CallRoutine s a x es)))) (faults_in_instr h n (CallRoutine s a x es))
-call_all h n s a x es =
-    let P : Rule → Span → Type 0 = Fails h (instruction n (CallRoutine s a x es)) in
-    joined P (faults_in_target h context.Body n a) (faults_in_actuals h context.Body n es)
-    (target_all h context.Body n a P
-    (λ b i r q f. subst (λ a. Fails h (instruction n (CallRoutine s a x es)) r q) (sym i) (up call_target_part r q f)))
-    (actuals_all h context.Body n es P (λ e i r q f. up (call_actual_part i) r q f))
+receiver_up : {h : RoutineContext} {n : Entities} {s : Span} (a : Target) {x : Name} {es : Exprs} (r : Rule) (p : Span) →
+    TargetFails h context.Body n a r p → Fails h (instruction n (CallRoutine s a x es)) r p
+receiver_up no_target r p f = elim (f) [ ]
+receiver_up (target a) r p (in_target f) = up call_target_part r p f
+receiver_up (target a) {x} {es} r p (at_target f) = at r p (call_instruction (f Instruction x es))
 
-create_all : (h : RoutineContext) (n : Entities) (s : Span) (creation : Creation) (o : Option CreationCall) → creation.call ≡ o →
-    All (Holds (Fails h (instruction n (Create s creation)))) (faults_in_creation h n o)
-create_all h n s creation None i = All-nil (Holds (Fails h (instruction n (Create s creation))))
-create_all h n s creation (Present k) i =
-    actuals_all h context.Body n k.actuals (Fails h (instruction n (Create s creation)))
-    (λ e j r q f. up (creation_actual_part i j) r q f)
+command_all : (h : RoutineContext) (n : Entities) (s : Span) (a : Target) (x : Name) (es : Exprs) →
+    All (Holds (Fails h (instruction n (CallRoutine s a x es)))) (faults_in_instr h n (CallRoutine s a x es))
+command_all h n s a x es =
+    let c : Context = context.Body in
+    call_all h c n Instruction a x es (Fails h (instruction n (CallRoutine s a x es))) (λ r q f. receiver_up a r q f)
+    (λ r q f. at r q (call_instruction f)) (λ e i r q f. up (call_actual_part i) r q f) (target_in h c n a)
+    (actuals_in h c n (receiver_type h c n a) es (target_of h (meant h c n a x)) (formals_of (meant h c n a x)) es)
+
+-- ---- creations
+
+module _ (h : RoutineContext) (n : Entities) (s : Span) (v : Variable) (k : CreationCall) where
+  abbrev here_made : Instr
+  here_made = Create s (record { variable = v; call = Present k })
+
+  abbrev InMade : Rule → Span → Type 0
+  InMade = Fails h (instruction n here_made)
+
+  is_true : (b : Bool) → not b ≡ false → b ≡ true
+  is_true true e = refl
+  is_true false e = cc
+
+  untagged : (t : Option EntityType) → assignee_type (assignee h n v) ≡ t → Tells InMade (required (is_untagged t) CreationTag (variable_span v))
+  untagged None i = passes
+  untagged (Present t) i =
+      tells_required InMade (not (is_tagged t.tag)) CreationTag (variable_span v)
+      (λ e. at CreationTag (variable_span v) (creation i (tagged (is_true (is_tagged t.tag) e))))
+
+  listed : (t : Option EntityType) → assignee_type (assignee h n v) ≡ t →
+      Tells InMade (required (is_made_by_if_any h.system t k.name) NotCreation k.name.span)
+  listed None i = passes
+  listed (Present t) i =
+      tells_required InMade (is_made_by h.system t.class k.name) NotCreation k.name.span
+      (λ e. at NotCreation k.name.span (creation i (not_listed e)))
+
+  meant_made : (t : EntityType) (m : Meaning) → qualified_meaning h t k.name.text ≡ m → assignee_type (assignee h n v) ≡ Present t →
+      (r : Rule) (p : Span) → MeantFails h context.Body n Instruction no_target m k.name.span k.actuals (Present t) r p → InMade r p
+  meant_made t m e i r p (by_actuals (in_actual a f)) = up (creation_actual_part refl a) r p f
+  meant_made t unknown e i r p (by_actuals (mismatch f)) = elim f [ ]
+  meant_made t target_untyped e i r p (by_actuals (mismatch f)) = elim f [ ]
+  meant_made t (named g) e i r p (by_actuals (mismatch f)) = at r p (creation i (creation_argument e f))
+  meant_made t m e i r p (by_actuals (passed_reference q f a d x)) = cc
+  meant_made t m e i r p (by_name (q, f)) =
+      subst (λ p. InMade r p) (sym q)
+      (at r k.name.span (creation i (at_procedure (subst (λ m. AtName h context.Body no_target Instruction m (count k.actuals) r) (sym e) f))))
+
+  meant_fails : (t : Option EntityType) → assignee_type (assignee h n v) ≡ t → (r : Rule) (p : Span) →
+      MeantFails h context.Body n Instruction no_target (creation_meaning h t k.name) k.name.span k.actuals t r p → InMade r p
+  meant_fails None i r p f = untyped_fails InMade (λ e a r p g. up (creation_actual_part refl a) r p g) r p f
+  meant_fails (Present t) i r p f = meant_made t (qualified_meaning h t k.name.text) refl i r p f
+
+  made_all : (t : Option EntityType) → assignee_type (assignee h n v) ≡ t →
+      All (Holds InMade) (faults_in_creation h n (variable_span v) t (Present k))
+  made_all t i =
+      let c : Context = context.Body in
+      let m : Meaning = creation_meaning h t k.name in
+      let actuals : List Fault = faults_in_actuals h c n (judge_passed_to h c n t m k.actuals) (formals_of m) k.actuals in
+      let named : Judged (Unit {0}) = judge_made h t m k.name (count k.actuals) in
+      joined InMade (faults_at (required (is_untagged t) CreationTag (variable_span v)) []) (actuals ++ faults_at named [])
+      (at_all InMade (required (is_untagged t) CreationTag (variable_span v)) [] (untagged t i) (All-nil (Holds InMade)))
+      (joined InMade actuals (faults_at named [])
+      (all_more (ActualsFail h c n t k.actuals (target_of h m) (formals_of m) k.actuals) InMade actuals
+      (λ q p f. meant_fails t i q p (by_actuals f)) (actuals_in h c n t k.actuals (target_of h m) (formals_of m) k.actuals))
+      (at_all InMade named []
+      (tells_then _
+      (tells_then _ (tells_more (λ q p f. meant_fails t i q p (by_name f))
+      (tells_gave (told_name h c Instruction no_target m (count k.actuals) k.name.span))) (λ u. passes))
+      (λ u. listed t i))
+      (All-nil (Holds InMade))))
+
+create_all : (h : RoutineContext) (n : Entities) (s : Span) (v : Variable) (o : Option CreationCall) →
+    All (Holds (Fails h (instruction n (Create s (record { variable = v; call = o })))))
+    (faults_in_creation h n (variable_span v) (created_type h n v) o)
+create_all h n s v None = All-nil (Holds (Fails h (instruction n (Create s (record { variable = v; call = None })))))
+create_all h n s v (Present k) = made_all h n s v k (created_type h n v) refl
 
 -- an instruction that holds no others
 pub simple_in : (h : RoutineContext) (n : Entities) (i : Instr) → All (Holds (Fails h (instruction n i))) (faults_in_instr h n i)
 simple_in h n (Assign p v e) =
     expression_all h context.Body Source n e (Fails h (instruction n (Assign p v e))) (λ r q f. up source_part r q f)
 simple_in h n (PrintText p x) = All-nil (Holds (Fails h (instruction n (PrintText p x))))
-simple_in h n (CallRoutine p a x es) = call_all h n p a x es
-simple_in h n (Create p creation) = create_all h n p creation creation.call refl
+simple_in h n (CallRoutine p a x es) = command_all h n p a x es
+simple_in h n (Create p v) = create_all h n p v.variable v.call
 simple_in h n (If p e body bs other) = All-nil (Holds (Fails h (instruction n (If p e body bs other))))
 simple_in h n (Loop p initial until body) = All-nil (Holds (Fails h (instruction n (Loop p initial until body))))
 simple_in h n (Check p ks) = All-nil (Holds (Fails h (instruction n (Check p ks))))
@@ -164,7 +234,7 @@ mutual
   instr_all h n (Assign p v e) = simple_all h n (Assign p v e)
   instr_all h n (PrintText p x) = simple_all h n (PrintText p x)
   instr_all h n (CallRoutine p a x es) = simple_all h n (CallRoutine p a x es)
-  instr_all h n (Create p creation) = simple_all h n (Create p creation)
+  instr_all h n (Create p v) = simple_all h n (Create p v)
   instr_all h n (If p e body bs other) =
       let c : Conditional = record { condition = e; body = body; branches = bs; other = other } in
       let P : Rule → Span → Type 0 = Fails h (instruction n (If p e body bs other)) in

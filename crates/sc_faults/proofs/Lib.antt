@@ -1,10 +1,16 @@
 mod Adding
 mod ReportedFaults
+mod Places
+mod TypeFaults
+mod TypeSteps
+mod CallSteps
+mod CallFaults
 mod ExpressionFaults
 mod ExpressionSteps
 mod InstructionFaults
 mod FirstFaults
 mod InstructionLists
+mod SitePlaces
 mod SiteFaults
 mod PartFaults
 mod SystemFaults

@@ -1,16 +1,15 @@
--- The faults that are listed where judging reports one: what holds of each, and that there is one where judging
--- refuses.
+-- The faults that are listed where judging reports one: what holds of each, and which of them are there.
 use Rattle.std.proofs.Common.{◌≡◌, ◌<◌, zero, suc, Bool, true, false, List, [], ◌∷◌, ◌++◌, length, Ok, Err, refl, sym, subst, arith}
 use Rattle.std.specs.Prelude.{All, Any, Contains, if◌then◌else◌}
 use Rattle.std.proofs.lemmas.List.Elements.{All-nil, All-cons, All-append}
 use Rattle.sc_text.specs.declared.token.Span.{Span}
-use Rattle.sc_class.proofs.Anys.{any_first, any_later, any_left, any_right}
+use Rattle.sc_class.proofs.Anys.{any_later, any_left, any_right}
 use Rattle.sc_rules.specs.declared.rule.Rule.{Rule}
 use Rattle.sc_rules.specs.declared.fault.Fault.{Fault}
 use Rattle.sc_rules.specs.Names.{Entities}
 use Rattle.sc_rules.specs.Judging.{Judged}
-use Rattle.sc_rules.proofs.Refusals.{Refused, Tells, tells, Gave, gave, refuses}
-use Rattle.sc_faults.specs.Parts.{is_same_fault, begins_with}
+use Rattle.sc_rules.proofs.Refusals.{Tells, tells, Gave, gave, refuses}
+use Rattle.sc_faults.specs.FaultLists.{begins_with}
 use Rattle.sc_faults.specs.Internal.Listing.{faults_at, faults_of_each, where_known}
 
 -- the rule of the fault fails at its place, as P says
@@ -23,19 +22,6 @@ all_more P Q fs g h = λ k d l. g _ _ (h k d l)
 
 pub joined : (P : Rule → Span → Type 0) (fs gs : List Fault) → All (Holds P) fs → All (Holds P) gs → All (Holds P) (fs ++ gs)
 joined P fs gs h k = All-append (Holds P) fs gs h k
-
--- there is a fault
-abbrev pub Some : List Fault → Type 0
-Some [] = ⊥
-Some (f ∷ fs) = Unit {0}
-
--- what holds of all holds of one
-pub some_any : (P : Rule → Span → Type 0) (fs : List Fault) → Some fs → All (Holds P) fs → Any (Holds P) fs
-some_any P [] s h = absurd s
-some_any P (f ∷ fs) s h = any_first f fs (h 0 f first)
-  where
-    first : 0 < length (f ∷ fs)
-    first = omega arith
 
 -- what holds of none is no fault
 pub none_left : (P : Rule → Span → Type 0) (fs : List Fault) → ((r : Rule) (p : Span) → P r p → ⊥) → All (Holds P) fs →
@@ -58,15 +44,6 @@ pub at_all : {A : Type 0} (P : Rule → Span → Type 0) (j : Judged A) (fs : Li
 at_all P (Ok x) fs t h = h
 at_all P (Err f) fs (tells t) h = first_all P (begins_with f fs) f fs t h
 
-pub at_some : {A : Type 0} (j : Judged A) (fs : List Fault) → Refused j → Some (faults_at j fs)
-at_some (Ok x) fs r = absurd r
-at_some (Err f) [] r = tt
-at_some (Err f) (g ∷ gs) r = by (is_same_fault f g)
-  where
-    by : (b : Bool) → Some (if b then g ∷ gs else f ∷ (g ∷ gs))
-    by true = tt
-    by false = tt
-
 -- the faults of operands are listed
 pub at_any : {A : Type 0} (P : Rule → Span → Type 0) (j : Judged A) (fs : List Fault) → Any (Holds P) fs →
     Any (Holds P) (faults_at j fs)
@@ -76,11 +53,6 @@ at_any P (Err f) fs a = by (begins_with f fs)
     by : (b : Bool) → Any (Holds P) (if b then fs else f ∷ fs)
     by true = a
     by false = any_later f fs a
-
--- there is a fault of a site that is refused
-pub one_at : {A : Type 0} (P : Rule → Span → Type 0) (j : Judged A) (fs : List Fault) → Tells P j → All (Holds P) fs →
-    Refused j → Any (Holds P) (faults_at j fs)
-one_at P j fs t h r = some_any P (faults_at j fs) (at_some j fs r) (at_all P j fs t h)
 
 -- what is listed where entities of this kind are known
 pub known_all : (P : Rule → Span → Type 0) (Given : Entities → Type 0) (Q : Rule → Span → Type 0) (j : Judged Entities)

@@ -1,9 +1,10 @@
--- The faults that are listed of a site are among those of each site that it is in.
+-- The faults that are listed of a site are among those of each site that it is in, and so there is one at each place at which a
+-- rule fails.
 use Rattle.std.proofs.Common.{◌≡◌, Bool, true, false, List, [], ◌∷◌, ◌++◌, Option, Ok, refl, sym, subst, ◌∙◌}
 use Rattle.std.specs.Prelude.{Any, if◌then◌else◌}
 use Rattle.sc_text.specs.declared.token.Span.{Span}
 use Rattle.sc_tree.specs.declared.expression.BinaryOperator.{BinaryOperator}
-use Rattle.sc_tree.specs.Plain.{Head, CreationCall, Expr, Call, Unary, Binary, ObjectTest, target, Exprs, Assign, CallRoutine, Create, Instrs}
+use Rattle.sc_tree.specs.Plain.{Head, Name, Creation, CreationCall, Expr, Call, Unary, Binary, ObjectTest, Target, target, Exprs, Assign, CallRoutine, Create, Instrs}
 use Rattle.sc_class.proofs.Anys.{any_left, any_right}
 use Rattle.sc_rules.specs.declared.rule.Rule.{Rule}
 use Rattle.sc_rules.specs.declared.fault.Fault.{Fault}
@@ -12,20 +13,21 @@ use Rattle.sc_rules.specs.declared.position.Context.TheVariants as context
 use Rattle.sc_rules.specs.declared.position.Position.{Position}
 use Rattle.sc_rules.specs.declared.position.Position.TheVariants.{Plain, Condition, Source}
 use Rattle.sc_rules.specs.declared.position.Role.TheVariants as role
-use Rattle.sc_rules.specs.Positions.{operand_position, shares_names}
-use Rattle.sc_rules.specs.Names.{RoutineContext, Entities, entity, blocks, block_type}
+use Rattle.sc_rules.specs.declared.position.Use.{Use}
+use Rattle.sc_rules.specs.declared.position.Use.TheVariants.{Value, Instruction}
+use Rattle.sc_rules.specs.Positions.{span_of, operand_context, operand_position, shares_names}
+use Rattle.sc_rules.specs.Names.{RoutineContext, Entities, entity, blocks, block_type, FormalType, Meaning, variable_span}
 use Rattle.sc_rules.specs.Sites.{Site, expression, instruction, instructions, branches, IsActual, first_actual, later_actual, Reserves, no_more, one_more, Part, target_part, actual_part, operand_part, left_part, right_part, joined_left_part, joined_right_part, tested_part, source_part, call_target_part, call_actual_part, creation_actual_part, condition_part, then_part, elseif_part, else_part, from_part, until_part, loop_part, check_part, head_part, block_part, first_part, others_part, branch_condition_part, branch_part, later_branches_part, Within, itself, inside}
-use Rattle.sc_rules.specs.TextRules.{Fails}
-use Rattle.sc_rules.specs.Judging.{Judged, judge, judge_given}
-use Rattle.sc_rules.specs.JudgingText.{judge_condition, judge_instr, judge_instrs, judge_branches}
+use Rattle.sc_rules.specs.TextRules.{FailsAt, at_expression, at_instruction, at_branch, Fails, fails}
+use Rattle.sc_rules.specs.Judging.{Judged, JudgedActual, formals_of, rest, judge, judge_given}
+use Rattle.sc_rules.specs.JudgingText.{creation_meaning, judge_condition, judge_instr}
+use Rattle.sc_rules.specs.JudgingPurity.{receiver_type}
 use Rattle.sc_rules.proofs.Refusals.{bind_ok}
 use Rattle.sc_rules.proofs.Complete.{typed, given}
-use Rattle.sc_rules.proofs.TextComplete.{refused}
-use Rattle.sc_faults.specs.Internal.Listing.{where_known, faults_of_each, faults_in, faults_in_target, faults_in_actuals, faults_in_creation, faults_in_instr, faults_of, faults_of_condition, faults_of_clause, judge_value, faults_of_head, judge_reserved, faults_of_instr, faults_of_instrs, faults_of_branches}
-use Rattle.sc_faults.proofs.ReportedFaults.{Holds, some_any, at_any, one_at, known_any, each_any}
-use Rattle.sc_faults.proofs.ExpressionFaults.{reports, in_all}
-use Rattle.sc_faults.proofs.FirstFaults.{fits_some, instr_fits, instrs_fits, branches_fits}
-use Rattle.sc_faults.proofs.InstructionFaults.{instr_all, instrs_all, branches_all}
+use Rattle.sc_faults.specs.Internal.Listing.{faults_at, where_known, faults_of_each, faults_of_tested, judge_before, judge_passed_to, meant, faults_in, faults_in_target, faults_in_actuals, faults_in_creation, created_type, faults_in_instr, faults_of, faults_of_call, faults_of_condition, faults_of_clause, judge_value, faults_of_head, judge_reserved, faults_of_instr, faults_of_instrs, faults_of_branches}
+use Rattle.sc_faults.proofs.ReportedFaults.{Holds, at_any, known_any, each_any}
+use Rattle.sc_faults.proofs.Places.{At}
+use Rattle.sc_faults.proofs.SitePlaces.{expression_place, instruction_place, branch_place}
 
 -- what is listed of a site
 abbrev pub listed : RoutineContext → Site → List Fault
@@ -33,17 +35,6 @@ listed h (expression c k n e) = faults_of h c k n e
 listed h (instruction n i) = faults_of_instr h n i
 listed h (instructions n is) = faults_of_instrs h n is
 listed h (branches n bs) = faults_of_branches h n bs
-
--- where a rule fails in a site, one of what is listed does
-pub one_listed : (h : RoutineContext) (a : Site) (r : Rule) (p : Span) → Fails h a r p → Any (Holds (Fails h a)) (listed h a)
-one_listed h (expression c k n e) r p f =
-    one_at (Fails h (expression c k n e)) (judge h c k n e) (faults_in h c k n e) (reports h c k n e) (in_all h c k n e) (refused f)
-one_listed h (instruction n i) r p f = some_any (Fails h (instruction n i)) (faults_of_instr h n i)
-    (fits_some (judge_instr h n i) (faults_of_instr h n i) (instr_fits h n i) (refused f)) (instr_all h n i)
-one_listed h (instructions n is) r p f = some_any (Fails h (instructions n is)) (faults_of_instrs h n is)
-    (fits_some (judge_instrs h n is) (faults_of_instrs h n is) (instrs_fits h n is) (refused f)) (instrs_all h n is)
-one_listed h (branches n bs) r p f = some_any (Fails h (branches n bs)) (faults_of_branches h n bs)
-    (fits_some (judge_branches h n bs) (faults_of_branches h n bs) (branches_fits h n bs) (refused f)) (branches_all h n bs)
 
 -- ---- parts
 
@@ -72,12 +63,29 @@ module _ (P : Rule → Span → Type 0) where
       Among (faults_of_condition h c k n e)
   condition_any h c k n e a = at_any P (judge_condition h c k n e) (faults_of h c k n e) a
 
-  actual_any : (h : RoutineContext) (c : Context) (n : Entities) {e : Expr} {es : Exprs} → IsActual e es →
-      Among (faults_of h c Source n e) → Among (faults_in_actuals h c n es)
+  actual_any : (h : RoutineContext) (c : Context) (n : Entities) (pass : List FormalType → JudgedActual → Judged (Unit {0}))
+      {e : Expr} (fs : List FormalType) {es : Exprs} → IsActual e es → Among (faults_of h c Source n e) →
+      Among (faults_in_actuals h c n pass fs es)
   unfolding faults_in
-  actual_any h c n {e} (first_actual {es}) x = any_left (faults_of h c Source n e) (faults_in_actuals h c n es) x
-  actual_any h c n (later_actual {d} {es} i) x =
-      any_right (faults_of h c Source n d) (faults_in_actuals h c n es) (actual_any h c n i x)
+  actual_any h c n pass {e} fs (first_actual {es}) x =
+      any_left _ (faults_in_actuals h c n pass (rest fs) es)
+      (at_any P (pass fs (span_of e, judge h c Source n e)) (faults_of h c Source n e) x)
+  actual_any h c n pass fs (later_actual {d} {es} i) x =
+      any_right _ (faults_in_actuals h c n pass (rest fs) es) (actual_any h c n pass (rest fs) i x)
+
+  -- an actual of a call, and the expression before its dot
+  argument_any : (h : RoutineContext) (c : Context) (n : Entities) (u : Use) (a : Target) (x : Name) {e : Expr} {es : Exprs} →
+      IsActual e es → Among (faults_of h c Source n e) → Among (faults_of_call h c n u a x es)
+  argument_any h c n u a x {e} {es} i y =
+      any_right (faults_in_target h c n a) _
+      (any_left (faults_in_actuals h c n (judge_passed_to h c n (receiver_type h c n a) (meant h c n a x) es) (formals_of (meant h c n a x)) es) _
+      (actual_any h c n (judge_passed_to h c n (receiver_type h c n a) (meant h c n a x) es) (formals_of (meant h c n a x)) i y))
+
+  before_any : (h : RoutineContext) (c : Context) (n : Entities) (u : Use) (a : Expr) (x : Name) (es : Exprs) →
+      Among (faults_of h c Plain n a) → Among (faults_of_call h c n u (target a) x es)
+  unfolding faults_in
+  before_any h c n u a x es y =
+      any_left (faults_at (judge_before h c n a) (faults_of h c Plain n a)) _ (at_any P (judge_before h c n a) (faults_of h c Plain n a) y)
 
   where_true : (b : Bool) (fs gs : List Fault) → b ≡ true → Among fs → Among (if b then fs else gs)
   where_true true fs gs e x = x
@@ -124,10 +132,11 @@ module _ (P : Rule → Span → Type 0) where
       Part h (expression c k n e) b → Among (listed h b) → Among (faults_of h c k n e)
   unfolding faults_in
   expression_any {h} (target_part {c} {k} {n} {s} {a} {x} {es}) i =
-      inner_any h c k n (Call s (target a) x es) (any_left (faults_of h c Plain n a) (faults_in_actuals h c n es) i)
+      inner_any h c k n (Call s (target a) x es) (before_any h c n Value a x es i)
   expression_any {h} (actual_part {c} {k} {n} {s} {t} {x} {es} {e} j) i =
-      inner_any h c k n (Call s t x es) (any_right (faults_in_target h c n t) (faults_in_actuals h c n es) (actual_any h c n j i))
-  expression_any {h} (operand_part {c} {k} {n} {s} {op} {a}) i = inner_any h c k n (Unary s op a) i
+      inner_any h c k n (Call s t x es) (argument_any h c n Value t x j i)
+  expression_any {h} (operand_part {c} {k} {n} {s} {op} {a}) i =
+      inner_any h c k n (Unary s op a) (any_left (faults_of h (operand_context op c) Plain n a) _ i)
   expression_any {h} (left_part {c} {k} {n} {s} {op} {a} {b} j) i =
       inner_any h c k n (Binary s op a b) (left_any h c k n op a b j i)
   expression_any {h} (right_part {c} {k} {n} {s} {op} {a} {b} j) i =
@@ -136,7 +145,11 @@ module _ (P : Rule → Span → Type 0) where
       inner_any h c k n (Binary s op a b) (joined_left_any h c k n op a b j i)
   expression_any {h} (joined_right_part {c} {k} {n} {m} {s} {op} {a} {b} j g) i =
       inner_any h c k n (Binary s op a b) (joined_right_any h c k n op a b m j (given g) i)
-  expression_any {h} (tested_part {c} {k} {n} {s} {d} {a} {x}) i = inner_any h c k n (ObjectTest s d a x) i
+  expression_any {h} (tested_part {c} {k} {n} {s} {d} {a} {x}) i =
+      inner_any h c k n (ObjectTest s d a x) (any_right (faults_of_tested h d) _ (any_left (faults_of h c Plain n a) _ i))
+
+  abbrev made : RoutineContext → Entities → Creation → CreationCall → Meaning
+  made h n creation k = creation_meaning h (created_type h n creation.variable) k.name
 
   part_any : {h : RoutineContext} {a b : Site} → Part h a b → Among (listed h b) → Among (listed h a)
   unfolding faults_of_instr faults_in
@@ -152,13 +165,17 @@ module _ (P : Rule → Span → Type 0) where
       at_any P (judge_instr h n (Assign s v e)) (faults_in_instr h n (Assign s v e)) i
   part_any {h} (call_target_part {n} {s} {a} {x} {es}) i =
       at_any P (judge_instr h n (CallRoutine s (target a) x es)) (faults_in_instr h n (CallRoutine s (target a) x es))
-      (any_left (faults_of h context.Body Plain n a) (faults_in_actuals h context.Body n es) i)
+      (before_any h context.Body n Instruction a x es i)
   part_any {h} (call_actual_part {n} {s} {t} {x} {es} {e} j) i =
       at_any P (judge_instr h n (CallRoutine s t x es)) (faults_in_instr h n (CallRoutine s t x es))
-      (any_right (faults_in_target h context.Body n t) (faults_in_actuals h context.Body n es) (actual_any h context.Body n j i))
+      (argument_any h context.Body n Instruction t x j i)
   part_any {h} (creation_actual_part {n} {s} {creation} {k} {e} c j) i =
       at_any P (judge_instr h n (Create s creation)) (faults_in_instr h n (Create s creation))
-      (subst (λ (o : Option CreationCall). Among (faults_in_creation h n o)) (sym c) (actual_any h context.Body n j i))
+      (subst (λ (o : Option CreationCall). Among (faults_in_creation h n (variable_span creation.variable) (created_type h n creation.variable) o))
+      (sym c)
+      (any_right _ _ (any_left _ _
+      (actual_any h context.Body n (judge_passed_to h context.Body n (created_type h n creation.variable) (made h n creation k) k.actuals)
+      (formals_of (made h n creation k)) j i))))
   part_any {h} (condition_part {n} {s} {choice}) x =
       any_left (faults_of_condition h context.Body Condition n choice.condition ++ where_known (judge_given h context.Body n choice.condition)
       (λ m. faults_of_instrs h m choice.body)) _
@@ -205,3 +222,13 @@ module _ (P : Rule → Span → Type 0) where
   pub within_any : {h : RoutineContext} {a b : Site} → Within h a b → Among (listed h b) → Among (listed h a)
   within_any itself x = x
   within_any (inside d w) x = part_any d (within_any w x)
+
+-- ---- places
+
+site_place : {h : RoutineContext} {a : Site} {r : Rule} {p : Span} → FailsAt h a r p → Any (Holds (At p)) (listed h a)
+site_place {h} (at_expression f) = expression_place h f
+site_place (at_instruction f) = instruction_place f
+site_place (at_branch {body = body} {bs} f) = branch_place body bs f
+
+pub fails_place : {h : RoutineContext} {a : Site} {r : Rule} {p : Span} → Fails h a r p → Any (Holds (At p)) (listed h a)
+fails_place {p = p} (fails w f) = within_any (At p) w (site_place f)

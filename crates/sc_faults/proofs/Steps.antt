@@ -1,7 +1,8 @@
 -- What the walk has added after each of its steps.
 use Rattle.std.proofs.Common.{◌≡◌, ℕ, ◌+◌, ◌<◌, ◌≤◌, List, [], ◌++◌, length, drop, get_or, map, Option, Some, None, Result, Ok, Err, refl, ap, sym, subst, ◌∙◌}
-use Rattle.std.specs.Prelude.{Bool, OnOk}
+use Rattle.std.specs.Prelude.{Bool, true, false, if◌then◌else◌, OnOk}
 use Rattle.std.specs.declared.alloc.AllocError.{AllocError}
+use Rattle.sc_text.specs.declared.token.Span.{Span}
 use Rattle.sc_tree.specs.declared.declaration.DeclaredType.{DeclaredType}
 use Rattle.sc_tree.specs.declared.declaration.Declaration.{Declaration}
 use Rattle.sc_tree.specs.declared.instruction.Instr.{Instr}
@@ -21,12 +22,14 @@ use Rattle.sc_rules.specs.declared.position.Context.{Context}
 use Rattle.sc_rules.specs.declared.position.Context.TheVariants as context
 use Rattle.sc_rules.specs.declared.position.Position.{Position}
 use Rattle.sc_rules.specs.Names.{RoutineName, RoutineContext, Entities, routine_context, formals_known, locals_known}
-use Rattle.sc_rules.specs.Judging.{Judged}
+use Rattle.sc_rules.specs.declared.rule.Rule.TheVariants.{InvariantForm}
+use Rattle.sc_rules.specs.Judging.{Judged, required}
+use Rattle.sc_rules.specs.JudgingSystem.{is_same_span}
 use Rattle.sc_typing.specs.declared.fault.CheckFault.{CheckFault}
 use Rattle.sc_typing.specs.declared.fault.CheckFault.TheVariants.{Refused}
 use Rattle.sc_typing.specs.Judges.{Faults, Knows, Passes}
-use Rattle.sc_faults.specs.Internal.Adding.{AddsFaults, AddsUnder}
-use Rattle.sc_faults.specs.Internal.Listing.{with_first, faults_at, faults_of, faults_of_each, faults_of_clause, faults_of_instrs, faults_under, faults_of_type, faults_of_types, faults_of_result, faults_of_text, faults_of_kind, faults_of_features, faults_of_creator, faults_of_invariant, faults_of_class, faults_of_classes}
+use Rattle.sc_faults.specs.Internal.Adding.{AddsFaults, AddsForm, AddsUnder}
+use Rattle.sc_faults.specs.Internal.Listing.{with_first, faults_at, faults_of, faults_of_each, faults_of_clause, faults_of_instrs, faults_under, faults_of_type, faults_of_types, faults_of_result, faults_of_text, faults_of_kind, faults_of_features, faults_of_creator, faults_of_form, faults_of_invariant, faults_of_class, faults_of_classes}
 use Rattle.sc_faults.proofs.Adding.{both_if_ok, named, named_if_ok, nothing_added, next, end}
 
 -- ---- a site
@@ -50,6 +53,36 @@ pub site_added : (j : Judged (Unit {0})) (listed : List Fault) (judged : Result 
     OnOk r (new ≡ old ++ faults_at j listed)
 site_added j listed judged r operands old new e p a =
     named_if_ok r old new (faults_at j operands) (faults_at j listed) (ap (faults_at j) e) (a j p)
+
+-- the form of a clause, whether its own judging passed it, reported it at the place, or reported another place
+module _ (judged : Result Unit CheckFault) (j : Judged (Unit {0})) (b : Bool) (p : Span) (r : Result Unit AllocError) (old new : List Fault) where
+  pub passed_form : (u : Unit) → judged ≡ Ok u → Passes j judged → old ≡ old ++ faults_of_form j b p
+  passed_form u q k =
+      nothing_added old old refl ∙ ap (λ j. old ++ faults_of_form j b p) (sym (subst (Passes j) q k))
+
+  listed : (e : CheckFault) (f : Fault) (c : Bool) → judged ≡ Err e → e ≡ Refused f → is_same_span f.span p ≡ c → Passes j judged →
+      faults_of_form j b p ≡ (if c then [] else faults_at (required b InvariantForm p) [])
+  listed e f c q w s k =
+      ap (λ j. faults_of_form j b p) (subst (Faults j) w (subst (Passes j) q k))
+      ∙ ap (λ c. if c then [] else faults_at (required b InvariantForm p) []) s
+
+  pub form_there : (e : CheckFault) (f : Fault) → judged ≡ Err e → e ≡ Refused f → is_same_span f.span p ≡ true → Passes j judged →
+      old ≡ old ++ faults_of_form j b p
+  form_there e f q w s k = nothing_added old old refl ∙ ap (λ fs. old ++ fs) (sym (listed e f true q w s k))
+
+  pub form_missing : (e : CheckFault) (f : Fault) → judged ≡ Err e → e ≡ Refused f → is_same_span f.span p ≡ false → Passes j judged →
+      OnOk r (new ≡ old ++ faults_at (required b InvariantForm p) []) → OnOk r (new ≡ old ++ faults_of_form j b p)
+  form_missing e f q w s k a =
+      named_if_ok r old new (faults_at (required b InvariantForm p) []) (faults_of_form j b p) (sym (listed e f false q w s k)) a
+
+-- then the form of a clause
+pub form_added : (j : Judged (Unit {0})) (listed : List Fault) (b : Bool) (p : Span) (judged : Result Unit CheckFault)
+    (r : Result Unit AllocError) (operands start of_form old mid new : List Fault) → operands ≡ listed → Passes j judged → start ≡ [] →
+    AddsForm judged b p (Ok tt) start of_form → AddsFaults judged operands (Ok tt) old mid → OnOk r (new ≡ mid ++ of_form) →
+    OnOk r (new ≡ old ++ (faults_at j listed ++ faults_of_form j b p))
+form_added j listed b p judged r operands start of_form old mid new o q e f a n =
+    both_if_ok r old mid new (faults_at j listed) (faults_of_form j b p) (a j q ∙ ap (λ os. old ++ faults_at j os) o)
+    (named_if_ok r mid new of_form (faults_of_form j b p) (f j q ∙ ap (λ os. os ++ faults_of_form j b p) e) n)
 
 pub in_context : (h g : RoutineContext) (c : Context) (k : Position) (n : Entities) (e : plain.Expr) (old new : List Fault) → h ≡ g →
     new ≡ old ++ faults_of h c k n e → new ≡ old ++ faults_of g c k n e

@@ -5,11 +5,12 @@ ghost use Rattle.sc_tree.specs.View.{class_of, clause_of, feature_of, name_of};
 ghost use Rattle.sc_class.specs.SystemIn.{system_in};
 ghost use Rattle.sc_rules.specs.Purity.{IsPurity};
 ghost use Rattle.sc_typing.specs.Marks.{is_marked};
-ghost use Rattle.sc_faults.specs.Parts.{IsFaultList};
+ghost use Rattle.sc_faults.specs.FaultLists.{IsFaultList};
 ghost use Rattle.sc_faults.specs.Internal.Listing as listing;
 
 use crate::expressions::add_expression;
 use crate::features::{add_feature, context_of};
+use crate::formulas::{add_form, clause_span, may_be_formula};
 use crate::found::{add, add_alone};
 use sc_check::{ClassText, pure_functions};
 use sc_class::Tables;
@@ -70,7 +71,12 @@ fn add_invariant<'s>(
         &clause.condition,
         &mut operands,
     )?;
-    add(class.judge_invariant(clause), &mut operands, faults)
+    let judged = class.judge_invariant(clause);
+    let is_formula = may_be_formula(class.tables, class.class, &clause.condition);
+    let mut of_form = Vec::new(class.alloc);
+    add_form(&judged, is_formula, clause_span(clause), &mut of_form)?;
+    add(judged, &mut operands, faults)?;
+    faults.append(&mut of_form)
 }
 
 /// Adds the faults of the clauses of the invariant.
@@ -140,13 +146,12 @@ fn faults_by<'t, 's>(
     Ok(faults)
 }
 
-/// The faults of a system: a rule that fails, and where, for each part of the text in which one does. The first is the one
-/// that `check` reports. A part is a name under `create`, a declared type, a clause of a contract or an invariant, an
-/// instruction or an expression, however deep it is. The list goes through the text as `check` does. At each part it has
-/// at most one fault beside those of the part's own parts: the first that `check` would report there.
+/// The faults of a system: a rule that fails, and where. Their places are exactly those at which some rule fails; at each
+/// the list has the rule that `check` would report there if nothing else failed, and it may have others. The first is the
+/// fault that `check` reports. The list goes through the text as `check` does.
 ///
-/// Instructions and operands that know a name of an object test or a block's head are left out if the expression that is
-/// named has no type, since a rule fails in it.
+/// No rule is judged at an expression, an instruction or an operand that depends on an expression without a type: at a
+/// call on it, or where a name of an object test or a block's head is known that would have its type.
 ///
 /// The walk takes the time of `check`, and that of judging a faulty expression again for each expression around it, of
 /// which there are at most 64. Each condition and each block copies the names that it knows.

@@ -1,19 +1,30 @@
 //! The faults of expressions.
 
 ghost use Rattle.std.specs.Prelude.{◌≡◌, ◌++◌, OnOk, map};
-ghost use Rattle.sc_tree.specs.View.{expr_of, exprs_of, target_of};
+ghost use Rattle.sc_tree.specs.View.{expr_of, exprs_of, name_of, target_of};
+ghost use Rattle.sc_class.specs.SystemIn.{system_in};
 ghost use Rattle.sc_rules.specs.Judging as judging;
 ghost use Rattle.sc_rules.specs.Positions as positions;
-ghost use Rattle.sc_typing.specs.Views.{entity_of, routine_in, typing_of};
-ghost use Rattle.sc_typing.specs.Judges.{Judges};
+ghost use Rattle.sc_typing.specs.Views.{entity_of, formals_in, meaning_in, routine_in, types_in, typing_of};
+ghost use Rattle.sc_typing.specs.Judges.{Judges, Passes};
 ghost use Rattle.sc_faults.specs.Internal.Listing as listing;
 ghost use Rattle.sc_faults.specs.Internal.Adding.{AddsWhereKnown};
 
-use crate::found::add_first;
+use crate::calls::{
+    formals_of, found_actuals, judge_before, judge_name, receiver_type, target_type, untyped,
+};
+use crate::found::{add, add_alone, add_first};
+use crate::passing::{Passing, known_handlers};
 use crate::scopes::give_names;
-use sc_rules::{Context, Fault, Position};
-use sc_tree::{BinaryOperator, Expr};
-use sc_typing::{CheckFault, Entity, RoutineContext, Typing, operand_context, operand_position};
+use crate::types::add_tested;
+use sc_rules::entity_types::EntityType;
+use sc_rules::{Context, Fault, Position, Rule, Use};
+use sc_text::Span;
+use sc_tree::{BinaryOperator, Call, Expr, UnaryOperator};
+use sc_typing::{
+    CallContext, CheckFault, Entity, Meaning, RoutineContext, Typing, judge_unary, operand_context,
+    operand_position, refusal,
+};
 use std::alloc::AllocError;
 
 /// Judges an expression in its position.
@@ -47,6 +58,24 @@ fn shares_names(position: Position, operator: BinaryOperator) -> bool
     }
 }
 
+/// Judges `old`, whatever its operand is.
+fn judge_old(context: Context, span: Span, operator: UnaryOperator) -> Result<(), CheckFault>
+    ensures { Passes (listing.judge_old context operator span) result }
+{
+    judge_unary(context, span, operator, untyped())?;
+    Ok(())
+}
+
+/// Judges the place of an object test, whatever its operand is.
+fn judge_place(position: Position, span: Span) -> Result<(), CheckFault>
+    ensures { Passes (listing.judge_place position span) result }
+{
+    match position {
+        Position::Condition => Ok(()),
+        Position::Plain | Position::Source => Err(refusal(Rule::ObjectTestPlace, span)),
+    }
+}
+
 /// Adds the faults of an expression and of its operands.
 #[cycle(expressions)]
 pub fn add_expression<'s>(
@@ -71,7 +100,7 @@ pub fn add_expression<'s>(
     }
 }
 
-/// Adds the faults of the operands of an expression.
+/// Adds the faults of the parts of an expression, with those of its own that don't depend on what its operands are.
 #[cycle(expressions)]
 fn add_operands<'s>(
     routine: &RoutineContext<'_, 's>,
@@ -90,13 +119,11 @@ fn add_operands<'s>(
         Expr::Void(_) => Ok(()),
         Expr::Current(_) => Ok(()),
         Expr::Result(_) => Ok(()),
-        Expr::Call(call) => {
-            add_target(routine, context, names, &call.target, faults)?;
-            add_actuals(routine, context, names, &call.actuals, faults)
-        }
-        Expr::Unary(_, operator, operand) => {
+        Expr::Call(call) => add_call(routine, context, Use::Value, names, call, faults),
+        Expr::Unary(span, operator, operand) => {
             let inside = operand_context(*operator, context);
-            add_expression(routine, inside, Position::Plain, names, operand, faults)
+            add_expression(routine, inside, Position::Plain, names, operand, faults)?;
+            add_alone(judge_old(context, *span, *operator), faults)
         }
         Expr::Binary(_, operator, left, right) => {
             if shares_names(position, *operator) {
@@ -110,8 +137,10 @@ fn add_operands<'s>(
                 add_expression(routine, context, side, names, right, faults)
             }
         }
-        Expr::ObjectTest(_, _, tested, _) => {
-            add_expression(routine, context, Position::Plain, names, tested, faults)
+        Expr::ObjectTest(span, declared, tested, _) => {
+            add_tested(routine, declared, faults)?;
+            add_expression(routine, context, Position::Plain, names, tested, faults)?;
+            add_alone(judge_place(position, *span), faults)
         }
     }
 }
@@ -136,9 +165,9 @@ fn add_where_known<'s>(
     }
 }
 
-/// Adds the faults of what is before the dot of a call.
+/// Adds the faults of what is before the dot of a call, and the one of a target that may not be one.
 #[cycle(expressions)]
-pub fn add_target<'s>(
+fn add_target<'s>(
     routine: &RoutineContext<'_, 's>,
     context: Context,
     names: &[Entity<'s>],
@@ -150,24 +179,120 @@ pub fn add_target<'s>(
 {
     match target {
         None => Ok(()),
-        Some(target) => add_expression(routine, context, Position::Plain, names, target, faults),
+        Some(target) => {
+            let mut operands = Vec::new(routine.alloc);
+            add_expression(
+                routine,
+                context,
+                Position::Plain,
+                names,
+                target,
+                &mut operands,
+            )?;
+            add(
+                judge_before(routine, context, names, target),
+                &mut operands,
+                faults,
+            )
+        }
     }
 }
 
-/// Adds the faults of the actuals of a call.
+/// Adds the faults of the actuals of a call, each with the one of an actual that its formal doesn't take.
 #[cycle(expressions)]
-pub fn add_actuals<'s>(
+fn add_actuals<'s>(
     routine: &RoutineContext<'_, 's>,
     context: Context,
     names: &[Entity<'s>],
+    passing: &Passing,
     actuals: &'s [Expr],
     faults: &mut Vec<Fault>,
 ) -> Result<(), AllocError>
     ensures { OnOk result (faults.new.items ≡ faults.old.items ++ listing.faults_in_actuals (routine_in routine.now) context
-        (map entity_of names.now) (exprs_of actuals.now)) }
+        (map entity_of names.now) (listing.judge_passed (routine_in routine.now) context passing.now.receiver
+        passing.now.target (types_in passing.now.found.now)) (formals_in (system_in routine.now.tables.now)
+        passing.now.formals) (exprs_of actuals.now)) }
 {
-    for actual in actuals {
-        add_expression(routine, context, Position::Source, names, actual, faults)?;
+    for number in 0..actuals.len() {
+        let actual = &actuals[number];
+        let mut operands = Vec::new(routine.alloc);
+        add_expression(
+            routine,
+            context,
+            Position::Source,
+            names,
+            actual,
+            &mut operands,
+        )?;
+        add(
+            passing.judge(routine, context, names, number, actual),
+            &mut operands,
+            faults,
+        )?;
     }
     Ok(())
+}
+
+/// Adds the faults of the actuals of a call that means this, where the target has this type, if it has one.
+#[cycle(expressions)]
+pub fn add_arguments<'s>(
+    routine: &RoutineContext<'_, 's>,
+    context: Context,
+    names: &[Entity<'s>],
+    receiver: Option<EntityType>,
+    meaning: &Meaning<'s>,
+    actuals: &'s [Expr],
+    faults: &mut Vec<Fault>,
+) -> Result<(), AllocError>
+    ensures { OnOk result (faults.new.items ≡ faults.old.items ++ listing.faults_in_actuals (routine_in routine.now) context
+        (map entity_of names.now) (listing.judge_passed_to (routine_in routine.now) context (map entity_of names.now)
+        receiver (meaning_in (system_in routine.now.tables.now) meaning.now) (exprs_of actuals.now))
+        (judging.formals_of (meaning_in (system_in routine.now.tables.now) meaning.now)) (exprs_of actuals.now)) }
+{
+    let found = found_actuals(routine, context, names, actuals)?;
+    let known = known_handlers(routine.alloc, &found)?;
+    let passing = Passing {
+        receiver,
+        target: target_type(routine, meaning),
+        formals: formals_of(meaning),
+        found: &found,
+        known: &known,
+    };
+    add_actuals(routine, context, names, &passing, actuals, faults)
+}
+
+/// Adds the faults of a call: of its target, its actuals and its name.
+#[cycle(expressions)]
+pub fn add_call<'s>(
+    routine: &RoutineContext<'_, 's>,
+    context: Context,
+    usage: Use,
+    names: &[Entity<'s>],
+    call: &'s Call,
+    faults: &mut Vec<Fault>,
+) -> Result<(), AllocError>
+    ensures { OnOk result (faults.new.items ≡ faults.old.items ++ listing.faults_of_call (routine_in routine.now) context
+        (map entity_of names.now) usage (target_of call.now.target) (name_of call.now.name)
+        (exprs_of call.now.actuals.items)) }
+{
+    add_target(routine, context, names, &call.target, faults)?;
+    let receiver = receiver_type(routine, context, names, &call.target)?;
+    let meaning = routine.meaning_of(names, &call.target, receiver, &call.name);
+    add_arguments(
+        routine,
+        context,
+        names,
+        receiver,
+        &meaning,
+        &call.actuals,
+        faults,
+    )?;
+    let site = CallContext {
+        context,
+        usage,
+        target: &call.target,
+        span: call.name.span,
+    };
+    let judged = judge_name(routine, &site, &meaning, call.actuals.len());
+    add_alone(judged, faults)
 }

@@ -10,17 +10,18 @@ ghost use Rattle.sc_typing.specs.Views.{routine_in};
 ghost use Rattle.sc_faults.specs.Internal.Listing as listing;
 
 use crate::conditions::add_clauses;
-use crate::found::add_alone;
 use crate::instructions::add_instructions;
+use crate::types::add_type;
 use sc_check::ClassText;
 use sc_class::Tables;
 use sc_rules::{Context, Fault};
 use sc_tree::{Clause, Declaration, DeclaredType, FeatureKind, Instr, Routine};
-use sc_typing::{RoutineContext, add_formals, add_locals, judge_type, result_type};
-use std::alloc::AllocError;
+use sc_typing::{RoutineContext, add_formals, add_locals, result_type};
+use std::alloc::{AllocError, Global};
 
-/// Adds the fault of each declared type, whose tag may name these formals.
+/// Adds the faults of each declared type, whose tag may name these formals.
 fn add_types(
+    alloc: Global,
     tables: &Tables,
     formals: &[Declaration],
     declarations: &[Declaration],
@@ -30,16 +31,14 @@ fn add_types(
         (map declaration_of formals.now) (map declaration_of declarations.now)) }
 {
     for declaration in declarations {
-        add_alone(
-            judge_type(tables, formals, &declaration.declared_type),
-            faults,
-        )?;
+        add_type(alloc, tables, formals, &declaration.declared_type, faults)?;
     }
     Ok(())
 }
 
-/// Adds the fault of the type of Result, if one is declared.
+/// Adds the faults of the type of Result, if one is declared.
 fn add_result_type(
+    alloc: Global,
     tables: &Tables,
     declared: &Option<DeclaredType>,
     faults: &mut Vec<Fault>,
@@ -49,7 +48,7 @@ fn add_result_type(
 {
     match declared {
         None => Ok(()),
-        Some(declared) => add_alone(judge_type(tables, &[], declared), faults),
+        Some(declared) => add_type(alloc, tables, &[], declared, faults),
     }
 }
 
@@ -89,7 +88,13 @@ fn add_text<'s>(
     let mut names = Vec::new(routine.alloc);
     add_formals(routine.tables, routine.formals, &mut names)?;
     add_clauses(routine, Context::Require, &names, precondition, faults)?;
-    add_types(routine.tables, routine.formals, locals, faults)?;
+    add_types(
+        routine.alloc,
+        routine.tables,
+        routine.formals,
+        locals,
+        faults,
+    )?;
     let mut known = Vec::from_slice(routine.alloc, &names)?;
     add_locals(routine.tables, routine.formals, locals, &mut known)?;
     add_instructions(routine, &known, body, faults)?;
@@ -107,8 +112,9 @@ fn add_routine<'s>(
         (system_in class.now.tables.now) (is_marked class.now.purity.now) class.now.class
         (plain.Routine (routine_of declared.now))) }
 {
-    add_types(class.tables, &declared.formals, &declared.formals, faults)?;
-    add_result_type(class.tables, &declared.result_type, faults)?;
+    let formals = &declared.formals;
+    add_types(class.alloc, class.tables, formals, formals, faults)?;
+    add_result_type(class.alloc, class.tables, &declared.result_type, faults)?;
     let routine = context_of(class, &declared.formals, &declared.result_type);
     add_text(
         &routine,
@@ -132,7 +138,7 @@ pub fn add_feature<'s>(
 {
     match kind {
         FeatureKind::Attribute(declared) => {
-            add_alone(judge_type(class.tables, &[], declared), faults)
+            add_type(class.alloc, class.tables, &[], declared, faults)
         }
         FeatureKind::Routine(routine) => add_routine(class, routine, faults),
     }

@@ -1,7 +1,7 @@
 //! The faults that are found.
 
 ghost use Rattle.std.specs.Prelude.{◌≡◌, [], ◌++◌, OnOk};
-ghost use Rattle.sc_faults.specs.Parts.{begins_with, is_same_fault};
+ghost use Rattle.sc_faults.specs.FaultLists.{begins_with, is_same_fault};
 ghost use Rattle.sc_faults.specs.Internal.Listing as listing;
 ghost use Rattle.sc_faults.specs.Internal.Adding.{AddsFaults};
 

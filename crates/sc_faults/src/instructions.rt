@@ -1,38 +1,83 @@
 //! The faults of instructions.
 
-ghost use Rattle.std.specs.Prelude.{◌≡◌, ◌++◌, OnOk, map};
-ghost use Rattle.sc_tree.specs.View.{branches_of, creation_call_of, expr_of, head_of, instr_of, instrs_of};
+ghost use Rattle.std.specs.Prelude.{◌≡◌, ◌++◌, OnOk, Some, map};
+ghost use Rattle.sc_tree.specs.View.{branches_of, creation_call_of, expr_of, head_of, instr_of, instrs_of, variable_of};
+ghost use Rattle.sc_rules.specs.Names.{variable_span};
 ghost use Rattle.sc_typing.specs.Views.{entity_of, routine_in};
 ghost use Rattle.sc_faults.specs.Internal.Listing as listing;
 ghost use Rattle.sc_faults.specs.Internal.Adding.{AddsUnder};
 
+use crate::calls::{created_type, creation_meaning, judge_created_tag, judge_made};
 use crate::conditions::{add_clauses, add_condition, add_heads, add_if_condition};
-use crate::expressions::{add_actuals, add_expression, add_target};
-use crate::found::add;
+use crate::expressions::{add_arguments, add_call, add_expression};
+use crate::found::{add, add_alone};
 use crate::scopes::{give_names, reserve_names};
 use sc_check::judge_instruction;
-use sc_rules::{Context, Fault, Position};
-use sc_tree::{Branch, CreationCall, Expr, Head, Instr};
-use sc_typing::{CheckFault, Entity, RoutineContext};
+use sc_rules::entity_types::EntityType;
+use sc_rules::{Context, Fault, Position, Use};
+use sc_text::Span;
+use sc_tree::{Branch, CreationCall, Expr, Head, Instr, Variable};
+use sc_typing::{CheckFault, Entity, RoutineContext, variable_span};
 use std::alloc::AllocError;
 
-/// Adds the faults of the actuals of a creation procedure, if one is called.
+/// Adds the faults of a creation by this call of an object for an entity of this type, which is at the place.
+fn add_made<'s>(
+    routine: &RoutineContext<'_, 's>,
+    names: &[Entity<'s>],
+    span: Span,
+    created: Option<EntityType>,
+    call: &'s CreationCall,
+    faults: &mut Vec<Fault>,
+) -> Result<(), AllocError>
+    ensures { OnOk result (faults.new.items ≡ faults.old.items ++ listing.faults_in_creation (routine_in routine.now)
+        (map entity_of names.now) span created (creation_call_of (Some call.now))) }
+{
+    add_alone(judge_created_tag(created, span), faults)?;
+    let meaning = creation_meaning(routine, created, &call.name);
+    let context = Context::Body;
+    add_arguments(
+        routine,
+        context,
+        names,
+        created,
+        &meaning,
+        &call.actuals,
+        faults,
+    )?;
+    let actuals = call.actuals.len();
+    let judged = judge_made(routine, created, &meaning, &call.name, actuals);
+    add_alone(judged, faults)
+}
+
+/// Adds the faults of a creation, as far as they don't depend on whether the entity may be assigned.
 fn add_creation<'s>(
     routine: &RoutineContext<'_, 's>,
     names: &[Entity<'s>],
+    variable: &Variable,
     call: &'s Option<CreationCall>,
     faults: &mut Vec<Fault>,
 ) -> Result<(), AllocError>
     ensures { OnOk result (faults.new.items ≡ faults.old.items ++ listing.faults_in_creation (routine_in routine.now)
-        (map entity_of names.now) (creation_call_of call.now)) }
+        (map entity_of names.now) (variable_span (variable_of variable.now)) (listing.created_type
+        (routine_in routine.now) (map entity_of names.now) (variable_of variable.now)) (creation_call_of call.now)) }
 {
     match call {
         None => Ok(()),
-        Some(call) => add_actuals(routine, Context::Body, names, &call.actuals, faults),
+        Some(call) => {
+            let created = created_type(routine, names, variable);
+            add_made(
+                routine,
+                names,
+                variable_span(variable),
+                created,
+                call,
+                faults,
+            )
+        }
     }
 }
 
-/// Adds the faults of the operands of an instruction that holds no others.
+/// Adds the faults of the parts of an instruction that holds no others.
 fn add_operands<'s>(
     routine: &RoutineContext<'_, 's>,
     names: &[Entity<'s>],
@@ -53,11 +98,15 @@ fn add_operands<'s>(
                 faults,
             )
         }
-        Instr::Call(call) => {
-            add_target(routine, Context::Body, names, &call.target, faults)?;
-            add_actuals(routine, Context::Body, names, &call.actuals, faults)
-        }
-        Instr::Create(_, _, call) => add_creation(routine, names, call, faults),
+        Instr::Call(call) => add_call(
+            routine,
+            Context::Body,
+            Use::Instruction,
+            names,
+            call,
+            faults,
+        ),
+        Instr::Create(_, variable, call) => add_creation(routine, names, variable, call, faults),
         Instr::PrintText(_, _) => Ok(()),
         Instr::If(_, _, _, _, _) => Ok(()),
         Instr::Loop(_, _, _, _) => Ok(()),

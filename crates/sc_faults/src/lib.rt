@@ -1,15 +1,19 @@
-//! Many faults of a system of classes at once: one for each part of its text in which a rule fails.
+//! All faults of a system of classes at once: a fault at each place at which a rule fails.
 //!
-//! [`all_faults`] returns them. `specs/Parts` says what the parts are, and what the list says of each. `sc_typing` and
-//! `sc_check` judge them.
+//! [`all_faults`] returns them. `specs/FaultLists` says what the list says. `sc_typing` and `sc_check` judge the parts of
+//! the text.
 #![tactic(auto)]
 
+mod calls;
 mod classes;
 mod conditions;
 mod expressions;
 mod features;
+mod formulas;
 mod found;
 mod instructions;
+mod passing;
 mod scopes;
+mod types;
 
 pub use classes::all_faults;

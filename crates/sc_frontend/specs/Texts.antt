@@ -16,7 +16,7 @@ use Rattle.sc_class.specs.Faults.ClassRules.{IsFaultless}
 use Rattle.sc_rules.specs.declared.rule.Rule.{Rule}
 use Rattle.sc_rules.specs.declared.fault.Fault.{Fault}
 use Rattle.sc_rules.specs.SystemRules.{SystemFails, WellFormed}
-use Rattle.sc_faults.specs.Parts.{IsFaultList}
+use Rattle.sc_faults.specs.FaultLists.{IsFaultList}
 use Rattle.sc_code.specs.declared.program.Image.{Image}
 use Rattle.sc_code.specs.Programs.{IsProgramOf, code_length}
 use Rattle.sc_code.specs.RequestRoom.{FitsRequests}
@@ -157,12 +157,12 @@ IsUnexamined text root rejection.OutOfMemory = Unit {0}
 IsUnexamined text root (rejection.Rules fault) = ⊥
 IsUnexamined text root rejection.CodeTooLong = ⊥
 
--- No class fault is in the system, and these are the faults of its parts.
+-- No class fault is in the system, and these are its faults.
 pub record IsWholeList (system : System) (root : Root) (faults : List Fault) : Type 0 where
   pub faultless : IsFaultless system root
   pub listed : IsFaultList system faults
 
--- The text spells a system without class faults, and these are the faults of its parts.
+-- The text spells a system without class faults, and these are its faults.
 pub record IsExamined (text : List ℕ) (root : Root) (faults : List Fault) : Type 0 where
   pub system : System
   pub read : IsRead text system

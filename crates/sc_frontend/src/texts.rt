@@ -102,7 +102,7 @@ fn check_system(alloc: Global, system: &System, root: &Root) -> Result<(), Rejec
     }
 }
 
-/// The faults of all parts of the system, if nothing is at fault in its classes.
+/// All faults of the system, if nothing is at fault in its classes.
 fn list_faults(alloc: Global, system: &System, root: &Root) -> Result<Vec<Fault>, Rejection>
     ensures listed { IfOk result (λ faults. IsWholeList (system_of system.now) (root_of root.now) faults.items) }
     ensures fault { IfErr result (HasClassFault (system_of system.now) (root_of root.now)) }

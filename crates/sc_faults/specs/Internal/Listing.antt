@@ -1,21 +1,32 @@
 -- The faults that are listed of each site of a text, in the order of the walk, as the code follows it. Public contracts
 -- don't speak of it.
-use Rattle.std.specs.Prelude.{◌+◌, ℕ, Bool, if◌then◌else◌, List, [], ◌∷◌, ◌++◌, Option, Some, None, Ok, Err}
-use Rattle.sc_tree.specs.Plain.{System, Class, Feature, FeatureKind, Attribute, Routine, Declaration, DeclaredType, Clause, Head, Name, CreationCall, Expr, Call, Unary, Binary, ObjectTest, Target, no_target, target, Exprs, no_exprs, expr_then, Instr, Assign, PrintText, CallRoutine, Create, If, Loop, Check, Block, Instrs, no_instrs, instr_then, Branches, no_branches, branch_then}
+use Rattle.std.specs.Prelude.{◌+◌, ℕ, Bool, true, false, if◌then◌else◌, List, [], ◌∷◌, ◌++◌, Option, Some, None, is_some, Ok, Err}
+use Rattle.sc_text.specs.declared.token.Span.{Span}
+use Rattle.sc_tree.specs.declared.expression.UnaryOperator.{UnaryOperator}
+use Rattle.sc_tree.specs.Plain.{System, Class, Feature, FeatureKind, Attribute, Routine, Declaration, DeclaredType, Clause, Head, Name, Variable, CreationCall, Expr, Void, Call, Unary, Binary, ObjectTest, Target, no_target, target, Exprs, no_exprs, expr_then, Instr, Assign, PrintText, CallRoutine, Create, If, Loop, Check, Block, Instrs, no_instrs, instr_then, Branches, no_branches, branch_then}
+use Rattle.sc_rules.specs.declared.entity_types.entity_type.EntityType.{EntityType}
+use Rattle.sc_rules.specs.declared.rule.Rule.TheVariants.{ArgumentType, NotCreation, CreationTag, TagName, InvariantForm, PreconditionArgument, ObjectTestPlace}
 use Rattle.sc_rules.specs.declared.fault.Fault.{Fault}
 use Rattle.sc_rules.specs.declared.position.Context.{Context}
 use Rattle.sc_rules.specs.declared.position.Context.TheVariants as context
 use Rattle.sc_rules.specs.declared.position.Position.{Position}
 use Rattle.sc_rules.specs.declared.position.Position.TheVariants.{Plain, Condition, Source}
 use Rattle.sc_rules.specs.declared.position.Role.TheVariants as role
-use Rattle.sc_rules.specs.Positions.{operand_context, operand_position, shares_names}
-use Rattle.sc_rules.specs.Names.{RoutineName, RoutineContext, Entities, entity, blocks, block_type, context_of, formals_known, locals_known}
-use Rattle.sc_rules.specs.SystemRules.{invariant_context}
-use Rattle.sc_rules.specs.Judging.{Judged, ◌>>=◌, judge, judge_given, judge_type}
-use Rattle.sc_rules.specs.JudgingText.{judge_condition, judge_instr}
-use Rattle.sc_rules.specs.JudgingSystem.{judge_creator, judge_invariant}
+use Rattle.sc_rules.specs.declared.position.Use.{Use}
+use Rattle.sc_rules.specs.declared.position.Use.TheVariants.{Value, Instruction}
+use Rattle.sc_rules.specs.Types.{declared_tag}
+use Rattle.sc_rules.specs.Positions.{span_of, is_condition, operand_context, operand_position, shares_names}
+use Rattle.sc_rules.specs.Names.{RoutineName, RoutineContext, Entities, entity, blocks, block_type, FormalType, Meaning, meaning_of, assignee, assignee_type, variable_span, context_of, formals_known, locals_known}
+use Rattle.sc_rules.specs.Typing.{typing}
+use Rattle.sc_rules.specs.CallRules.{count}
+use Rattle.sc_rules.specs.SystemRules.{invariant_context, may_be_formula, clause_span}
+use Rattle.sc_rules.specs.Judging.{Judged, ◌>>=◌, required, JudgedActual, judged_types, formals_of, target_of, is_taken, rest, may_pass, judge_name, judge, judged_actuals, judge_given, judge_type}
+use Rattle.sc_rules.specs.JudgingText.{is_made_by_if_any, is_untagged, creation_meaning, judge_condition, judge_instr}
+use Rattle.sc_rules.specs.JudgingSystem.{is_same_span, judge_creator, judge_invariant}
+use Rattle.sc_rules.specs.JudgingPurity.{receiver_type}
+use Rattle.sc_typing.specs.Judges.{judge_received, judge_unary}
 use Rattle.sc_check.specs.BlockHeads.{judge_head}
-use Rattle.sc_faults.specs.Parts.{begins_with}
+use Rattle.sc_faults.specs.FaultLists.{begins_with}
 
 -- ---- a site and its operands
 
@@ -38,34 +49,115 @@ abbrev pub where_known : Judged Entities → (Entities → List Fault) → List 
 where_known (Ok m) list = list m
 where_known (Err f) list = []
 
+-- ---- declared types
+
+-- the tag of a declared type, whatever its class is
+abbrev pub judge_tag : List Declaration → DeclaredType → Judged (Unit {0})
+judge_tag formals d = required (is_some (declared_tag formals d.tag)) TagName d.span
+
+abbrev pub faults_of_type : System → List Declaration → DeclaredType → List Fault
+faults_of_type s formals d = faults_at (judge_type s formals d) (faults_at (judge_tag formals d) [])
+
+-- the type that an object test tests for, if one is written
+abbrev pub faults_of_tested : RoutineContext → Option DeclaredType → List Fault
+faults_of_tested h None = []
+faults_of_tested h (Some d) = faults_of_type h.system h.formals d
+
+-- ---- what is judged of a call and its parts
+
+-- what is before the dot, which may be a target
+abbrev pub judge_before : RoutineContext → Context → Entities → Expr → Judged (Unit {0})
+judge_before h c n a = do
+  t ← judge h c Plain n a
+  _ ← judge_received (span_of a) t
+  Ok tt
+
+-- an actual that may be passed to the first of these formals, where r is the type of the target
+abbrev pub judge_passed : RoutineContext → Context → Option EntityType → EntityType → List (Option EntityType) →
+    List FormalType → JudgedActual → Judged (Unit {0})
+judge_passed h c r t ts fs a = do
+  b ← a.1
+  _ ← required (is_taken h.system t ts fs b.type) ArgumentType a.0
+  required (may_pass c r b.type) PreconditionArgument a.0
+
+-- one of these actuals of a call that means this
+abbrev pub judge_passed_to : RoutineContext → Context → Entities → Option EntityType → Meaning → Exprs →
+    List FormalType → JudgedActual → Judged (Unit {0})
+judge_passed_to h c n r m es fs a =
+    judge_passed h c r (target_of h m) (judged_types (judged_actuals h c n es)) fs a
+
+-- the name of a call with this number of actuals
+abbrev pub judge_named : RoutineContext → Context → Use → Target → Meaning → ℕ → Span → Judged (Unit {0})
+judge_named h c u a m k p = do
+  t ← judge_name h c u a m k p
+  Ok tt
+
+-- what the name of a call means, also where its target may not be one
+abbrev pub meant : RoutineContext → Context → Entities → Target → Name → Meaning
+meant h c n a x = meaning_of h n a (receiver_type h c n a) x
+
+-- `old`, whatever its operand is
+abbrev pub judge_old : Context → UnaryOperator → Span → Judged (Unit {0})
+judge_old c op p = do
+  t ← judge_unary c p op (typing None false)
+  Ok tt
+
+-- an object test, whatever its operand is
+abbrev pub judge_place : Position → Span → Judged (Unit {0})
+judge_place k p = required (is_condition k) ObjectTestPlace p
+
 -- ---- expressions
 
 unfoldable mutual
-  -- those of the operands of an expression
+  -- those of the operands of an expression, and of what is judged of it whatever they are
   pub faults_in : RoutineContext → Context → Position → Entities → Expr → List Fault
-  faults_in h c k n (Call p a x es) = faults_in_target h c n a ++ faults_in_actuals h c n es
+  faults_in h c k n (Call p a x es) =
+      faults_in_target h c n a
+      ++ (faults_in_actuals h c n (judge_passed_to h c n (receiver_type h c n a) (meant h c n a x) es)
+      (formals_of (meant h c n a x)) es
+      ++ faults_at (judge_named h c Value a (meant h c n a x) (count es) x.span) [])
   faults_in h c k n (Unary p op a) =
       faults_at (judge h (operand_context op c) Plain n a) (faults_in h (operand_context op c) Plain n a)
+      ++ faults_at (judge_old c op p) []
   faults_in h c k n (Binary p op a b) =
       if shares_names k op
       then faults_at (judge h c Condition n a) (faults_in h c Condition n a)
       ++ where_known (judge_given h c n a) (λ m. faults_at (judge h c Condition m b) (faults_in h c Condition m b))
       else faults_at (judge h c (operand_position op) n a) (faults_in h c (operand_position op) n a)
       ++ faults_at (judge h c (operand_position op) n b) (faults_in h c (operand_position op) n b)
-  faults_in h c k n (ObjectTest p d a x) = faults_at (judge h c Plain n a) (faults_in h c Plain n a)
+  faults_in h c k n (ObjectTest p d a x) =
+      faults_of_tested h d
+      ++ (faults_at (judge h c Plain n a) (faults_in h c Plain n a) ++ faults_at (judge_place k p) [])
   faults_in h c k n e = []
 
   pub faults_in_target : RoutineContext → Context → Entities → Target → List Fault
   faults_in_target h c n no_target = []
-  faults_in_target h c n (target a) = faults_at (judge h c Plain n a) (faults_in h c Plain n a)
+  faults_in_target h c n (target a) =
+      faults_at (judge_before h c n a) (faults_at (judge h c Plain n a) (faults_in h c Plain n a))
 
-  pub faults_in_actuals : RoutineContext → Context → Entities → Exprs → List Fault
-  faults_in_actuals h c n no_exprs = []
-  faults_in_actuals h c n (expr_then e es) =
-      faults_at (judge h c Source n e) (faults_in h c Source n e) ++ faults_in_actuals h c n es
+  -- those of actuals, each of which is judged with its formal
+  pub faults_in_actuals : RoutineContext → Context → Entities →
+      (List FormalType → JudgedActual → Judged (Unit {0})) → List FormalType → Exprs → List Fault
+  faults_in_actuals h c n pass fs no_exprs = []
+  faults_in_actuals h c n pass fs (expr_then e es) =
+      faults_at (pass fs (span_of e, judge h c Source n e))
+      (faults_at (judge h c Source n e) (faults_in h c Source n e))
+      ++ faults_in_actuals h c n pass (rest fs) es
 
 abbrev pub faults_of : RoutineContext → Context → Position → Entities → Expr → List Fault
 faults_of h c k n e = faults_at (judge h c k n e) (faults_in h c k n e)
+
+-- the actuals and the name of a call that means this, where r is the type of the target
+abbrev pub faults_of_meant : RoutineContext → Context → Entities → Option EntityType → Meaning → Exprs →
+    Judged (Unit {0}) → List Fault
+faults_of_meant h c n r m es name =
+    faults_in_actuals h c n (judge_passed_to h c n r m es) (formals_of m) es ++ faults_at name []
+
+abbrev pub faults_of_call : RoutineContext → Context → Entities → Use → Target → Name → Exprs → List Fault
+faults_of_call h c n u a x es =
+    faults_in_target h c n a
+    ++ faults_of_meant h c n (receiver_type h c n a) (meant h c n a x) es
+    (judge_named h c u a (meant h c n a x) (count es) x.span)
 
 -- ---- conditions, clauses and heads
 
@@ -93,16 +185,31 @@ judge_reserved h n m (d ∷ ds) = do
 
 -- ---- instructions
 
-abbrev pub faults_in_creation : RoutineContext → Entities → Option CreationCall → List Fault
-faults_in_creation h n None = []
-faults_in_creation h n (Some k) = faults_in_actuals h context.Body n k.actuals
+-- the procedure of this name and meaning, called with this number of actuals, that makes an object for an entity of
+-- this type
+abbrev pub judge_made : RoutineContext → Option EntityType → Meaning → Name → ℕ → Judged (Unit {0})
+judge_made h t m x k = do
+  _ ← judge_named h context.Body Instruction no_target m k x.span
+  required (is_made_by_if_any h.system t x) NotCreation x.span
 
--- those of the operands of an instruction that holds no others
+-- the creation of an object for an entity of this type, which is at the place
+abbrev pub faults_in_creation : RoutineContext → Entities → Span → Option EntityType → Option CreationCall → List Fault
+faults_in_creation h n p t None = []
+faults_in_creation h n p t (Some k) =
+    faults_at (required (is_untagged t) CreationTag p) []
+    ++ faults_of_meant h context.Body n t (creation_meaning h t k.name) k.actuals
+    (judge_made h t (creation_meaning h t k.name) k.name (count k.actuals))
+
+-- the type of the entity of a creation, if it has one
+abbrev pub created_type : RoutineContext → Entities → Variable → Option EntityType
+created_type h n v = assignee_type (assignee h n v)
+
+-- those of the parts of an instruction that holds no others
 abbrev pub faults_in_instr : RoutineContext → Entities → Instr → List Fault
 faults_in_instr h n (Assign p v e) = faults_of h context.Body Source n e
-faults_in_instr h n (CallRoutine p a x es) =
-    faults_in_target h context.Body n a ++ faults_in_actuals h context.Body n es
-faults_in_instr h n (Create p creation) = faults_in_creation h n creation.call
+faults_in_instr h n (CallRoutine p a x es) = faults_of_call h context.Body n Instruction a x es
+faults_in_instr h n (Create p creation) =
+    faults_in_creation h n (variable_span creation.variable) (created_type h n creation.variable) creation.call
 faults_in_instr h n i = []
 
 -- an instruction that holds no others
@@ -153,9 +260,6 @@ faults_of_block h n heads body =
 
 -- ---- features
 
-abbrev pub faults_of_type : System → List Declaration → DeclaredType → List Fault
-faults_of_type s formals d = faults_at (judge_type s formals d) []
-
 abbrev pub faults_of_types : System → List Declaration → List Declaration → List Fault
 faults_of_types s formals ds = faults_of_each (λ (d : Declaration). faults_of_type s formals d.declared_type) ds
 
@@ -187,10 +291,20 @@ faults_of_features s pure k fs = faults_of_each (λ (f : Feature). faults_of_kin
 abbrev pub faults_of_creator : System → ℕ → Name → List Fault
 faults_of_creator s k x = faults_at (judge_creator s k x) []
 
+abbrev pub is_void : Expr → Bool
+is_void (Void p) = true
+is_void _ = false
+
+-- the form of a clause at this place, of which this was reported
+abbrev pub faults_of_form : Judged (Unit {0}) → Bool → Span → List Fault
+faults_of_form (Ok u) b p = []
+faults_of_form (Err f) b p = if is_same_span f.span p then [] else faults_at (required b InvariantForm p) []
+
 abbrev pub faults_of_invariant : System → (RoutineName → Bool) → ℕ → Clause → List Fault
 faults_of_invariant s pure k i =
     faults_at (judge_invariant s pure k i)
     (faults_of (invariant_context s pure k) context.Invariant Plain [] i.condition)
+    ++ faults_of_form (judge_invariant s pure k i) (may_be_formula s k i.condition) (clause_span i.tag i.condition)
 
 abbrev pub faults_of_class : System → (RoutineName → Bool) → ℕ → Class → List Fault
 faults_of_class s pure k c =

@@ -1,13 +1,15 @@
-use Rattle.std.proofs.Common.{◌++◌, Ok, refl, map, ap, sym, subst, ◌∙◌}
+use Rattle.std.proofs.Common.{◌≡◌, ◌++◌, List, length, Ok, map, ap, sym, subst, ◌∙◌}
 use Rattle.sc_tree.specs.declared.expression.Expr.{Expr}
-use Rattle.sc_tree.specs.View.{expr_of, exprs_of}
-use Rattle.sc_rules.specs.Judging.{judge_given}
-use Rattle.sc_typing.specs.Views.{routine_in, entity_of}
+use Rattle.sc_tree.specs.View.{expr_of, exprs_of, name_of, target_of}
+use Rattle.sc_class.specs.SystemIn.{system_in}
+use Rattle.sc_rules.specs.declared.position.Position.TheVariants.{Plain, Source}
+use Rattle.sc_rules.specs.Judging.{formals_of, judge_given}
+use Rattle.sc_typing.specs.Views.{routine_in, entity_of, formals_in, meaning_in, types_in}
 use Rattle.sc_typing.specs.Judges.{Knows}
-use Rattle.sc_faults.specs.Internal.Listing.{faults_in, faults_in_actuals}
+use Rattle.sc_faults.specs.Internal.Listing.{judge_passed, judge_passed_to, faults_in, faults_in_actuals, faults_of}
 use Rattle.sc_faults.proofs.Adding.{from_none}
 use Rattle.sc_faults.proofs.Steps.{knows_at}
-use Rattle.sc_faults.proofs.ExpressionSteps.{typed_added, untyped_added, integer_added, boolean_added, void_added, current_added, result_added, call_added, unary_added, test_added, apart_added, joint_added, known_added, no_target_added, target_added, actuals_next, actuals_end}
+use Rattle.sc_faults.proofs.ExpressionSteps.{typed_added, untyped_added, integer_added, boolean_added, void_added, current_added, result_added, call_added, unary_added, test_added, apart_added, joint_added, known_added, no_target_added, target_added, actuals_next, actuals_end, call_steps}
 use Rattle.sc_faults.proofs.expressions.+expressions.Goals as goal
 
 pub add_expression-returns-in-Ok : goal.add_expression-returns-in-Ok
@@ -51,24 +53,10 @@ add_operands-returns-in-Result t c =
     result_added (routine_in c.args.routine.now) c.args.context c.args.position (map entity_of c.args.names.now) c.args.e.now (Ok tt)
     c.args.faults.now.items c.args.faults.now.items c.in-Result.field-0 c.in-Result.is
 
-pub add_operands-returns-in_ok-add_target-in-Call : goal.add_operands-returns-in_ok-add_target-in-Call
-add_operands-returns-in_ok-add_target-in-Call t c =
-    call_added (routine_in c.args.routine.now) c.args.context c.args.position (map entity_of c.args.names.now) c.args.e.now c.add_actuals.result
-    c.args.faults.now.items c.add_actuals.new.faults.items c.in-Call.call c.in-Call.call.target c.deref.result.now c.add_target.new.faults.items
-    c.in-Call.is refl c.deref.ensures.value c.in_ok-add_target-in-Call.ensures c.add_actuals.ensures
-
-pub add_operands-returns-in-Unary : goal.add_operands-returns-in-Unary
-add_operands-returns-in-Unary t c =
-    unary_added (routine_in c.args.routine.now) c.args.context c.args.position (map entity_of c.args.names.now) c.args.e.now c.add_expression.result
-    c.args.faults.now.items c.add_expression.new.faults.items c.in-Unary.field-0 c.in-Unary.operator c.in-Unary.operand c.operand_context-inside.result
-    c.deref-in-Unary.result.now c.in-Unary.is c.operand_context-inside.ensures c.deref-in-Unary.ensures c.add_expression.ensures
-
-pub add_operands-returns-in-ObjectTest : goal.add_operands-returns-in-ObjectTest
-add_operands-returns-in-ObjectTest t c =
-    test_added (routine_in c.args.routine.now) c.args.context c.args.position
-    (map entity_of c.args.names.now) c.args.e.now c.add_expression-in-ObjectTest.result
-    c.args.faults.now.items c.add_expression-in-ObjectTest.new.faults.items c.in-ObjectTest.field-0 c.in-ObjectTest.field-1 c.in-ObjectTest.tested c.in-ObjectTest.field-3
-    c.deref-in-ObjectTest.result.now c.in-ObjectTest.is c.deref-in-ObjectTest.ensures c.add_expression-in-ObjectTest.ensures
+pub add_operands-returns-in-Call : goal.add_operands-returns-in-Call
+add_operands-returns-in-Call t c =
+    call_added (routine_in c.args.routine.now) c.args.context c.args.position (map entity_of c.args.names.now) c.args.e.now c.add_call.result
+    c.args.faults.now.items c.add_call.new.faults.items c.in-Call.call c.in-Call.is c.add_call.ensures
 
 pub add_operands-returns-in_ok-add_expression-in-Binary-2 : goal.add_operands-returns-in_ok-add_expression-in-Binary-2
 add_operands-returns-in_ok-add_expression-in-Binary-2 t c =
@@ -109,24 +97,67 @@ add_target-returns-in-None t c =
     no_target_added (routine_in c.args.routine.now) c.args.context
     (map entity_of c.args.names.now) c.args.target.now c.args.faults.now.items c.in-None.is
 
-pub add_target-returns-in-Some : goal.add_target-returns-in-Some
-add_target-returns-in-Some t c =
-    target_added (routine_in c.args.routine.now) c.args.context (map entity_of c.args.names.now) c.args.target.now c.in-Some.target c.deref.result.now
-    c.add_expression.result c.args.faults.now.items c.add_expression.new.faults.items c.in-Some.is c.deref.ensures c.add_expression.ensures
+pub add_operands-returns-in_ok-add_expression-in-Unary : goal.add_operands-returns-in_ok-add_expression-in-Unary
+add_operands-returns-in_ok-add_expression-in-Unary t c =
+    unary_added (routine_in c.args.routine.now) c.args.context c.args.position (map entity_of c.args.names.now) c.args.e.now c.add_alone.result
+    c.args.faults.now.items c.add_alone.new.faults.items c.in-Unary.span c.in-Unary.operator c.in-Unary.operand c.operand_context-inside.result
+    c.deref.result.now c.add_expression.new.faults.items c.judge_old.result c.in-Unary.is c.operand_context-inside.ensures c.deref.ensures
+    c.in_ok-add_expression-in-Unary.ensures c.judge_old.ensures c.add_alone.ensures
 
-pub add_actuals-loop-actual-preserved : goal.add_actuals-loop-actual-preserved
-add_actuals-loop-actual-preserved t c =
+pub add_operands-returns-in_ok-add_expression-in-ObjectTest : goal.add_operands-returns-in_ok-add_expression-in-ObjectTest
+add_operands-returns-in_ok-add_expression-in-ObjectTest t c =
+    test_added (routine_in c.args.routine.now) c.args.context c.args.position (map entity_of c.args.names.now) c.args.e.now
+    c.add_alone-in-ObjectTest.result c.args.faults.now.items c.add_alone-in-ObjectTest.new.faults.items c.in-ObjectTest.span c.in-ObjectTest.declared
+    c.in-ObjectTest.tested c.in-ObjectTest.field-3 c.deref-in-ObjectTest.result.now c.add_tested.new.faults.items
+    c.add_expression-in-ObjectTest.new.faults.items c.judge_place.result c.in-ObjectTest.is c.deref-in-ObjectTest.ensures
+    c.in_ok-add_tested-in-ObjectTest.ensures c.in_ok-add_expression-in-ObjectTest.ensures c.judge_place.ensures c.add_alone-in-ObjectTest.ensures
+
+pub add_target-returns-in_ok-add_expression-in-Some : goal.add_target-returns-in_ok-add_expression-in-Some
+add_target-returns-in_ok-add_expression-in-Some t c =
     let h = routine_in c.args.routine.now in
     let n = map entity_of c.args.names.now in
-    actuals_next h c.args.context n c.args.actuals.now c.loop-actual.actual-index c.actual-item.result
-    (c.args.faults.now.items ++ faults_in_actuals h c.args.context n
-    (exprs_of c.args.actuals.now)) c.loop-actual.faults.items c.add_expression.new.faults.items
-    c.loop-actual-test.true c.actual-item.is c.loop-actual.invariant c.in_ok-add_expression.ensures
+    target_added h c.args.context n c.args.target.now c.in-Some.target c.deref.result.now c.deref-in-Some.result.now c.judge_before.result
+    c.add_expression.new.faults.items c.add.result c.args.faults.now.items c.add.new.faults.items c.in-Some.is c.deref.ensures c.deref-in-Some.ensures
+    (from_none c.new-operands.result.items (faults_of h c.args.context Plain n (expr_of c.deref.result.now)) c.add_expression.new.faults.items
+    c.new-operands.ensures.items c.in_ok-add_expression-in-Some.ensures)
+    c.judge_before.ensures c.add.ensures
+
+pub add_actuals-loop-number-preserved : goal.add_actuals-loop-number-preserved
+add_actuals-loop-number-preserved t c =
+    let h = routine_in c.args.routine.now in
+    let n = map entity_of c.args.names.now in
+    let pass = judge_passed h c.args.context c.args.passing.now.receiver c.args.passing.now.target (types_in c.args.passing.now.found.now) in
+    let fs = formals_in (system_in c.args.routine.now.tables.now) c.args.passing.now.formals in
+    let x = c.index-actuals-number.result in
+    actuals_next h c.args.context n pass fs c.args.actuals.now c.loop-number.number x
+    (c.args.faults.now.items ++ faults_in_actuals h c.args.context n pass fs (exprs_of c.args.actuals.now)) c.loop-number.faults.items
+    c.add.new.faults.items c.add_expression.new.faults.items c.judge.result c.loop-number-test.true c.index-actuals-number.is c.loop-number.invariant
+    (from_none c.new-operands.result.items (faults_of h c.args.context Source n (expr_of x)) c.add_expression.new.faults.items
+    c.new-operands.ensures.items c.in_ok-add_expression.ensures)
+    c.judge.ensures c.in_ok-add.ensures
 
 pub add_actuals-returns : goal.add_actuals-returns
 add_actuals-returns t c =
     let h = routine_in c.args.routine.now in
     let n = map entity_of c.args.names.now in
-    actuals_end h c.args.context n c.args.actuals.now c.loop-actual.actual-index
-    (c.args.faults.now.items ++ faults_in_actuals h c.args.context n (exprs_of c.args.actuals.now)) c.loop-actual.faults.items
-    c.loop-actual-test.false c.loop-actual.invariant
+    let pass = judge_passed h c.args.context c.args.passing.now.receiver c.args.passing.now.target (types_in c.args.passing.now.found.now) in
+    let fs = formals_in (system_in c.args.routine.now.tables.now) c.args.passing.now.formals in
+    actuals_end h c.args.context n pass fs c.args.actuals.now c.loop-number.number
+    (c.args.faults.now.items ++ faults_in_actuals h c.args.context n pass fs (exprs_of c.args.actuals.now)) c.loop-number.faults.items
+    c.loop-number-test.false c.loop-number.invariant
+
+pub add_call-returns : goal.add_call-returns
+add_call-returns t c =
+    let h = routine_in c.args.routine.now in
+    let n = map entity_of c.args.names.now in
+    let m = meaning_in (system_in c.args.routine.now.tables.now) c.meaning_of-meaning.result in
+    let o = c.in_ok-receiver.receiver in
+    let call = c.args.call.now in
+    call_steps h c.args.context n c.args.usage (target_of call.target) (name_of call.name) call.actuals.items o m c.len.result
+    c.judge_name-judged.result c.add_alone.result c.args.faults.now.items c.add_target.new.faults.items c.add_arguments.new.faults.items
+    c.add_alone.new.faults.items c.in_ok-receiver.ensures c.meaning_of-meaning.ensures
+    (c.len.ensures ∙ sym c.deref.ensures.len ∙ ap (λ (es : List Expr). length es) c.deref.ensures.value) c.in_ok-add_target.ensures
+    (subst (λ (es : List Expr). c.add_arguments.new.faults.items
+    ≡ c.add_target.new.faults.items ++ faults_in_actuals h c.args.context n (judge_passed_to h c.args.context n o m (exprs_of es)) (formals_of m) (exprs_of es))
+    c.deref.ensures.value c.in_ok-add_arguments.ensures)
+    c.judge_name-judged.ensures c.add_alone.ensures

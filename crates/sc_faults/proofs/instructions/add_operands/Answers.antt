@@ -8,16 +8,15 @@ returns-in-Assign c =
     source_added (routine_in c.args.routine.now) (map entity_of c.args.names.now) c.args.instruction.now c.add_expression.result
     c.args.faults.now.items c.add_expression.new.faults.items c.in-Assign.field-0 c.in-Assign.field-1 c.in-Assign.value c.in-Assign.is c.add_expression.ensures
 
-pub returns-in_ok-add_target-in-Call : goal.returns-in_ok-add_target-in-Call
-returns-in_ok-add_target-in-Call c =
-    command_added (routine_in c.args.routine.now) (map entity_of c.args.names.now) c.args.instruction.now c.add_actuals.result
-    c.args.faults.now.items c.add_actuals.new.faults.items c.in-Call.call c.in-Call.call.target c.deref.result.now c.add_target.new.faults.items
-    c.in-Call.is refl c.deref.ensures.value c.in_ok-add_target-in-Call.ensures c.add_actuals.ensures
+pub returns-in-Call : goal.returns-in-Call
+returns-in-Call c =
+    command_added (routine_in c.args.routine.now) (map entity_of c.args.names.now) c.args.instruction.now c.add_call.result
+    c.args.faults.now.items c.add_call.new.faults.items c.in-Call.call c.in-Call.is c.add_call.ensures
 
 pub returns-in-Create : goal.returns-in-Create
 returns-in-Create c =
     creation_added (routine_in c.args.routine.now) (map entity_of c.args.names.now) c.args.instruction.now c.add_creation.result
-    c.args.faults.now.items c.add_creation.new.faults.items c.in-Create.field-0 c.in-Create.field-1 c.in-Create.call c.in-Create.call
+    c.args.faults.now.items c.add_creation.new.faults.items c.in-Create.field-0 c.in-Create.variable c.in-Create.call c.in-Create.call
     c.in-Create.is refl c.add_creation.ensures
 
 pub returns-in-PrintText : goal.returns-in-PrintText

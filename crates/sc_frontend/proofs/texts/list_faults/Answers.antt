@@ -2,7 +2,7 @@ use Rattle.std.proofs.Common.{subst}
 use Rattle.sc_tree.specs.Plain.{System}
 use Rattle.sc_tree.specs.View.{system_of}
 use Rattle.sc_class.specs.View.{root_of}
-use Rattle.sc_faults.specs.Parts.{IsFaultList}
+use Rattle.sc_faults.specs.FaultLists.{IsFaultList}
 use Rattle.sc_frontend.specs.Texts.{HasClassFault}
 use Rattle.sc_frontend.proofs.TextLemmas.{err-is, class-unexamined}
 use Rattle.sc_frontend.proofs.texts.list_faults.Goals as goal

@@ -1,0 +1,10 @@
+use Rattle.std.proofs.Common.{sym}
+use Rattle.sc_tree.specs.View.{name_of, target_of}
+use Rattle.sc_class.specs.SystemIn.{system_in}
+use Rattle.sc_check.proofs.FormulaSteps.{no_reference_attribute}
+use Rattle.sc_faults.proofs.formulas.is_reference_call.Goals as goal
+
+pub returns-in-len1-up : goal.returns-in-len1-up
+returns-in-len1-up c =
+    no_reference_attribute (system_in c.args.tables.now) c.args.class c.args.call.now.span (target_of c.args.call.now.target) (name_of c.args.call.now.name)
+    c.args.call.now.actuals.items (rw (sym c.as_slice.ensures.value) c.in-len1-up.len_at_least)
