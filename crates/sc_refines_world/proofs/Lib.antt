@@ -1,5 +1,5 @@
 mod Asked
-mod RefinedRuns
+pub mod RefinedRuns
 mod Attempts
 mod Contracts
 pub mod HadTurns
@@ -8,16 +8,16 @@ mod Headlined
 mod IdleWorlds
 mod TurnHalves
 mod TurnNeeds
-mod RequestNames
+pub mod RequestNames
 pub mod Opening
 pub mod Picks
 pub mod PuttingBack
-mod ReachedStates
-mod Refined
+pub mod ReachedStates
+pub mod Refined
 mod PlayedAnew
 pub mod OtherStages
 mod Reports
-mod WorldTurns
+pub mod WorldTurns
 mod Wants
 mod Back
 mod ReachedMoves
@@ -39,7 +39,7 @@ mod Frames
 mod Growth
 mod Turned
 mod AwaitedRequests
-mod Worlds
+pub mod Worlds
 mod OneRun
 pub mod SmallStates
 pub mod BadStates
