@@ -1,3 +1,11 @@
+pub mod Ended
 pub mod Failed
+pub mod FreedJobs
+pub mod FreedKept
+pub mod FreedStates
+pub mod FreedTurns
 pub mod Kept
-pub mod Own
+pub mod MoverStates
+pub mod MoverTurns
+pub mod Movers
+pub mod ReturnedWorlds

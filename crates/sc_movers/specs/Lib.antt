@@ -1,2 +1,3 @@
 pub mod Kept
-pub mod Own
+pub mod Movers
+pub mod Returned

@@ -1,18 +1,53 @@
 //! Laws of movers, each the contract of a function that does nothing.
-ghost use Rattle.sc_movers.specs.Own.{OwnTurnsAreMovers};
+ghost use Rattle.sc_movers.specs.Movers.{TurnsAreMovers};
+ghost use Rattle.sc_movers.specs.Returned.{AllReturnOwn};
 
-use sc_refines_world::once::runs_are_functional;
+use sc_machine_laws::invariant_laws::settled_objects_meet;
+use sc_machine_laws::settlements::laws::{
+    core_settles_as_half_where_reached, entries_are_remembered,
+};
+use sc_refines_world::once::{
+    first_turns_are_functional, first_turns_keep_exact, runs_are_functional,
+};
+use sc_refines_world::regions::laws::{
+    created_are_new, openings_are_in_order, others_keep_halves, regions_ask, regions_follow,
+    turns_keep_order,
+};
+use sc_refines_world::regions::sound::{new_stores_are_sound, sound_jobs_are_taken};
+use sc_request::laws::core_picks_where_the_machine_turns;
 use sc_world::laws::{
     kept_alike_turn_alike, openings_are_of_their_program, runs_stay_of_their_program,
 };
 
-/// In the program of an accepted system the turns that ask nothing of other handlers are movers: they may be played at
-/// once, before any turn of others.
-pub fn own_turns_are_movers()
-    ensures { OwnTurnsAreMovers }
+/// In the program of an accepted system, a handler may post to each handler that its turn gives back: as a request ends, to
+/// each that was passed with it, and once a handler was made for it, to that one.
+pub fn what_returns_is_own()
+    ensures { AllReturnOwn }
+{
+    first_turns_are_functional();
+    first_turns_keep_exact();
+    core_picks_where_the_machine_turns();
+    core_settles_as_half_where_reached();
+    entries_are_remembered();
+    settled_objects_meet();
+    regions_follow();
+    regions_ask();
+    others_keep_halves();
+    created_are_new();
+    openings_are_in_order();
+    turns_keep_order();
+    new_stores_are_sound();
+    sound_jobs_are_taken();
+}
+
+/// In the program of an accepted system the turns that ask nothing of other handlers, and those that release what is their
+/// handler's own, are movers: they may be played at once, before any turn of others.
+pub fn turns_are_movers()
+    ensures { TurnsAreMovers }
 {
     kept_alike_turn_alike();
     openings_are_of_their_program();
     runs_stay_of_their_program();
     runs_are_functional();
+    what_returns_is_own();
 }

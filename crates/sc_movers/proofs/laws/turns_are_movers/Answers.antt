@@ -1,10 +1,11 @@
-use Rattle.sc_movers.proofs.Own.{own_turns_are_movers}
-use Rattle.sc_movers.proofs.laws.own_turns_are_movers.Goals as goal
+use Rattle.sc_movers.proofs.Movers.{turns_are_movers}
+use Rattle.sc_movers.proofs.laws.turns_are_movers.Goals as goal
 
 pub returns : goal.returns
 returns c =
-    own_turns_are_movers
+    turns_are_movers
     c.kept_alike_turn_alike.ensures
     c.openings_are_of_their_program.ensures
     c.runs_stay_of_their_program.ensures
     c.runs_are_functional.ensures
+    c.what_returns_is_own.ensures

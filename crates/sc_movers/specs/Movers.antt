@@ -1,0 +1,65 @@
+-- Turns that may be played at once, before any turn of other handlers: movers.
+use Rattle.std.specs.Prelude.{◌≡◌, ℕ, Bool, true, false, Some}
+use Rattle.sc_lockpass.specs.declared.version.Version.{Version}
+use Rattle.sc_code.specs.declared.program.Image.{Image}
+use Rattle.sc_code.specs.Programs.{IsProgramOf}
+use Rattle.sc_code.specs.RequestRoom.{FitsRequests}
+use Rattle.sc_region.specs.declared.job.Job.TheVariants as job
+use Rattle.sc_region.specs.declared.job.Want.{Want}
+use Rattle.sc_region.specs.declared.job.Want.TheVariants.{Continue, Release, Wait}
+use Rattle.sc_handler.specs.Handlers.{State}
+use Rattle.sc_handler.specs.Picking.{job_of}
+use Rattle.sc_request.specs.Settling.{may_post_to_all}
+use Rattle.sc_machine_laws.specs.states.Values.{WhereAccepted}
+use Rattle.sc_orders.specs.Movers.{AreMovers, IsMachine}
+use Rattle.sc_world.specs.Kept.{PlainKept, kept}
+use Rattle.sc_world.specs.Turning.{Makes}
+use Rattle.sc_world.specs.Worlds.{PlainWorld}
+use Rattle.sc_refines_world.specs.Anew.{IsPlayed}
+use Rattle.sc_movers.specs.Kept.{IsReached, Turn, has_failed, has_turn, never}
+
+-- The turn of a handler that goes on with its routine is a mover if it wants this: nothing, as it prints, goes round in a
+-- loop, starts a body, or makes, reads or calls an object of its own; or to release handlers that are its own, at the end
+-- of a block or of a call of its own; or to wait, since a wait condition is false, which releases what is its own.
+abbrev pub is_mover : ℕ → Want → State → Bool
+is_mover h Continue s = true
+is_mover h (Release ks) s = may_post_to_all h ks.items s
+is_mover h (Wait ks) s = may_post_to_all h ks.items s
+is_mover h want s = false
+
+-- The turn of the handler is a mover.
+pub record IsMoverTurn (h : ℕ) (x y : PlainWorld) : Type 0 where
+  pub goes : job_of h x.center.state ≡ Some job.Go
+  pub makes : Makes 1 h job.Go 1 x y
+  pub moves : is_mover h makes.settles.outcome.want x.center.state ≡ true
+
+-- So is its turn in a world of which this is kept.
+pub record IsMover (p : Image) (v : Version) (h : ℕ) (k : PlainKept) : Type 0 where
+  pub before : PlainWorld
+  pub after : PlainWorld
+  pub played : IsPlayed p v before
+  pub kept_is : kept before ≡ k
+  pub own : IsMoverTurn h before after
+
+-- There are as many handlers after the turn of one as before. Each has failed or not, and has refused, as before, and
+-- each other one stands where it stood.
+pub record StaysSeen (h : ℕ) (x y : PlainWorld) : Type 0 where
+  pub count : y.center.state.count ≡ x.center.state.count
+  pub failure : (k : ℕ) → (y.center.state.handlers k).failure ≡ (x.center.state.handlers k).failure
+  pub refused : (k : ℕ) → (y.center.state.handlers k).refused ≡ (x.center.state.handlers k).refused
+  pub others : (k : ℕ) → (k ≡ h → ⊥) → (y.center.state.handlers k).stage ≡ (x.center.state.handlers k).stage
+
+-- In the program of an accepted system, what is kept of worlds are the states of a machine, and movers are movers in it,
+-- wherever handlers have failed or not. What is seen of the others stays.
+pub record Movers (p : Image) (v : Version) : Type 0 where
+  pub machine : IsMachine (Turn p v) has_turn has_failed (IsReached p v)
+  pub movers : AreMovers (Turn p v) has_turn has_failed (IsReached p v) (IsMover p v)
+  pub whole_machine : IsMachine (Turn p v) has_turn never (IsReached p v)
+  pub movers_anywhere : AreMovers (Turn p v) has_turn never (IsReached p v) (IsMover p v)
+  pub played : (g : ℕ) (k : PlainKept) (m : IsMover p v g k) → IsPlayed p v m.after
+  pub turn : (g : ℕ) (k : PlainKept) (m : IsMover p v g k) → Turn p v g k (kept m.after)
+  pub stays : (g : ℕ) (k : PlainKept) (m : IsMover p v g k) → StaysSeen g m.before m.after
+
+abbrev pub TurnsAreMovers : Type 0
+TurnsAreMovers = WhereAccepted λ s root.
+    (p : Image) (v : Version) → IsProgramOf s root p → FitsRequests p → Movers p v

@@ -1,0 +1,39 @@
+-- What a handler gives back at the end of a request, or once a handler was made for it, is its own.
+use Rattle.std.specs.Prelude.{◌≡◌, ℕ, Bool, List, ◌∷◌, Option, Some, true}
+use Rattle.arrayvec.specs.ArrayVec.{ArrayVec}
+use Rattle.sc_lockpass.specs.Passing.{Passed}
+use Rattle.sc_lockpass.specs.declared.version.Version.{Version}
+use Rattle.sc_code.specs.declared.program.Image.{Image}
+use Rattle.sc_code.specs.Programs.{IsProgramOf}
+use Rattle.sc_code.specs.RequestRoom.{FitsRequests}
+use Rattle.sc_region.specs.declared.value.Value.{Value}
+use Rattle.sc_region.specs.declared.job.Job.{Job}
+use Rattle.sc_region.specs.declared.job.Job.TheVariants as job
+use Rattle.sc_region.specs.declared.job.Want.{Want}
+use Rattle.sc_region.specs.declared.job.Want.TheVariants as want
+use Rattle.sc_handler.specs.Handlers.{Awaits, Service, State}
+use Rattle.sc_handler.specs.Fits.{fits_first}
+use Rattle.sc_handler.specs.Picking.{job_of}
+use Rattle.sc_request.specs.Settling.{begun}
+use Rattle.sc_machine_laws.specs.states.Values.{WhereAccepted}
+use Rattle.sc_world.specs.Turning.{Makes}
+use Rattle.sc_world.specs.Worlds.{PlainWorld}
+use Rattle.sc_refines_world.specs.Anew.{IsPlayed}
+
+-- If the handler has this to do and its turn asks this, it may post to the handler that was made for it; and if a request
+-- ends, to each handler that was passed with it.
+pub record ReturnsOwn (h : ℕ) (j : Job) (w : Want) (s : State) : Type 0 where
+  pub made : (i k : ℕ) (c : Bool) → (s.handlers h).stage ≡ Awaits i c → j ≡ job.Made k → s.rights.queue i ≡ Some h
+  pub returns : fits_first (s.handlers h).stage j w ≡ true →
+      (v : Option Value) (ls : ArrayVec ℕ) (refused : Bool) → w ≡ want.Done v ls refused →
+      (e : Service) (es : List Service) → ((begun h j s).handlers h).services ≡ e ∷ es →
+      (p : Passed) → e.posted.passed ≡ Some p →
+      (k : ℕ) (o : Option ℕ) → p.queue k ≡ Some o → s.rights.queue k ≡ Some h
+
+-- So it is in each world that turns lead to from the opening of the program.
+abbrev pub ReturnsAreOwn : Image → Version → Type 0
+ReturnsAreOwn p v = (h : ℕ) (j : Job) (x y : PlainWorld) → IsPlayed p v x → job_of h x.center.state ≡ Some j →
+    (m : Makes 1 h j 1 x y) → ReturnsOwn h j m.settles.outcome.want x.center.state
+
+abbrev pub AllReturnOwn : Type 0
+AllReturnOwn = WhereAccepted λ s root. (p : Image) (v : Version) → IsProgramOf s root p → FitsRequests p → ReturnsAreOwn p v
