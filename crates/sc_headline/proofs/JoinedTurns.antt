@@ -1,6 +1,7 @@
--- A search that joins turns with others that ask nothing, beside the machine of what is kept.
-use Rattle.std.proofs.Common.{◌≡◌, ◌++◌, ◌∙◌, ◌||◌, inl, inr, ℕ, zero, suc, Bool, true, false, List, [], ◌∷◌, Option, Some, None, get_or, is_some, refl, sym, ap, subst, arith}
-use Rattle.std.specs.Prelude.{slice_set}
+-- A search that joins turns with others that may follow at once, beside the machine of what is kept.
+use Rattle.std.proofs.Common.{◌≡◌, ◌<◌, ◌++◌, ◌∙◌, ◌||◌, inl, inr, ℕ, zero, suc, Bool, true, false, List, [], ◌∷◌, Option, Some, None, get_or, is_some, refl, sym, ap, subst, arith}
+use Rattle.std.specs.List.{list_any, range_with_len}
+use Rattle.std.specs.Prelude.{map, slice_set}
 use Rattle.std.proofs.lemmas.Bool.{cases_lt}
 use Rattle.std.proofs.lemmas.List.FromFn.{get_or-map-range_with_len, length-map-range_with_len}
 use Rattle.std.proofs.lemmas.List.{get_or_past}
@@ -8,11 +9,11 @@ use Rattle.sc_lockpass.specs.Versions.{most_handlers}
 use Rattle.sc_lockpass.specs.declared.version.Version.{Version}
 use Rattle.sc_model.specs.declared.cause.Cause.{Cause}
 use Rattle.sc_model.specs.declared.status.Status.{Status}
-use Rattle.sc_model.specs.declared.status.Status.TheVariants.{Busy, Failed, Free, Waiting}
+use Rattle.sc_model.specs.declared.status.Status.TheVariants.{Free}
 use Rattle.sc_code.specs.declared.program.Image.{Image}
 use Rattle.sc_region.specs.declared.job.Job.{Job}
 use Rattle.sc_region.specs.declared.job.Job.TheVariants as job
-use Rattle.sc_handler.specs.Handlers.{Awaits, HandlerStage, HasMade, Idle, Reserves, Runs, State}
+use Rattle.sc_handler.specs.Handlers.{HandlerStage, State}
 use Rattle.sc_handler.specs.Picking.{job_of, status_with}
 use Rattle.sc_counts.proofs.Jobs.{job_canon}
 use Rattle.sc_request.specs.Logs.{picked, settles, status_in}
@@ -28,48 +29,17 @@ use Rattle.sc_world.specs.Worlds.{PlainWorld, opened}
 use Rattle.sc_world.proofs.Runs.{runs-more}
 use Rattle.sc_refines_world.specs.Anew.{IsPlayed, RunsAnew}
 use Rattle.sc_movers.specs.Kept.{IsReached, Turn, has_turn, never}
-use Rattle.sc_movers.specs.Own.{IsOwn, OwnMovers}
+use Rattle.sc_movers.specs.Movers.{IsMover, Movers, StaysSeen}
 use Rattle.sc_movers.proofs.Kept.{pick_is}
 use Rattle.sc_search.specs.declared.aims.Aim.{Aim}
 use Rattle.sc_search.specs.declared.aims.Aim.TheVariants as aim
-use Rattle.sc_search.specs.Aims.{AreStuck, HasFailed, HasRefused, IsMet}
+use Rattle.sc_search.specs.Aims.{AreStuck, HasFailed, HasRefused, IsMet, tells_failure}
 use Rattle.sc_search.specs.Closed.{IsAmong, IsClosed, IsTried}
-use Rattle.sc_search.specs.Joined.{AsksNothing, GoesOn}
+use Rattle.sc_search.specs.Joined.{FollowsAtOnce, GoesOn}
 use Rattle.sc_search.specs.Waiting.{AreMoving, IsAnewTurn, seeks_stuck}
 use Rattle.sc_search.proofs.TriedTurns.{plays_on}
 use Rattle.sc_search.proofs.Waits.{idle_job}
-
--- ---- statuses
-
-abbrev pub is_waiting : Status → Bool
-is_waiting (Failed why) = false
-is_waiting Busy = false
-is_waiting Waiting = true
-is_waiting Free = false
-
-abbrev pub is_busy : Status → Bool
-is_busy (Failed why) = false
-is_busy Busy = true
-is_busy Waiting = false
-is_busy Free = false
-
--- the handler waits in the world
-abbrev pub waits_at : ℕ → PlainWorld → Bool
-waits_at h w = is_waiting (get_or (statuses w) h Free)
-
--- it has a turn there
-abbrev pub busy_at : ℕ → PlainWorld → Bool
-busy_at h w = is_busy (get_or (statuses w) h Free)
-
--- only who has something to do is busy
-busy_needs : (why : Option Cause) (b : Bool) (stage : HandlerStage) → is_busy (status_with why b stage) ≡ true → b ≡ true
-busy_needs (Some c) b stage e = cc
-busy_needs None true stage e = refl
-busy_needs None false Idle e = cc
-busy_needs None false Runs e = cc
-busy_needs None false (HasMade k) e = cc
-busy_needs None false (Reserves ks mark) e = cc
-busy_needs None false (Awaits k is_creation) e = cc
+use Rattle.sc_headline.proofs.Statuses.{busy_at, busy_needs, failed_alike, failures_alike, is_busy, is_waiting, none_busy, same_rule, waiting_is, waits_at}
 
 abbrev state_of : PlainKept → State
 state_of k = k.state
@@ -128,7 +98,7 @@ module _ (alike : KeptAlikeReadAlike) (open_of : OpeningsAreOf) (stay : RunsStay
 
   -- ---- turns between what is kept
 
-  module _ (own : OwnMovers p v) where
+  module _ (own : Movers p v) where
     one : (h : ℕ) (k l m : PlainKept) → Turn p v h k l → Turn p v h k m → l ≡ m
     one = own.whole_machine.one
 
@@ -162,9 +132,9 @@ module _ (alike : KeptAlikeReadAlike) (open_of : OpeningsAreOf) (stay : RunsStay
         let t = leads.1 in
         anew_played hs leads.0 y (t.played.0 ++ h ∷ [], runs-more t.played.0 h (opened p v) t.before leads.0 t.played.1 t.turn) leads.2
 
-    -- a turn that asks nothing of others
-    asks_own : (h : ℕ) (x : PlainWorld) → IsPlayed p v x → AsksNothing h x → IsOwn p v h (kept x)
-    asks_own h x played asks =
+    -- a turn that may follow at once
+    follows_mover : (h : ℕ) (x : PlainWorld) → IsPlayed p v x → FollowsAtOnce h x → IsMover p v h (kept x)
+    follows_mover h x played asks =
         let wants = asks.wants in
         let few = wants.plays.few in
         let some = wants.plays.some in
@@ -187,21 +157,86 @@ module _ (alike : KeptAlikeReadAlike) (open_of : OpeningsAreOf) (stay : RunsStay
               regions = refl;
               most = refl;
             };
-            asks_nothing = wants.nothing;
+            moves = same_rule h wants.outcome.want x.center.state ∙ wants.follows;
           };
         }
+
+    -- ---- what a mover leaves
+
+    module _ (g : ℕ) (k l : PlainKept) (o : IsMover p v g k) (t : Turn p v g k l) where
+      kept_after : kept o.after ≡ l
+      kept_after = one g k (kept o.after) l (own.turn g k o) t
+
+      seen : StaysSeen g o.before o.after
+      seen = own.stays g k o
+
+      -- it has a turn
+      has_one : has_turn g (kept o.before) ≡ true
+      has_one = ap is_some (job_canon g o.before.center.state ∙ o.own.goes)
+
+      is_busy_there : busy_at g o.before ≡ true
+      is_busy_there = by (busy_at g o.before) refl
+        where
+          by : (b : Bool) → busy_at g o.before ≡ b → busy_at g o.before ≡ true
+          by true e = e
+          by false e = let no : true ≡ false = sym has_one ∙ idle_has_none g o.before o.played e in cc
+
+      not_stuck : {A : Type 0} → AreStuck (statuses o.before) → A
+      not_stuck stuck = let no : true ≡ false = sym is_busy_there ∙ none_busy _ (statuses o.before) g stuck.idle refl in cc
+
+      failed_stays : HasFailed (statuses o.before) → HasFailed (statuses o.after)
+      failed_stays failed =
+          ap (λ (n : ℕ). tells_failure aim.Fails (map (λ h. status_in h o.after.center) (range_with_len 0 n))) seen.count
+          ∙ failures_alike (λ h. status_in h o.after.center) (λ h. status_in h o.before.center) (λ h. failed_alike
+          (is_some (o.after.center.out h) || is_some (job_of h o.after.center.state)) (is_some (o.before.center.out h) || is_some (job_of h o.before.center.state))
+          (o.after.center.state.handlers h).stage (o.before.center.state.handlers h).stage
+          (o.after.center.state.handlers h).failure (o.before.center.state.handlers h).failure (seen.failure h)) (range_with_len 0 o.before.center.state.count)
+          ∙ failed
+
+      refused_stays : HasRefused o.before.center.state → HasRefused o.after.center.state
+      refused_stays refused =
+          let there = refused.there in
+          let some = refused.some in
+          record { handler = refused.handler; there = omega (arith, there, seen.count); some = omega (arith, some, seen.refused refused.handler) }
+
+      met_stays : (a : Aim) → IsMet a o.before → IsMet a o.after
+      met_stays aim.Stuck stuck = not_stuck stuck
+      met_stays aim.Fails failed = failed_stays failed
+      met_stays aim.Refused refused = refused_stays refused
+      met_stays aim.Any (inl stuck) = not_stuck stuck
+      met_stays aim.Any (inr (inl failed)) = inr (inl (failed_stays failed))
+      met_stays aim.Any (inr (inr refused)) = inr (inr (refused_stays refused))
+
+      -- a handler that waits, and has no turn after it either, still waits
+      waits_after : (h : ℕ) → has_turn h k ≡ false → has_turn h l ≡ false → waits_at h o.before ≡ true → waits_at h o.after ≡ true
+      waits_after h none still waits =
+          let x = o.before in
+          let y = o.after in
+          let was = waiting_is h x waits in
+          let apart : h ≡ g → ⊥ = λ same.
+          let no : true ≡ false = sym has_one ∙ ap (λ (n : ℕ). has_turn n (kept x)) (sym same) ∙ ap (has_turn h) o.kept_is ∙ none in cc in
+          let no_job : is_some (job_of h y.center.state) ≡ false = sym (ap is_some (job_canon h y.center.state)) ∙ ap (has_turn h) kept_after ∙ still in
+          let out : y.center.out h ≡ None = (of_program y (own.played g k o)).nobody_out h in
+          let there = was.0 in
+          let few : h < y.center.state.count = omega (arith, there, seen.count) in
+          ap is_waiting (get_or-map-range_with_len (λ (i : ℕ). status_in i y.center) 0 y.center.state.count h h Free few (omega arith))
+          ∙ ap (λ (b : Bool). is_waiting (status_with (y.center.state.handlers h).failure b (y.center.state.handlers h).stage))
+          (ap (λ (m : Option Job). is_some m || is_some (job_of h y.center.state)) out ∙ no_job)
+          ∙ ap (λ (c : Option Cause). is_waiting (status_with c false (y.center.state.handlers h).stage)) (seen.failure h ∙ was.1)
+          ∙ ap (λ (z : HandlerStage). is_waiting (status_with None false z)) (seen.others h apart)
+          ∙ was.2
 
     -- ---- states that are closed
 
     module _ (a : Aim) (ks : List PlainKept) (closed : IsClosed p v a ks) where
       abbrev Chain : PlainKept → Type 0
-      Chain k = LeadsTo (Turn p v) never (IsOwn p v) (IsAmong ks) k
+      Chain k = LeadsTo (Turn p v) never (IsMover p v) (IsAmong ks) k
 
       leads_on : (h n : ℕ) (x y : PlainWorld) → IsPlayed p v x → GoesOn h n x y → Chain (kept y) → Chain (kept x)
       leads_on h zero x y played same chain = subst (λ (w : PlainWorld). Chain (kept w)) same chain
       leads_on h (suc n) x y played on chain =
           let there = plays_on p v h n x on.0 played on.1 in
-          leads_on h n x on.0 played on.1 (Moved (kept on.0) h (kept y) (asks_own h on.0 there on.2) (turn_kept h on.0 y there on.3) refl chain)
+          leads_on h n x on.0 played on.1 (Moved (kept on.0) h (kept y) (follows_mover h on.0 there on.2) (turn_kept h on.0 y there on.3) refl chain)
 
       tried : (k : PlainKept) → IsAmong ks k → (h : ℕ) → IsTried p v closed.joined ks k h
       tried k among h = closed.tried among.number k among.stands h
@@ -225,7 +260,7 @@ module _ (alike : KeptAlikeReadAlike) (open_of : OpeningsAreOf) (stay : RunsStay
           let next : IsPlayed p v t.turn.next = (hs ++ h ∷ [], runs-more hs h (opened p v) t.before t.turn.next t.stands_in.runs t.turn.turn) in
           leads_on h t.turn.on.turns t.turn.next t.after next t.turn.on.goes_on (Kept (kept t.after) t.among)
 
-      are_closed : AreClosed (Turn p v) has_turn never (IsReached p v) (IsOwn p v) (kept (opened p v)) (IsAmong ks)
+      are_closed : AreClosed (Turn p v) has_turn never (IsReached p v) (IsMover p v) (kept (opened p v)) (IsAmong ks)
       are_closed = record {
         opens = Kept (kept (opened p v)) closed.opens;
         reached = λ k among.
@@ -237,9 +272,9 @@ module _ (alike : KeptAlikeReadAlike) (open_of : OpeningsAreOf) (stay : RunsStay
         leads = λ k among h has l t. subst Chain (one h k (kept (tried k among h).turn.next) l (tried_turn k among h) t) (tried_chain k among h);
       }
 
-      find : FindAll (Turn p v) never (IsOwn p v) (kept (opened p v)) (IsAmong ks)
+      find : FindAll (Turn p v) never (IsMover p v) (kept (opened p v)) (IsAmong ks)
       find =
-          closed_find_all (Turn p v) has_turn never (IsReached p v) own.whole_machine (IsOwn p v) own.movers_anywhere (kept (opened p v)) (IsAmong ks) are_closed
+          closed_find_all (Turn p v) has_turn never (IsReached p v) own.whole_machine (IsMover p v) own.movers_anywhere (kept (opened p v)) (IsAmong ks) are_closed
           (record { world = opened p v; played = ([], refl); kept_is = refl })
 
       -- ---- what is looked for
@@ -247,11 +282,11 @@ module _ (alike : KeptAlikeReadAlike) (open_of : OpeningsAreOf) (stay : RunsStay
       abbrev ShowsIt : PlainKept → Type 0
       ShowsIt k = (w : PlainWorld) × IsPlayed p v w × (kept w ≡ k) × IsMet a w
 
-      shows_stay : IsStable (Turn p v) (IsOwn p v) ShowsIt
+      shows_stay : IsStable (Turn p v) (IsMover p v) ShowsIt
       shows_stay g k l shown o t =
-          let same : (kept shown.0).state ≡ (kept t.after).state = ap state_of shown.2 ∙ sym (own.stays g k l o t) ∙ ap state_of (sym t.kept_after) in
-          let on = plays g k l t in
-          (t.after, on, t.kept_after, met_by_state a shown.0 t.after same (by_state shown.0 t.after shown.1 on same) shown.3)
+          let same : (kept shown.0).state ≡ (kept o.before).state = ap state_of shown.2 ∙ sym (ap state_of o.kept_is) in
+          let met = met_by_state a shown.0 o.before same (by_state shown.0 o.before shown.1 o.played same) shown.3 in
+          (o.after, own.played g k o, kept_after g k l o t, met_stays g k l o t a met)
 
       -- no order leads to worlds that all show it
       pub none_shows : (hs : List ℕ) → ((y : PlainWorld) → RunsAnew p v hs (opened p v) y → IsMet a y) → ⊥
@@ -273,17 +308,21 @@ module _ (alike : KeptAlikeReadAlike) (open_of : OpeningsAreOf) (stay : RunsStay
       same_status : (h : ℕ) (w u : PlainWorld) → statuses w ≡ statuses u → waits_at h w ≡ true → waits_at h u ≡ true
       same_status h w u same waits = ap (λ (ss : List Status). is_waiting (get_or ss h Free)) (sym same) ∙ waits
 
-      waits_stay : (h : ℕ) → IsStable (Turn p v) (IsOwn p v) (WaitsSo h)
+      waits_stay : (h : ℕ) → IsStable (Turn p v) (IsMover p v) (WaitsSo h)
       waits_stay h g k l waits o t =
-          let same : (kept waits.0).state ≡ (kept t.after).state = ap state_of waits.2 ∙ sym (own.stays g k l o t) ∙ ap state_of (sym t.kept_after) in
-          let on = plays g k l t in (
-            t.after,
-            on,
-            t.kept_after,
-            same_status h waits.0 t.after (by_state waits.0 t.after waits.1 on same) waits.3,
-            λ hs.
-                let n = waits.4 (g ∷ hs) in
-                (n.0, subst (λ (m : PlainKept). Leads (Turn p v) hs m n.0) (one g k n.1.0 l n.1.1 t) n.1.2, n.2),
+          let same : (kept waits.0).state ≡ (kept o.before).state = ap state_of waits.2 ∙ sym (ap state_of o.kept_is) in
+          let never : NeverMoves (Turn p v) has_turn h l =
+          λ hs.
+          let n = waits.4 (g ∷ hs) in
+          (n.0, subst (λ (m : PlainKept). Leads (Turn p v) hs m n.0) (one g k n.1.0 l n.1.1 t) n.1.2, n.2) in
+          let now = waits.4 [] in
+          let later = never [] in (
+            o.after,
+            own.played g k o,
+            kept_after g k l o t,
+            waits_after g k l o t h (ap (has_turn h) (sym now.1) ∙ now.2) (ap (has_turn h) (sym later.1) ∙ later.2)
+                (same_status h waits.0 o.before (by_state waits.0 o.before waits.1 o.played same) waits.3),
+            never,
           )
 
       never_moves : (hs : List ℕ) (h : ℕ) (k : PlainKept) → Leads (Turn p v) hs (kept (opened p v)) k →

@@ -5,5 +5,6 @@ mod Rows
 mod Exactness
 mod JoinedTurns
 mod SearchLaws
+mod Statuses
 mod Stuck
 mod Everywhere

@@ -26,7 +26,7 @@ use Rattle.sc_frontend.specs.Texts.{IsLoaded}
 use Rattle.sc_refines_world.specs.Anew.{AnewRunsAsMachine, IsKeptAs, IsPlayed, RunsAnew}
 use Rattle.sc_refines_world.specs.Refining.{StandingWorldIsNear, WorldReportsAsMachine}
 use Rattle.sc_refines_world.specs.Standing.{StandsFor}
-use Rattle.sc_movers.specs.Own.{OwnMovers, OwnTurnsAreMovers}
+use Rattle.sc_movers.specs.Movers.{Movers, TurnsAreMovers}
 use Rattle.sc_search.specs.declared.aims.Aim.{Aim}
 use Rattle.sc_search.specs.declared.aims.Aim.TheVariants as aim
 use Rattle.sc_search.specs.Aims.{HasFailed, HasRefused, IsMet}
@@ -39,7 +39,7 @@ use Rattle.sc_headline.specs.Exactly.{OneWorld}
 use Rattle.sc_headline.specs.Headline.{machine_after}
 use Rattle.sc_headline.specs.Searched.{FoundOrdersAreTheMachines, IsSought, SearchesGiveUpAtLimits, SomeHasRefused, SomeWaits, WaitsForGood, WholeSearchesFindAll, statuses_in}
 use Rattle.sc_headline.proofs.JoinedTurns as joined
-use Rattle.sc_headline.proofs.JoinedTurns.{is_busy, is_waiting}
+use Rattle.sc_headline.proofs.Statuses.{is_busy, is_waiting}
 use Rattle.sc_headline.proofs.Stuck.{busy_with, lives}
 
 -- ---- a handler's status in the list of all
@@ -218,7 +218,7 @@ module _ (anew : AnewRunsAsMachine) (alike : KeptAlikeReadAlike) (near : Standin
       let none : has_turn h after ≡ false = ap (has_turn h) (run_append most s hs gs (opening s root)) ∙ waits.never gs in
       ap (λ (ss : List Status). is_busy (get_or ss h Free)) (told (hs ++ gs) y runs) ∙ not_busy h after none
 
-  module _ (own : OwnMovers p v) (open_of : OpeningsAreOf) (stay : RunsStayOf) (a : Aim) (ks : List PlainKept) (closed : IsClosed p v a ks) where
+  module _ (own : Movers p v) (open_of : OpeningsAreOf) (stay : RunsStayOf) (a : Aim) (ks : List PlainKept) (closed : IsClosed p v a ks) where
     none_shows : (hs : List ℕ) → ((y : PlainWorld) → RunsAnew p v hs (opened p v) y → IsMet a y) → ⊥
     none_shows hs shows = joined.none_shows alike open_of stay p v own a ks closed hs shows
 
@@ -234,7 +234,7 @@ module _ (anew : AnewRunsAsMachine) (alike : KeptAlikeReadAlike) (near : Standin
       let k = kept_as hs y runs in
       refused_alike k.world y k.alike.same (world_refuses s p (machine_after s root v hs) k.world k.stands refused)
 
-  pub none_sought : OwnMovers p v → OpeningsAreOf → RunsStayOf → (a : Aim) (ks : List PlainKept) → IsClosed p v a ks → AreMoving p v a ks →
+  pub none_sought : Movers p v → OpeningsAreOf → RunsStayOf → (a : Aim) (ks : List PlainKept) → IsClosed p v a ks → AreMoving p v a ks →
       (hs : List ℕ) → IsSought s v a (machine_after s root v hs) → ⊥
   none_sought own open_of stay aim.Stuck ks closed moving hs waits = none_waits own open_of stay aim.Stuck ks closed hs moving refl waits
   none_sought own open_of stay aim.Fails ks closed moving hs failed = none_shows own open_of stay aim.Fails ks closed hs (λ y runs. fails_anew hs y runs failed)
@@ -251,7 +251,7 @@ found anew alike near tells text root program version lines a loaded leads = rec
   sought = sought_too anew alike near tells text root program version loaded a (turns_of lines) leads.world leads.runs leads.holds;
 }
 
-pub whole : AnewRunsAsMachine → KeptAlikeReadAlike → StandingWorldIsNear → WorldReportsAsMachine → OwnTurnsAreMovers → OpeningsAreOf → RunsStayOf → WholeSearchesFindAll
+pub whole : AnewRunsAsMachine → KeptAlikeReadAlike → StandingWorldIsNear → WorldReportsAsMachine → TurnsAreMovers → OpeningsAreOf → RunsStayOf → WholeSearchesFindAll
 whole anew alike near tells movers open_of stay text root program version a states loaded closed moving = record {
   system = loaded.system;
   read = loaded.read;

@@ -8,7 +8,7 @@ ghost use Rattle.sc_headline.specs.ThreadsHeadline.{ThreadsHaveHeadline, Threads
 ghost use Rattle.sc_world.specs.Views.{world_of};
 
 use sc_driver::laws::{misfits_are_no_record, one_misfit, runs_audit_yes};
-use sc_movers::laws::own_turns_are_movers;
+use sc_movers::laws::turns_are_movers;
 use sc_plant::laws::runs_are_one_threads;
 use sc_refines_world::laws::{
     anew_runs_as_machine, attempts_have_headline, idle_world_is_idle, machine_has_headline,
@@ -160,7 +160,7 @@ pub fn whole_searches_find_all()
     kept_alike_read_alike();
     standing_world_is_near();
     world_reports_as_machine();
-    own_turns_are_movers();
+    turns_are_movers();
     openings_are_of_their_program();
     runs_stay_of_their_program();
 }

@@ -3,18 +3,18 @@ use Rattle.std.proofs.Common.{◌≡◌, ◌≤◌, ◌+◌, ℕ, suc, Bool, tru
 use Rattle.std.specs.Prelude.{IfOk}
 use Rattle.sc_region.specs.declared.job.Job.TheVariants as job
 use Rattle.sc_region.specs.declared.job.Outcome.{Outcome}
-use Rattle.sc_region.specs.declared.job.Want.TheVariants as want
+use Rattle.sc_handler.specs.Handlers.{State}
 use Rattle.sc_play.specs.Regions.{PlainRegion, Plays}
-use Rattle.sc_request.specs.Logs.{pick_for}
+use Rattle.sc_request.specs.Logs.{Center, pick_for}
 use Rattle.sc_world.specs.Turning.{IsTurn}
 use Rattle.sc_world.specs.Worlds.{PlainWorld}
-use Rattle.sc_search.specs.Joined.{AsksNothing, GoesOnUpTo, WantsNothing}
+use Rattle.sc_search.specs.Joined.{FollowsAtOnce, GoesOnUpTo, WantsToFollow, may_follow}
 
 pub goes_none : (h : ℕ) (x : PlainWorld) → GoesOnUpTo 0 h x x
 goes_none h x = record { turns = 0; few = omega arith; goes_on = refl }
 
 -- one more turn
-pub goes_more : (n h : ℕ) (x y z : PlainWorld) → GoesOnUpTo n h x y → AsksNothing h y → IsTurn h y z → GoesOnUpTo (n + 1) h x z
+pub goes_more : (n h : ℕ) (x y z : PlainWorld) → GoesOnUpTo n h x y → FollowsAtOnce h y → IsTurn h y z → GoesOnUpTo (n + 1) h x z
 goes_more n h x y z on asks turn =
     let few = on.few in
     record { turns = suc on.turns; few = omega (arith, few); goes_on = (y, on.goes_on, asks, turn) }
@@ -24,15 +24,20 @@ goes_within n m h x y le on =
     let few = on.few in
     record { turns = on.turns; few = omega (arith, few, le); goes_on = on.goes_on }
 
--- ---- whether the next turn asks nothing
+-- ---- whether the next turn may follow at once
 
 -- what holds of the copy of a region holds of the region
-pub wants_so : (x before after : PlainRegion) (o : Outcome) → before ≡ x → Plays 1 job.Go before after o → o.want ≡ want.Continue → WantsNothing x
-wants_so x before after o same plays nothing =
-    subst WantsNothing same (record { after = after; outcome = o; plays = plays; nothing = nothing })
+pub wants_so : (h : ℕ) (s : State) (x before after : PlainRegion) (o : Outcome) → before ≡ x → Plays 1 job.Go before after o → may_follow h o.want s ≡ true → WantsToFollow h s x
+wants_so h s x before after o same plays follows =
+    subst (WantsToFollow h s) same (record { after = after; outcome = o; plays = plays; follows = follows })
 
 -- what the region wants is what its handler asks
-pub asks_so : {E : Type 0} (h : ℕ) (w : PlainWorld) (x : PlainRegion) (r : Result Bool E) → pick_for h w.center ≡ Some job.Go → slice_get w.regions h ≡ Some x →
-    IfOk r (λ nothing. nothing ≡ true → WantsNothing x) → IfOk r (λ nothing. nothing ≡ true → AsksNothing h w)
-asks_so h w x (Ok b) goes stands wants = λ e. record { goes = goes; region = x; stands = stands; wants = wants e }
-asks_so h w x (Err e) goes stands wants = tt
+pub follows_so : {E : Type 0} (h : ℕ) (w : PlainWorld) (x : PlainRegion) (r : Result Bool E) (c : Center) → c ≡ w.center → pick_for h c ≡ Some job.Go → slice_get w.regions h ≡ Some x →
+    IfOk r (λ follows. follows ≡ true → WantsToFollow h c.state x) → IfOk r (λ follows. follows ≡ true → FollowsAtOnce h w)
+follows_so h w x (Ok b) c same goes stands wants = λ e. record {
+  goes = subst (λ (d : Center). pick_for h d ≡ Some job.Go) same goes;
+  region = x;
+  stands = stands;
+  wants = subst (λ (d : Center). WantsToFollow h d.state x) same (wants e);
+}
+follows_so h w x (Err e) c same goes stands wants = tt

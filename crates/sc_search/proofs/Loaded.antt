@@ -1,11 +1,16 @@
 -- Worlds that are loaded, and the worlds that were reached.
 use Rattle.std.proofs.Common.{◌≡◌, ◌⊎◌, ◌<◌, ◌++◌, ◌∷◌, [], ◌∙◌, ℕ, zero, suc, List, Option, Some, get_or, length, slice_get, refl, sym, ap, subst, append_assoc}
+use Rattle.std.specs.List.{list_all}
 use Rattle.std.proofs.lemmas.List.{append-nil}
 use Rattle.std.proofs.lemmas.Option.{get_or_from_slice_get}
 use Rattle.sc_lockpass.specs.Versions.{most_handlers}
 use Rattle.sc_lockpass.specs.declared.version.Version.{Version}
 use Rattle.sc_model.specs.declared.status.Status.{Status}
 use Rattle.sc_code.specs.declared.program.Image.{Image}
+use Rattle.sc_lockpass.specs.Rights.{is_handler}
+use Rattle.sc_region.specs.declared.job.Want.{Want}
+use Rattle.sc_region.specs.declared.job.Want.TheVariants as want
+use Rattle.sc_handler.specs.Handlers.{State}
 use Rattle.sc_play.specs.Regions.{PlainRegion}
 use Rattle.sc_world.specs.Free.{OpeningsAreLinked, RunsStayLinked}
 use Rattle.sc_world.specs.Kept.{AreKeptAlike, IsOf, KeptAlikeReadAlike, KeptAlikeTurnAlike, OpeningsAreOf, PlainKept, RunsStayOf, kept}
@@ -16,7 +21,7 @@ use Rattle.sc_world.proofs.KeptWorlds.{regions_are}
 use Rattle.sc_world.proofs.Runs.{runs-more}
 use Rattle.sc_search.specs.declared.aims.Aim.{Aim}
 use Rattle.sc_search.specs.Aims.{IsMet}
-use Rattle.sc_search.specs.Joined.{AsksNothing, GoesOn, GoesOnUpTo}
+use Rattle.sc_search.specs.Joined.{FollowsAtOnce, GoesOn, GoesOnUpTo, may_follow}
 use Rattle.sc_search.specs.Steps.{Keeps, Tries}
 use Rattle.sc_search.specs.Stops.{AreReached, MeetsAfter}
 use Rattle.sc_search.specs.Stored.{IsAlikeAfter, IsBacked}
@@ -25,6 +30,18 @@ use Rattle.sc_search.specs.Waiting.{IsPlayed}
 use Rattle.sc_search.proofs.KeptStates.{met_alike}
 use Rattle.sc_search.proofs.Reasons.{there_is}
 use Rattle.sc_search.proofs.TriedTurns.{plays_on, tries}
+
+-- what may follow at once is read off rights
+same_follow : (h : ℕ) (w : Want) (s t : State) → s.rights.queue ≡ t.rights.queue → may_follow h w s ≡ may_follow h w t
+same_follow h want.Continue s t same = refl
+same_follow h (want.Release ks) s t same = ap (λ (q : ℕ → Option ℕ). list_all (λ k. is_handler h (q k)) ks.items) same
+same_follow h (want.Wait ks) s t same = ap (λ (q : ℕ → Option ℕ). list_all (λ k. is_handler h (q k)) ks.items) same
+same_follow h (want.Reserve ks) s t same = refl
+same_follow h (want.Post r) s t same = refl
+same_follow h (want.Ask r passes) s t same = refl
+same_follow h (want.Create class procedure actuals passes) s t same = refl
+same_follow h (want.Done v ks refused) s t same = refl
+same_follow h (want.Fail why) s t same = refl
 
 module _ (open_of : OpeningsAreOf) (stay_of : RunsStayOf) (p : Image) (v : Version) where
   pub of_reached : (order : List ℕ) (w : PlainWorld) → Runs order (opened p v) w → IsOf p (most_handlers v) w
@@ -101,16 +118,24 @@ module _ (open_of : OpeningsAreOf) (stay_of : RunsStayOf) (p : Image) (v : Versi
   }
 
   module _ (alike_turn : KeptAlikeTurnAlike) (alike_read : KeptAlikeReadAlike) where
-    -- what asks nothing in a world asks nothing in one that is kept alike
-    asks_alike : (h : ℕ) (x y : PlainWorld) → AreKeptAlike p (most_handlers v) x y → AsksNothing h x → AsksNothing h y
-    asks_alike h x y alike asks = record {
-      goes = sym ((alike_read p (most_handlers v) x y alike).jobs h) ∙ asks.goes;
-      region = asks.region;
-      stands = ap (λ (rs : List PlainRegion). slice_get rs h) (sym (regions_are p (most_handlers v) x y alike)) ∙ asks.stands;
-      wants = asks.wants;
-    }
+    -- what may follow at once in a world may so in one that is kept alike
+    follows_alike : (h : ℕ) (x y : PlainWorld) → AreKeptAlike p (most_handlers v) x y → FollowsAtOnce h x → FollowsAtOnce h y
+    follows_alike h x y alike asks =
+        let wants = asks.wants in
+        record {
+          goes = sym ((alike_read p (most_handlers v) x y alike).jobs h) ∙ asks.goes;
+          region = asks.region;
+          stands = ap (λ (rs : List PlainRegion). slice_get rs h) (sym (regions_are p (most_handlers v) x y alike)) ∙ asks.stands;
+          wants = record {
+            after = wants.after;
+            outcome = wants.outcome;
+            plays = wants.plays;
+            follows =
+                same_follow h wants.outcome.want y.center.state x.center.state (ap (λ (k : PlainKept). k.state.rights.queue) (sym alike.same)) ∙ wants.follows;
+          };
+        }
 
-    -- turns that ask nothing stay in the program
+    -- turns that follow at once stay in the program
     of_on : (h n : ℕ) (x y : PlainWorld) → IsOf p (most_handlers v) x → GoesOn h n x y → IsOf p (most_handlers v) y
     of_on h zero x y of same = subst (IsOf p (most_handlers v)) (sym same) of
     of_on h (suc n) x y of on = stay_of p (most_handlers v) (h ∷ []) on.0 y (of_on h n x on.0 of on.1) (y, on.3, refl)
@@ -125,7 +150,7 @@ module _ (open_of : OpeningsAreOf) (stay_of : RunsStayOf) (p : Image) (v : Versi
         let alike : AreKeptAlike p (most_handlers v) m before.0 =
         record { of = of_on h n x m of on.1; its = of_reached there.0 before.0 there.1; same = sym before.2 } in
         let t = alike_turn p (most_handlers v) m before.0 alike h y on.3 in
-        (t.after, (before.0, before.1, asks_alike h m before.0 alike on.2, t.turn), t.kept)
+        (t.after, (before.0, before.1, follows_alike h m before.0 alike on.2, t.turn), t.kept)
 
     -- a turn in a loaded world, joined with others, is tried
     pub tries_alike : (a : Aim) (joined : ℕ) (order : List ℕ) (number h : ℕ) (w m u : PlainWorld) (x y : Met) → IsOf p (most_handlers v) w → IsOf p (most_handlers v) m →

@@ -70,7 +70,7 @@ module _ (alike : KeptAlikeReadAlike) (open_of : OpeningsAreOf) (stay : RunsStay
       by zero few same = same
       by (suc n) few on = absurd (omega (arith, few))
 
-  -- turns that ask nothing, each in a world that is played anew
+  -- turns that follow at once, each in a world that is played anew
   anew_on : (h n : ℕ) (w u : PlainWorld) → IsPlayed p v w → GoesOn h n w u → (hs : List ℕ) × orders.Leads (IsAnewTurn p v) hs w u
   anew_on h zero w u played same = ([], same)
   anew_on h (suc n) w u played on =

@@ -21,8 +21,8 @@ pub record IsAmong (ks : List PlainKept) (k : PlainKept) : Type 0 where
   pub number : ℕ
   pub stands : slice_get ks number ≡ Some k
 
--- A turn of the handler leads from a world in the state to one in a state among these, joined with others that ask
--- nothing of others, at most this number of them. Without a job it leads to the same world.
+-- A turn of the handler leads from a world in the state to one in a state among these, joined with others that
+-- may follow at once, at most this number of them. Without a job it leads to the same world.
 pub record IsTried (p : Image) (v : Version) (joined : ℕ) (ks : List PlainKept) (k : PlainKept) (h : ℕ) : Type 0 where
   pub before : PlainWorld
   pub after : PlainWorld

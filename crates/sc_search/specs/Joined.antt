@@ -1,32 +1,44 @@
 -- Turns that are joined with the one before them.
-use Rattle.std.specs.Prelude.{◌≡◌, ◌≤◌, ℕ, zero, suc, Some, slice_get}
+use Rattle.std.specs.Prelude.{◌≡◌, ◌≤◌, ℕ, zero, suc, Bool, true, false, Some, slice_get}
 use Rattle.sc_region.specs.declared.job.Job.TheVariants as job
 use Rattle.sc_region.specs.declared.job.Outcome.{Outcome}
+use Rattle.sc_region.specs.declared.job.Want.{Want}
 use Rattle.sc_region.specs.declared.job.Want.TheVariants as want
+use Rattle.sc_handler.specs.Handlers.{State}
 use Rattle.sc_play.specs.Regions.{PlainRegion, Plays}
 use Rattle.sc_request.specs.Logs.{pick_for}
+use Rattle.sc_request.specs.Settling.{may_post_to_all}
 use Rattle.sc_world.specs.Turning.{IsTurn}
 use Rattle.sc_world.specs.Worlds.{PlainWorld}
 
--- The routine of the region goes on, and its next turn wants nothing.
-pub record WantsNothing (x : PlainRegion) : Type 0 where
+-- The turn of a handler that goes on with its routine may follow at once if it wants this: nothing; or to release
+-- handlers that are its own, at the end of a block or of a call of its own; or to wait, since a wait condition is false,
+-- which releases what is its own.
+abbrev pub may_follow : ℕ → Want → State → Bool
+may_follow h want.Continue s = true
+may_follow h (want.Release ks) s = may_post_to_all h ks.items s
+may_follow h (want.Wait ks) s = may_post_to_all h ks.items s
+may_follow h w s = false
+
+-- The routine of the region goes on, and what its next turn wants may follow at once in this state.
+pub record WantsToFollow (h : ℕ) (s : State) (x : PlainRegion) : Type 0 where
   pub after : PlainRegion
   pub outcome : Outcome
   pub plays : Plays 1 job.Go x after outcome
-  pub nothing : outcome.want ≡ want.Continue
+  pub follows : may_follow h outcome.want s ≡ true
 
--- The handler goes on with its routine, and its next turn asks nothing of other handlers: it prints, goes round in a
--- loop, starts a body, or makes, reads or calls an object of its own.
-pub record AsksNothing (h : ℕ) (w : PlainWorld) : Type 0 where
+-- The handler goes on with its routine, and its next turn may follow at once: it prints, goes round in a loop, starts a
+-- body, or makes, reads or calls an object of its own; or it releases what is its own.
+pub record FollowsAtOnce (h : ℕ) (w : PlainWorld) : Type 0 where
   pub goes : pick_for h w.center ≡ Some job.Go
   pub region : PlainRegion
   pub stands : slice_get w.regions h ≡ Some region
-  pub wants : WantsNothing region
+  pub wants : WantsToFollow h w.center.state region
 
--- This number of turns of the handler, each of which asks nothing of others, leads from the first world to the second.
+-- This number of turns of the handler, each of which may follow at once, leads from the first world to the second.
 abbrev pub GoesOn : ℕ → ℕ → PlainWorld → PlainWorld → Type 0
 GoesOn h zero x y = y ≡ x
-GoesOn h (suc n) x y = (z : PlainWorld) × GoesOn h n x z × AsksNothing h z × IsTurn h z y
+GoesOn h (suc n) x y = (z : PlainWorld) × GoesOn h n x z × FollowsAtOnce h z × IsTurn h z y
 
 -- So do some turns, at most this number of them.
 pub record GoesOnUpTo (most h : ℕ) (x y : PlainWorld) : Type 0 where
@@ -34,8 +46,8 @@ pub record GoesOnUpTo (most h : ℕ) (x y : PlainWorld) : Type 0 where
   pub few : turns ≤ most
   pub goes_on : GoesOn h turns x y
 
--- A turn of the handler leads from the first world to the second, joined with others that ask nothing of others, at most
--- this number of them.
+-- A turn of the handler leads from the first world to the second, joined with others that may follow at once, at most this
+-- number of them.
 pub record IsJoinedTurn (most h : ℕ) (x y : PlainWorld) : Type 0 where
   pub next : PlainWorld
   pub turn : IsTurn h x next

@@ -1,7 +1,7 @@
 //! The search over all turns.
 //!
-//! A turn that asks nothing of other handlers may be joined with the one before it: it does the same before and after the turns
-//! of others. Only the state that joined turns lead to is kept.
+//! A turn that asks nothing of other handlers, or releases what is its handler's own, may be joined with the one before it: it does the
+//! same before and after the turns of others. Only the state that joined turns lead to is kept.
 ghost use Rattle.std.specs.Prelude.{◌≡◌, ◌<◌, IfNone, IfOk, IfSome, length};
 ghost use Rattle.sc_world.specs.Views.{world_in};
 ghost use Rattle.sc_world.specs.Worlds.{opened};
@@ -22,7 +22,7 @@ use sc_world::laws::{
 use std::alloc::AllocError;
 
 /// Plays each turn of each state, as long as at most `limit` states are kept. It is joined with the handler's next turns, at most
-/// `joined` of them, as long as these ask nothing of others. Returns why it stopped before all was played.
+/// `joined` of them, as long as these may follow at once. Returns why it stopped before all was played.
 ///
 /// # Errors
 /// Memory ran out.

@@ -1,13 +1,14 @@
-//! Turns that ask nothing of other handlers.
-ghost use Rattle.std.specs.Prelude.{◌≡◌, ◌↔◌, ℕ, IfOk, IsTrue, OnOk, Some, true};
+//! Turns that may follow the one before them at once.
+ghost use Rattle.std.specs.Prelude.{◌≡◌, ℕ, IfOk, OnOk, Some, true};
 ghost use Rattle.sc_code.specs.declared.program.Image.{Image};
 ghost use Rattle.sc_region.specs.declared.job.Job.TheVariants as job;
-ghost use Rattle.sc_region.specs.declared.job.Want.TheVariants as want;
 ghost use Rattle.sc_request.specs.Cores.{center_of};
+ghost use Rattle.sc_lockpass.specs.Rights.{is_handler};
 ghost use Rattle.sc_request.specs.Logs.{pick_for};
+ghost use Rattle.sc_request.specs.Settling.{may_post_to_all};
 ghost use Rattle.sc_world.specs.Kept.{IsOf};
 ghost use Rattle.sc_world.specs.Views.{world_in};
-ghost use Rattle.sc_search.specs.Joined.{AsksNothing, GoesOnUpTo, WantsNothing};
+ghost use Rattle.sc_search.specs.Joined.{FollowsAtOnce, GoesOnUpTo, WantsToFollow, may_follow};
 ghost use Rattle.sc_search.specs.Stops.{Moves};
 
 use sc_lockpass::HandlerNumber;
@@ -18,7 +19,7 @@ use sc_world::Configuration;
 use sc_world::laws::runs_stay_of_their_program;
 use std::alloc::{AllocError, Global};
 
-/// Makes further turns of a handler, at most `most`, as long as they ask nothing of others, and adds them. It stops if the region
+/// Makes further turns of a handler, at most `most`, as long as they may follow at once, and adds them. It stops if the region
 /// holds what it held where the handler began: so one that goes round by itself for ever has one state.
 ///
 /// # Errors
@@ -37,7 +38,7 @@ pub(crate) fn go_on(
 {
     runs_stay_of_their_program();
     for _ in 0..most {
-        if !asks_nothing(alloc, world, handler)? {
+        if !follows_at_once(alloc, world, handler)? {
             return Ok(());
         }
         if holds_again(world, handler, begun) {
@@ -61,22 +62,23 @@ fn holds_again(
     }
 }
 
-/// Whether a handler goes on with its routine and its next turn asks nothing of others.
+/// Whether a handler goes on with its routine and its next turn may follow at once.
 ///
 /// # Errors
 /// Memory ran out.
-fn asks_nothing(
+fn follows_at_once(
     alloc: Global,
     world: &Configuration<'_>,
     handler: HandlerNumber,
 ) -> Result<bool, AllocError>
-    ensures { IfOk result (λ nothing. nothing ≡ true → AsksNothing handler (world_in world.now)) }
+    ensures { IfOk result (λ follows. follows ≡ true → FollowsAtOnce handler (world_in world.now)) }
 {
-    if !goes_on(world.core(), handler) {
+    let core = world.core();
+    if !goes_on(core, handler) {
         return Ok(false);
     }
     match world.region(handler) {
-        Some(region) => wants_nothing(alloc, region),
+        Some(region) => wants_to_follow(alloc, core, handler, region),
         None => Ok(false),
     }
 }
@@ -88,21 +90,50 @@ fn goes_on(core: &Core, handler: HandlerNumber) -> bool
     matches!(core.pick_for(handler), Some(Job::Go))
 }
 
-/// Whether the next turn of a region whose routine goes on wants nothing. A copy of the region makes it.
+/// Whether the next turn of a handler whose routine goes on, with this region, may follow at once. A copy of the region makes it.
 ///
 /// # Errors
 /// Memory ran out.
-fn wants_nothing(alloc: Global, region: &Region<'_>) -> Result<bool, AllocError>
-    ensures { IfOk result (λ nothing. nothing ≡ true → WantsNothing region.now) }
+fn wants_to_follow(
+    alloc: Global,
+    core: &Core,
+    handler: HandlerNumber,
+    region: &Region<'_>,
+) -> Result<bool, AllocError>
+    ensures { IfOk result (λ follows. follows ≡ true → WantsToFollow handler (center_of core.now).state region.now) }
 {
     let mut copy = region.copy(alloc)?;
     let outcome = copy.play(&Job::Go, 1)?;
-    Ok(is_continue(&outcome.want))
+    Ok(may_follow(core, handler, &outcome.want))
 }
 
-/// Whether nothing is asked.
-fn is_continue(asked: &Want) -> bool
-    ensures { IsTrue result ↔ asked.now ≡ want.Continue }
+/// Whether a turn that wants this asks nothing of others, or releases what is its handler's own.
+fn may_follow(core: &Core, handler: HandlerNumber, asked: &Want) -> bool
+    ensures { result ≡ may_follow handler asked.now (center_of core.now).state }
 {
-    matches!(asked, Want::Continue)
+    match asked {
+        Want::Continue => true,
+        Want::Release(handlers) => are_own(core, handler, handlers.as_slice()),
+        Want::Wait(handlers) => are_own(core, handler, handlers.as_slice()),
+        _ => false,
+    }
+}
+
+/// Whether a handler may post to all of these.
+fn are_own(core: &Core, holder: HandlerNumber, handlers: &[HandlerNumber]) -> bool
+    ensures { result ≡ may_post_to_all holder handlers.now (center_of core.now).state }
+{
+    handlers
+        .iter()
+        .all(|handler| is_own(core, holder, *handler))
+}
+
+/// Whether a handler may post to another one.
+fn is_own(core: &Core, holder: HandlerNumber, handler: HandlerNumber) -> bool
+    ensures { result ≡ is_handler holder ((center_of core.now).state.rights.queue handler) }
+{
+    match core.holder(handler) {
+        Some(own) => own == holder,
+        None => false,
+    }
 }

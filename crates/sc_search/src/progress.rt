@@ -126,8 +126,8 @@ impl<'p> Progress<'p> {
         Ok(())
     }
 
-    /// Makes further turns of a handler in the world, which began in the state with the number: at most `most`, as long as they ask
-    /// nothing of others. Adds them.
+    /// Makes further turns of a handler in the world, which began in the state with the number: at most `most`, as long as they
+    /// may follow at once. Adds them.
     ///
     /// # Errors
     /// Memory ran out.

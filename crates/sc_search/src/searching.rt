@@ -25,14 +25,15 @@ use sc_code::Program;
 use sc_lockpass::Version;
 use std::alloc::{AllocError, Global};
 
-/// How many turns that ask nothing of others are joined with the one before them.
+/// How many turns that may follow at once are joined with the one before them.
 const MOST_JOINED: u32 = 1_000;
 
 /// Looks for an order of turns of a program, with the version's limit on handlers, that meets the aim. It gives up if
 /// it would have to keep more than this number of states, or has played 2,000 turns for each of them.
 ///
 /// First, orders that differ only in turns that touch nothing of others are played once. If nothing is found so, all
-/// are played. A turn that asks nothing of others then follows the one before it at once.
+/// are played. A turn that asks nothing of others, or releases what is its
+/// handler's own, then follows the one before it at once.
 ///
 /// # Errors
 /// Memory ran out.
@@ -83,7 +84,7 @@ fn is_undecided(finding: &Finding) -> bool
     matches!(finding, Finding::Undecided)
 }
 
-/// The search over all turns, joined with turns that ask nothing of others. If that doesn't show that each handler may go on, each
+/// The search over all turns, joined with turns that may follow at once. If that doesn't show that each handler may go on, each
 /// turn is tried by itself.
 fn search_all<W: Watch>(
     subject: Subject<'_>,

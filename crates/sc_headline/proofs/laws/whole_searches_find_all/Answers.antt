@@ -8,6 +8,6 @@ returns c =
     c.kept_alike_read_alike.ensures
     c.standing_world_is_near.ensures
     c.world_reports_as_machine.ensures
-    c.own_turns_are_movers.ensures
+    c.turns_are_movers.ensures
     c.openings_are_of_their_program.ensures
     c.runs_stay_of_their_program.ensures

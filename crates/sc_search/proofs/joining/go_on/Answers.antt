@@ -17,7 +17,7 @@ loop-preserved c =
       moves = moves_more c.args.turns.now.items c.loop.turns.items c.push.new.self.items c.args.handler (world_in c.args.world.now) (world_in c.loop.world)
           (world_in c.turn.new.self) c.loop.invariant.moves c.in_ok-turn.ensures.ok c.in_ok-push.ensures.items;
       goes = goes_more c.loop.counter c.args.handler (world_in c.args.world.now) (world_in c.loop.world) (world_in c.turn.new.self) c.loop.invariant.goes
-          (c.in_ok-asks_nothing.ensures c.if-not-branch.false) c.in_ok-turn.ensures.ok;
+          (c.in_ok-follows_at_once.ensures c.if-not-branch.false) c.in_ok-turn.ensures.ok;
       of = λ p limit is.
           c.runs_stay_of_their_program.ensures p limit (c.args.handler ∷ []) (world_in c.loop.world) (world_in c.turn.new.self) (c.loop.invariant.of p limit is)
           (world_in c.turn.new.self, c.in_ok-turn.ensures.ok, refl);

@@ -6,7 +6,7 @@ use Rattle.sc_search.specs.Joined.{GoesOnUpTo}
 use Rattle.sc_search.specs.Stops.{Moves}
 use Rattle.sc_search.proofs.joining.go_on.Given as goal
 
--- so far the handler asked nothing of others
+-- so far each turn followed at once
 abbrev pub invariant-loop : goal.invariant-loop
 invariant-loop l = record {
   moves : Moves l.fn.turns.items l.turns.items (world_in l.fn.world) (world_in l.world);
