@@ -38,7 +38,7 @@ impl Refusal {
     /// The line that reports the refusal at this place, which is that of its part of the text.
     pub fn line_at(&self, alloc: Global, place: Option<Place<'_>>) -> Result<String, AllocError>
         ensures { IfOk result (λ line. string_bytes line ≡ spec.refusal_line (code_of self.now.code)
-            (name_of self.now.code) (option_map source_spec.seen place)) }
+            (name_of self.now.code) (option_map source_spec.seen place.entry)) }
     {
         let code = self.code.code();
         let name = self.code.name();
