@@ -79,8 +79,7 @@ fn push_fault(
     diagnosis: &Diagnosis,
 ) {
     let refusal = rules_refusal(fault);
-    let place = places.place_of(fault.span.start as usize);
-    match refusal.line_at(alloc, place) {
+    match refusal.line(alloc, places.source()) {
         Ok(line) => lines.push(line.as_str()),
         Err(_) => lines.lack(),
     }

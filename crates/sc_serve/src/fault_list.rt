@@ -109,7 +109,6 @@ fn push_fault(
 ) -> Result<(), AllocError>
     ensures { OnOk result (lines.new.items ≡ lines.old.items ++ spec.fault_line places.now fault) }
 {
-    let place = places.place_of(fault.span.start as usize);
-    let line = rules_refusal(fault).line_at(alloc, place)?;
+    let line = rules_refusal(fault).line(alloc, places.source())?;
     lines.extend_from_slice(line.as_bytes())
 }

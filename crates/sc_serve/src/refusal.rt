@@ -3,7 +3,7 @@
 ghost use Rattle.std.specs.Prelude.{◌≡◌, IfOk, string_bytes};
 ghost use Rattle.std.specs.Option.{option_map};
 ghost use Rattle.sc_rules.specs.RefusalText.{code_of, name_of};
-ghost use Rattle.sc_source.specs.Source as source_spec;
+ghost use Rattle.sc_source.specs.Source.{place_at};
 ghost use Rattle.sc_serve.specs.Refusal as spec;
 
 use sc_class::ClassFault;
@@ -26,23 +26,14 @@ impl Refusal {
     /// the text begins, or without a place.
     pub fn line(&self, alloc: Global, source: &Source) -> Result<String, AllocError>
         ensures { IfOk result (λ line. string_bytes line ≡ spec.refusal_line (code_of self.now.code)
-            (name_of self.now.code) (source_spec.place_at source.now self.now.span)) }
-    {
-        let place = match self.span {
-            Some(span) => source.place_of(span.start as usize),
-            None => None,
-        };
-        self.line_at(alloc, place)
-    }
-
-    /// The line that reports the refusal at this place, which is that of its part of the text.
-    pub fn line_at(&self, alloc: Global, place: Option<Place<'_>>) -> Result<String, AllocError>
-        ensures { IfOk result (λ line. string_bytes line ≡ spec.refusal_line (code_of self.now.code)
-            (name_of self.now.code) (option_map source_spec.seen place.entry)) }
+            (name_of self.now.code) (place_at source.now self.now.span)) }
     {
         let code = self.code.code();
         let name = self.code.name();
-        match place {
+        match self
+            .span
+            .and_then(|span| source.place_of(span.start as usize))
+        {
             Some(Place { file, line, column }) => {
                 format!(in alloc; "refused {code} {name} {file}:{line}:{column}\n")
             }
