@@ -27,7 +27,7 @@ use sc_typing::{
 };
 use std::alloc::Global;
 
-mod formulas;
+pub mod formulas;
 
 /// The class whose text is judged, by its number, with the tables of its system and the marks of pure functions.
 #[derive(Drop)]

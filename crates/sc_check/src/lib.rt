@@ -5,7 +5,8 @@
 //! [`pure_functions`] finds the pure functions.
 //!
 //! Parts of a system are judged on their own by [`ClassText`], [`judge_clause`], [`judge_condition`],
-//! [`judge_if_condition`], [`judge_head`] and [`judge_instruction`].
+//! [`judge_if_condition`], [`judge_head`] and [`judge_instruction`]. [`may_be_formula`] says whether a clause of an
+//! invariant has its form, and [`clause_span`] where it stands.
 #![tactic(auto)]
 
 mod checked;
@@ -15,6 +16,7 @@ mod purity;
 
 pub use checked::{Checked, check};
 pub use declarations::ClassText;
+pub use declarations::formulas::{clause_span, may_be_formula};
 pub use instructions::blocks::judge_head;
 pub use instructions::conditions::{judge_clause, judge_condition, judge_if_condition};
 pub use instructions::judge_instruction;

@@ -10,9 +10,9 @@ ghost use Rattle.sc_faults.specs.Internal.Listing as listing;
 
 use crate::expressions::add_expression;
 use crate::features::{add_feature, context_of};
-use crate::formulas::{add_form, clause_span, may_be_formula};
+use crate::formulas::add_form;
 use crate::found::{add, add_alone};
-use sc_check::{ClassText, pure_functions};
+use sc_check::{ClassText, clause_span, may_be_formula, pure_functions};
 use sc_class::Tables;
 use sc_rules::{Context, Fault, Position};
 use sc_tree::{Class, Clause, Feature, Name};

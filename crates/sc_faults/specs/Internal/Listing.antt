@@ -3,7 +3,7 @@
 use Rattle.std.specs.Prelude.{◌+◌, ℕ, Bool, true, false, if◌then◌else◌, List, [], ◌∷◌, ◌++◌, Option, Some, None, is_some, Ok, Err}
 use Rattle.sc_text.specs.declared.token.Span.{Span}
 use Rattle.sc_tree.specs.declared.expression.UnaryOperator.{UnaryOperator}
-use Rattle.sc_tree.specs.Plain.{System, Class, Feature, FeatureKind, Attribute, Routine, Declaration, DeclaredType, Clause, Head, Name, Variable, CreationCall, Expr, Void, Call, Unary, Binary, ObjectTest, Target, no_target, target, Exprs, no_exprs, expr_then, Instr, Assign, PrintText, CallRoutine, Create, If, Loop, Check, Block, Instrs, no_instrs, instr_then, Branches, no_branches, branch_then}
+use Rattle.sc_tree.specs.Plain.{System, Class, Feature, FeatureKind, Attribute, Routine, Declaration, DeclaredType, Clause, Head, Name, Variable, CreationCall, Expr, Call, Unary, Binary, ObjectTest, Target, no_target, target, Exprs, no_exprs, expr_then, Instr, Assign, PrintText, CallRoutine, Create, If, Loop, Check, Block, Instrs, no_instrs, instr_then, Branches, no_branches, branch_then}
 use Rattle.sc_rules.specs.declared.entity_types.entity_type.EntityType.{EntityType}
 use Rattle.sc_rules.specs.declared.rule.Rule.TheVariants.{ArgumentType, NotCreation, CreationTag, TagName, InvariantForm, PreconditionArgument, ObjectTestPlace}
 use Rattle.sc_rules.specs.declared.fault.Fault.{Fault}
@@ -290,10 +290,6 @@ faults_of_features s pure k fs = faults_of_each (λ (f : Feature). faults_of_kin
 
 abbrev pub faults_of_creator : System → ℕ → Name → List Fault
 faults_of_creator s k x = faults_at (judge_creator s k x) []
-
-abbrev pub is_void : Expr → Bool
-is_void (Void p) = true
-is_void _ = false
 
 -- the form of a clause at this place, of which this was reported
 abbrev pub faults_of_form : Judged (Unit {0}) → Bool → Span → List Fault
