@@ -27,7 +27,7 @@ _scoop_commands() {
 _scoop_words() {
     case $words[1] in
     check)
-        _arguments '--all[Lists a broken rule of each declared type, clause, instruction and expression, and warns]' \
+        _arguments '--all[Lists each place at which a rule is broken, and warns]' \
             '--explain[Shows where a refusal stands, on standard error; the default where that is a terminal]' \
             '--no-explain[Leaves that out]' \
             '--format=[How the answer is written: as lines, or as one object of JSON; with `--all` as one array]:FORMAT:(text json)' \
@@ -39,6 +39,9 @@ _scoop_words() {
         _arguments '--workers=[How many threads play the handlers, 1 to 8]:N:' \
             '--turns=[The most turns that are played, 1 to 10000000]:N:' \
             '--output-limit=[Ends the run once all that is printed has more bytes than this, 0 to 1000000000000]:BYTES:' \
+            '--seed=[Picks the handler of each turn at random, by this seed, 0 to 1000000000000]:N:' \
+            '--times=[Plays at most this many runs, by one seed after the other, and lists their reports, 1 to 1000000000]:K:' \
+            '--until=[Ends with the first run that shows this, and reports it; `differs`: another report than the first]:WHAT:(fails stuck refused differs)' \
             '--record=[Writes the record of the run to this file, for `scoop replay`]:PATH:_files' \
             '--audit[Plays the record by one thread, and says whether that ends in the same]' \
             '--trace=-[Tells each turn that concerns others as it is made, or only what is printed, on standard error]::WHAT:(all print)' \

@@ -3,3 +3,4 @@ pub mod GivenLemmas
 pub mod OptionLemmas
 pub mod RootLemmas
 pub mod Rows
+pub mod SeedLemmas

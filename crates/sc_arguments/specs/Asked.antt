@@ -12,6 +12,9 @@ use Rattle.sc_arguments.specs.declared.arguments.Invocation.{Invocation}
 use Rattle.sc_arguments.specs.declared.arguments.Invocation.TheVariants as invocation
 use Rattle.sc_arguments.specs.declared.arguments.ReplayOptions.{ReplayOptions}
 use Rattle.sc_arguments.specs.declared.arguments.RunOptions.{RunOptions}
+use Rattle.sc_arguments.specs.declared.arguments.chance.ChanceOptions.{ChanceOptions}
+use Rattle.sc_arguments.specs.declared.arguments.chance.Until.{Until}
+use Rattle.sc_arguments.specs.declared.arguments.chance.Until.TheVariants as until
 use Rattle.sc_arguments.specs.declared.arguments.format.Format.{Format}
 use Rattle.sc_arguments.specs.declared.arguments.format.Format.TheVariants.{Json, Text}
 use Rattle.sc_arguments.specs.declared.arguments.searching.SearchOptions.{SearchOptions}
@@ -56,6 +59,19 @@ abbrev pub IsLimitBy : Option (List ℕ) → Option ℕ → Type 0
 IsLimitBy None limit = limit ≡ None
 IsLimitBy (Some text) limit = (n : ℕ) × (limit ≡ Some n) × Writes text n × (n ≤ 1000000000000)
 
+-- what ends runs by chance, by the value of `--until`: `fails`, `stuck`, `refused`, or else a report that differs
+abbrev pub until_named : List ℕ → Until
+until_named word =
+    if bytes_eq word (codes "fails") then until.Fails
+    else if bytes_eq word (codes "stuck") then until.Stuck
+    else if bytes_eq word (codes "refused") then until.Refused else until.Differs
+
+-- It is what `--until` names; without it the first run ends them, or nothing if `--times` says how many there are.
+abbrev pub until_by : Option (List ℕ) → Bool → Until
+until_by (Some word) has_times = until_named word
+until_by None true = until.Never
+until_by None false = until.First
+
 -- ---- the options of each command
 
 pub record AreCheckOptions (words : List (List ℕ)) (options : CheckOptions) : Type 0 where
@@ -70,6 +86,15 @@ pub record AreRunOptions (words : List (List ℕ)) (options : RunOptions) : Type
   pub output_limit : IsLimitBy (value_of (codes "--output-limit") words) options.output_limit
   pub record_name : option_map (λ name. name.now) options.record ≡ value_of (codes "--record") words
   pub is_audited : options.is_audited ≡ has_option (codes "--audit") words
+
+pub record AreChanceOptions (words : List (List ℕ)) (options : ChanceOptions) : Type 0 where
+  pub root : IsRootIn words options.root
+  pub format : options.format ≡ format_in words
+  pub seed : IsLimitBy (value_of (codes "--seed") words) (Some options.seed)
+  pub times : WritesUpTo 1000000000 (value_or (codes "--times") (codes "1") words) options.times
+  pub ends : options.until ≡ until_by (value_of (codes "--until") words) (has_option (codes "--times") words)
+  pub turns : WritesUpTo 10000000 (value_or (codes "--turns") (codes "1000000") words) options.turns
+  pub record_name : option_map (λ name. name.now) options.record ≡ value_of (codes "--record") words
 
 pub record AreReplayOptions (words : List (List ℕ)) (options : ReplayOptions) : Type 0 where
   pub root : IsRootIn words options.root
@@ -118,6 +143,9 @@ IsAskedOf name words (invocation.Layout is_written names) =
     (name ≡ codes "format") × AreGivenIn words names.items × (is_written ≡ has_option (codes "--write") words)
 IsAskedOf name words (invocation.Run options names) =
     (name ≡ codes "run") × AreGivenIn words names.items × AreRunOptions words options
+    × (value_of (codes "--seed") words ≡ None)
+IsAskedOf name words (invocation.Chance options names) =
+    (name ≡ codes "run") × AreGivenIn words names.items × AreChanceOptions words options
 IsAskedOf name words (invocation.Replay options names) =
     (name ≡ codes "replay") × (options.record.now ∷ texts_of names.items ≡ given_in false words)
     × AreReplayOptions words options

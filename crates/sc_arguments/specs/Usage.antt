@@ -16,4 +16,5 @@ TellsError e (usage.Arguments said) = (said ≡ e) × (kind_of e ≢ kind.OutOfM
 TellsError e usage.NoCommand = ⊥
 TellsError e usage.BadRoot = ⊥
 TellsError e usage.TracedWorkers = ⊥
+TellsError e usage.SeededWorkers = ⊥
 TellsError e usage.TwoReadings = ⊥

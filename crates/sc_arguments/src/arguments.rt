@@ -1,5 +1,6 @@
 //! The arguments of a command line: what is asked for, and of which files.
 
+mod chance;
 mod checking;
 mod format;
 mod formatting;
@@ -18,6 +19,7 @@ ghost use Rattle.sc_arguments.specs.Asked.{AreCheckOptions, AreReplayOptions, Ar
 ghost use Rattle.sc_arguments.specs.Usage as spec;
 ghost use Rattle.sc_arguments.specs.Words.{given_in};
 
+use crate::arguments::chance::{SEED, TIMES, UNTIL, read_running};
 use crate::arguments::checking::{CHECK, read_checking};
 use crate::arguments::format::read_format;
 use crate::arguments::formatting::{FORMATTING, read_formatting};
@@ -32,6 +34,7 @@ use crate::arguments::searching::{SEARCH, read_search};
 use crate::arguments::testing::{TEST, read_tests};
 use crate::arguments::tracing::{read_trace, read_trace_by};
 use crate::arguments::words::{has_option, value_of, value_or};
+pub use chance::{ChanceOptions, Until};
 use clap::ArgMatches;
 use clap::builder::ValueParser;
 use clap::error::ErrorKind;
@@ -54,6 +57,8 @@ pub enum Invocation<'a> {
     CheckAll(CheckOptions, Vec<&'a str>),
     /// To check the system of these files and run it.
     Run(RunOptions<'a>, Vec<&'a str>),
+    /// To check the system of these files and run it by chance.
+    Chance(ChanceOptions<'a>, Vec<&'a str>),
     /// To play a record with the system of these files.
     Replay(ReplayOptions<'a>, Vec<&'a str>),
     /// To play the system of these files in every order of turns.
@@ -132,6 +137,9 @@ pub enum UsageFault {
     /// A run by several workers is to be traced.
     #[error("only a run by one worker can be traced")]
     TracedWorkers,
+    /// Several workers are to run by chance.
+    #[error("only a run by one worker has a seed")]
+    SeededWorkers,
     /// What was read of the words differs from what they say, which never comes.
     #[error("the words were read in two ways")]
     TwoReadings,
@@ -239,7 +247,16 @@ The system is checked first, as by `scoop check`. The run begins with the root
 procedure and goes on turn by turn, until no handler has anything to do, the turns
 are used up, or more is printed than may be. By several workers handlers are played
 at once: then the order of their turns is another one each time, and the record says
-which it was. The report has for each handler
+which it was. By `--seed` the handler of each turn is picked at random among those that
+have something to do, and a seed gives the same run on every machine. With `--times` or
+`--until` several such runs are played, by one seed after the other. The first that shows
+what `--until` names is reported after a line with its seed. If none does, there is a
+line `reports COUNT`, and each report once, after a line
+
+  report NUMBER by seed N in COUNT runs
+
+with the first seed that led to it; the exit status is then 0. The report has for each
+handler
 
   handler NUMBER STATUS refused COUNT output BYTES
 
@@ -348,7 +365,7 @@ const COMMANDS: [Described; 8] = [
 ];
 
 /// What `run` takes.
-const RUN_TAKES: [Taken; 11] = [
+const RUN_TAKES: [Taken; 14] = [
     Taken {
         name: "--workers",
         help: WORKERS_HELP,
@@ -366,6 +383,9 @@ const RUN_TAKES: [Taken; 11] = [
         ..OPTION
     },
     OUTPUT_LIMIT,
+    SEED,
+    TIMES,
+    UNTIL,
     Taken {
         help: KEPT_HELP,
         ..KEPT
@@ -455,10 +475,7 @@ fn read_command<'a, S: AsStr>(
         }
         "print" => Ok(Invocation::OnFiles(Command::Print, given)),
         "format" => Ok(read_formatting(words, given)),
-        "run" => {
-            let run = read_run(alloc, words, options, is_explained)?;
-            Ok(Invocation::Run(run, given))
-        }
+        "run" => read_running(alloc, words, given, options, is_explained),
         "replay" => read_replay(alloc, words, given.as_slice(), options, is_explained),
         "search" => {
             let search = read_search(alloc, words, is_explained)?;
@@ -494,7 +511,7 @@ fn read_check<S: AsStr>(
 }
 
 /// What the words behind `run` ask for.
-fn read_run<'a, S: AsStr>(
+pub fn read_run<'a, S: AsStr>(
     alloc: Global,
     words: &'a [S],
     options: &ArgMatches<'_>,

@@ -7,6 +7,7 @@
 mod arguments;
 
 pub use arguments::{
-    CheckOptions, Command, Format, Invocation, ReplayOptions, RunOptions, SearchOptions, Sought,
-    TestFormat, TestOptions, Trace, UsageFault, ask_for_help, read_arguments,
+    ChanceOptions, CheckOptions, Command, Format, Invocation, ReplayOptions, RunOptions,
+    SearchOptions, Sought, TestFormat, TestOptions, Trace, Until, UsageFault, ask_for_help,
+    read_arguments,
 };

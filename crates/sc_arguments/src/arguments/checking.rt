@@ -16,10 +16,9 @@ Says whether a system is well formed.
 
 Writes `ok`, or one line with the first rule that is broken and where:
 `refused CODE Name FILE:LINE:COLUMN`. With `--all` the check goes on: there is
-such a line for each declared type, clause, instruction and expression in which a
-rule is broken. If the text isn't grammatical, or its classes are at fault, there is
-one line still. On standard error `--all` warns of what is allowed and is hardly
-meant: `warning: MESSAGE FILE:LINE:COLUMN`.";
+such a line for each place at which a rule is broken. If the text isn't grammatical,
+or its classes are at fault, there is one line still. On standard error `--all` warns
+of what is allowed and is hardly meant: `warning: MESSAGE FILE:LINE:COLUMN`.";
 
 const CHECK_AFTER_HELP: &str = "\
 Limits:
@@ -32,8 +31,7 @@ Exit status:
   2  an argument, a file or the output is at fault
   5  memory ran out";
 
-const ALL_HELP: &str =
-    "Lists a broken rule of each declared type, clause, instruction and expression, and warns";
+const ALL_HELP: &str = "Lists each place at which a rule is broken, and warns";
 
 const CHECK_EXPLAIN_HELP: &str =
     "Shows where a refusal stands, on standard error; the default where that is a terminal";

@@ -29,6 +29,10 @@ pub struct Taken {
     pub needs_equals: bool,
     /// The options that a use of this one undoes.
     pub undone: &'static [&'static str],
+    /// The options that can't be used beside this one.
+    pub excluded: &'static [&'static str],
+    /// The options without which this one can't be used.
+    pub needed: &'static [&'static str],
 }
 
 /// An option that takes no value.
@@ -44,6 +48,8 @@ pub const FLAG: Taken = Taken {
     missing: &[],
     needs_equals: false,
     undone: &[],
+    excluded: &[],
+    needed: &[],
 };
 
 /// An option that takes any text.
@@ -157,7 +163,9 @@ pub fn argument<'a>(alloc: Global, taken: &Taken) -> Result<Arg<'a>, AllocError>
         .value_parser(taken.parser)
         .default_values(taken.default)
         .default_missing_values(taken.missing)
-        .require_equals(taken.needs_equals);
+        .require_equals(taken.needs_equals)
+        .conflicts_with_all(taken.excluded)?
+        .requires_all(taken.needed)?;
     let argument = match long {
         Some(name) => argument.long(name),
         None => argument,

@@ -107,6 +107,9 @@ pub fn has_value(word: &str) -> bool
         || word == "--format"
         || word == "--for"
         || word == "--states"
+        || word == "--seed"
+        || word == "--times"
+        || word == "--until"
 }
 
 /// Whether a word is an option. `-` alone is a file.
