@@ -1,0 +1,5 @@
+pub mod Runs
+pub mod Sought
+pub mod Stages
+pub mod Outcomes
+pub mod Found
