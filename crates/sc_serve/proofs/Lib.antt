@@ -1,7 +1,8 @@
+mod RunReports
 pub mod AllFaultLemmas
 pub mod AnswerLemmas
 pub mod Headings
-mod RunReports
+pub mod RefusalLemmas
 pub mod SearchLemmas
 pub mod ServedLemmas
 pub mod TestLemmas

@@ -79,7 +79,7 @@ fn push_fault(
     diagnosis: &Diagnosis,
 ) {
     let refusal = rules_refusal(fault);
-    match refusal.line(alloc, places.source()) {
+    match refusal.line_in(alloc, places) {
         Ok(line) => lines.push(line.as_str()),
         Err(_) => lines.lack(),
     }

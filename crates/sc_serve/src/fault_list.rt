@@ -109,6 +109,6 @@ fn push_fault(
 ) -> Result<(), AllocError>
     ensures { OnOk result (lines.new.items ≡ lines.old.items ++ spec.fault_line places.now fault) }
 {
-    let line = rules_refusal(fault).line(alloc, places.source())?;
+    let line = rules_refusal(fault).line_in(alloc, places)?;
     lines.extend_from_slice(line.as_bytes())
 }

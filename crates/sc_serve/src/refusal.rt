@@ -1,14 +1,15 @@
 //! Refusals of a source text, and the line that reports one.
 
-ghost use Rattle.std.specs.Prelude.{◌≡◌, IfOk, string_bytes};
+ghost use Rattle.std.specs.Prelude.{◌≡◌, IfOk, Some, string_bytes};
 ghost use Rattle.std.specs.Option.{option_map};
 ghost use Rattle.sc_rules.specs.RefusalText.{code_of, name_of};
-ghost use Rattle.sc_source.specs.Source.{place_at};
+ghost use Rattle.sc_source.specs.Source.{place_at, seen};
 ghost use Rattle.sc_serve.specs.Refusal as spec;
 
 use sc_class::ClassFault;
 use sc_frontend::Rejection;
 use sc_parse::ParseFault;
+use sc_places::Places;
 use sc_rules::{Fault, RefusalCode};
 use sc_source::source::{Place, Source};
 use sc_text::{LexFault, Span};
@@ -28,17 +29,23 @@ impl Refusal {
         ensures { IfOk result (λ line. string_bytes line ≡ spec.refusal_line (code_of self.now.code)
             (name_of self.now.code) (place_at source.now self.now.span)) }
     {
-        let code = self.code.code();
-        let name = self.code.name();
-        match self
-            .span
-            .and_then(|span| source.place_of(span.start as usize))
-        {
-            Some(Place { file, line, column }) => {
-                format!(in alloc; "refused {code} {name} {file}:{line}:{column}\n")
-            }
-            None => format!(in alloc; "refused {code} {name}\n"),
-        }
+        let place = match self.span {
+            Some(span) => source.place_of(span.start as usize),
+            None => None,
+        };
+        line_at(alloc, self.code.code(), self.code.name(), place)
+    }
+
+    /// The line that reports the refusal, as `line` returns it. The place is looked up in the table of the text's lines.
+    pub fn line_in(&self, alloc: Global, places: &Places<'_>) -> Result<String, AllocError>
+        ensures { IfOk result (λ line. string_bytes line ≡ spec.refusal_line (code_of self.now.code)
+            (name_of self.now.code) (place_at places.now self.now.span)) }
+    {
+        let place = match self.span {
+            Some(span) => places.place_of(span.start as usize),
+            None => None,
+        };
+        line_at(alloc, self.code.code(), self.code.name(), place)
     }
 
     /// How a rejection is reported, if it has a code. A program that would be too long has none; and running out of
@@ -54,6 +61,37 @@ impl Refusal {
             Rejection::CodeTooLong | Rejection::OutOfMemory => None,
         }
     }
+}
+
+/// The line that reports a refusal of this code and name, at this place if there is one.
+fn line_at(
+    alloc: Global,
+    code: &str,
+    name: &str,
+    place: Option<Place<'_>>,
+) -> Result<String, AllocError>
+    ensures { IfOk result (λ line. string_bytes line ≡ spec.refusal_line code.now name.now (option_map seen
+        place.entry)) }
+{
+    match place {
+        Some(Place { file, line, column }) => placed_line(alloc, code, name, file, line, column),
+        None => format!(in alloc; "refused {code} {name}\n"),
+    }
+}
+
+/// The line that reports a refusal of this code and name, at a place.
+fn placed_line(
+    alloc: Global,
+    code: &str,
+    name: &str,
+    file: &str,
+    line: usize,
+    column: usize,
+) -> Result<String, AllocError>
+    ensures { IfOk result (λ text. string_bytes text ≡ spec.refusal_line code.now name.now
+        (Some (record { file = file.now; line = line; column = column }))) }
+{
+    format!(in alloc; "refused {code} {name} {file}:{line}:{column}\n")
 }
 
 fn text_refusal(fault: &LexFault) -> Option<Refusal>
