@@ -1,8 +1,9 @@
-mod RunReports
 pub mod AllFaultLemmas
 pub mod AnswerLemmas
+pub mod ChanceLemmas
 pub mod Headings
 pub mod RefusalLemmas
+mod RunReports
 pub mod SearchLemmas
 pub mod ServedLemmas
 pub mod TestLemmas

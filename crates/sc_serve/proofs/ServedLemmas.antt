@@ -15,6 +15,7 @@ use Rattle.sc_arguments.specs.declared.arguments.Invocation.{Invocation}
 use Rattle.sc_arguments.specs.declared.arguments.Invocation.TheVariants as invocation
 use Rattle.sc_arguments.specs.declared.arguments.ReplayOptions.{ReplayOptions}
 use Rattle.sc_arguments.specs.declared.arguments.RunOptions.{RunOptions}
+use Rattle.sc_arguments.specs.declared.arguments.chance.ChanceOptions.{ChanceOptions}
 use Rattle.sc_arguments.specs.declared.arguments.format.Format.{Format}
 use Rattle.sc_arguments.specs.declared.arguments.format.Format.TheVariants.{Text}
 use Rattle.sc_arguments.specs.declared.arguments.searching.SearchOptions.{SearchOptions}
@@ -22,6 +23,7 @@ use Rattle.sc_arguments.specs.declared.arguments.testing.TestOptions.{TestOption
 use Rattle.sc_class.specs.View.{root_of}
 use Rattle.sc_serve.specs.AllFaults.{IsAllOn}
 use Rattle.sc_serve.specs.Answer.{IsAnswerOn, IsReplayOn, IsRunOn}
+use Rattle.sc_serve.specs.Chance.{IsChanceOn}
 use Rattle.sc_serve.specs.Search.{IsSearchOn}
 use Rattle.sc_serve.specs.Tests.{IsTestOn, IsTestShaped}
 use Rattle.sc_serve.specs.Served.{Answers, IsDelivered, IsExplained, IsFormatted, IsGivenUp, IsHelp, IsResponse, IsServed, format_asked, held_by, named}
@@ -49,6 +51,12 @@ pub run_answered : (bytes_of : List ℕ → Option (List ℕ)) (options : RunOpt
     IfOk r (λ answer. answer.object ≡ None) → IfOk r (Answers bytes_of (invocation.Run options names))
 run_answered bytes_of options names (Ok answer) is plain = (is, λ text. plain)
 run_answered bytes_of options names (Err fault) is plain = tt
+
+pub chance_answered : (bytes_of : List ℕ → Option (List ℕ)) (options : ChanceOptions) (names : Vec (Bor (List ℕ)) Global) (r : Result Answer Fault) →
+    IfOk r (λ answer. IsChanceOn options (named names.items) (held_by bytes_of names.items) answer.text.items answer.exit answer.record) →
+    (options.format ≡ Text → IfOk r (λ answer. answer.object ≡ None)) → IfOk r (Answers bytes_of (invocation.Chance options names))
+chance_answered bytes_of options names (Ok answer) is plain = (is, plain)
+chance_answered bytes_of options names (Err fault) is plain = tt
 
 pub replay_answered : (bytes_of : List ℕ → Option (List ℕ)) (options : ReplayOptions) (names : Vec (Bor (List ℕ)) Global) (r : Result Answer Fault) →
     IfOk r (λ answer. IsReplayOn (root_of options.root) (bytes_of options.record.now) (named names.items) (held_by bytes_of names.items)
@@ -91,6 +99,11 @@ formatted bytes_of (invocation.CheckAll options names) format answer (Ok told) e
 formatted bytes_of (invocation.Run options names) format answer (Ok told) e is same = (
   moved (λ text exit kept. IsRunOn options (named names.items) (held_by bytes_of names.items) text.items exit kept) answer.text told.text answer.exit
       told.exit answer.record told.record same.text same.exit same.kept is.0,
+  λ text. same.object (e ∙ text) ∙ is.1 text,
+)
+formatted bytes_of (invocation.Chance options names) format answer (Ok told) e is same = (
+  moved (λ text exit kept. IsChanceOn options (named names.items) (held_by bytes_of names.items) text.items exit kept) answer.text told.text
+      answer.exit told.exit answer.record told.record same.text same.exit same.kept is.0,
   λ text. same.object (e ∙ text) ∙ is.1 text,
 )
 formatted bytes_of (invocation.Replay options names) format answer (Ok told) e is same =

@@ -1,5 +1,6 @@
 pub mod AllFaults
 pub mod Answer
+pub mod Chance
 pub mod Layouts
 pub mod Refusal
 pub mod Replaced

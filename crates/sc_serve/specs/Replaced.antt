@@ -32,6 +32,7 @@ abbrev pub recorded_to : Invocation → Option (List ℕ)
 recorded_to (invocation.OnFiles what names) = None
 recorded_to (invocation.CheckAll options names) = None
 recorded_to (invocation.Run options names) = option_map (λ n. n.now) options.record
+recorded_to (invocation.Chance options names) = option_map (λ n. n.now) options.record
 recorded_to (invocation.Replay options names) = None
 recorded_to (invocation.Search options names) = option_map (λ n. n.now) options.record
 recorded_to (invocation.Test options names) = None

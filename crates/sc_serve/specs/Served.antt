@@ -17,6 +17,7 @@ use Rattle.sc_class.specs.View.{root_of}
 use Rattle.sc_explain_text.specs.Page.{IsPageOf}
 use Rattle.sc_serve.specs.AllFaults.{IsAllOn}
 use Rattle.sc_serve.specs.Answer.{IsAnswerOn, IsReplayOn, IsRunOn}
+use Rattle.sc_serve.specs.Chance.{IsChanceOn}
 use Rattle.sc_serve.specs.Search.{IsSearchOn}
 use Rattle.sc_serve.specs.Tests.{IsTestOn, shape_of}
 use Rattle.sc_serve.specs.declared.serve.Answer.{Answer}
@@ -35,6 +36,7 @@ abbrev pub format_asked : Invocation → Format
 format_asked (invocation.OnFiles what names) = format_of what
 format_asked (invocation.CheckAll options names) = options.format
 format_asked (invocation.Run options names) = options.format
+format_asked (invocation.Chance options names) = options.format
 format_asked (invocation.Replay options names) = options.format
 format_asked (invocation.Search options names) = options.format
 format_asked (invocation.Test options names) = shape_of options.format
@@ -70,6 +72,9 @@ Answers bytes_of (invocation.CheckAll options names) answer =
     × (answer.record ≡ None) × IsAs options.format answer
 Answers bytes_of (invocation.Run options names) answer =
     IsRunOn options (named names.items) (held_by bytes_of names.items) answer.text.items answer.exit answer.record
+    × IsAs options.format answer
+Answers bytes_of (invocation.Chance options names) answer =
+    IsChanceOn options (named names.items) (held_by bytes_of names.items) answer.text.items answer.exit answer.record
     × IsAs options.format answer
 Answers bytes_of (invocation.Replay options names) answer =
     IsReplayOn (root_of options.root) (bytes_of options.record.now) (named names.items) (held_by bytes_of names.items)

@@ -1,8 +1,9 @@
 //! Answers as objects of JSON, each on a line.
 //!
-//! Except for the verdict of a search the object is made of the lines that would be written, so it says what they
+//! Except for the verdict of a search and for runs by chance the object is made of the lines that would be written, so it says what they
 //! say. The members of an object are in the order of their names.
 
+mod chance;
 mod faults;
 mod quoting;
 mod refused;
@@ -11,6 +12,7 @@ mod verdict;
 
 use crate::json::refused::push_refusal;
 use crate::json::report::push_report;
+pub use chance::{reports_object, run_object};
 pub use faults::faults_array;
 use sc_explain_text::Lines;
 use std::alloc::{AllocError, Global};

@@ -7,6 +7,7 @@
 #![tactic(auto)]
 
 mod all_faults;
+mod chance;
 mod delivery;
 mod explaining;
 mod fault_list;

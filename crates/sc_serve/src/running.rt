@@ -308,7 +308,7 @@ fn note_of(
 }
 
 /// The record that is to be written, where a file is named for it.
-fn recording_of<'a>(name: Option<&'a str>, lines: Vec<RecordLine>) -> Option<Recording<'a>>
+pub fn recording_of<'a>(name: Option<&'a str>, lines: Vec<RecordLine>) -> Option<Recording<'a>>
     ensures { kept_of result ≡ asked_of (option_map (λ n. n.now) name.entry) lines.items }
 {
     match name {

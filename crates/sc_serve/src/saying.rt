@@ -41,6 +41,9 @@ fn template_of(fault: &Fault<'_>) -> &'static str {
         Fault::Usage(UsageFault::TracedWorkers) => {
             "a run by several workers can't be traced: leave out --workers or --trace\n"
         }
+        Fault::Usage(UsageFault::SeededWorkers) => {
+            "a run by several workers has no seed: leave out --workers or --seed\n"
+        }
         Fault::Usage(UsageFault::TwoReadings) => "the arguments can be read in two ways\n",
         Fault::NoCode(_) => "no code ~\n`scoop explain` lists the codes\n",
         Fault::NoRecord(_) => "~ is there and is no record: name another file\n",

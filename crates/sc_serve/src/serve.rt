@@ -8,6 +8,7 @@ ghost use Rattle.sc_serve.specs.Answer.{IsAnswerOn, IsAnswerTo, IsInLayout, IsRe
 ghost use Rattle.sc_serve.specs.Served.{Answers, IsExplained, IsFormatted, IsGivenUp, IsHelp, IsResponse, IsServed, format_asked, format_of};
 
 use crate::all_faults::answer_all_faults;
+use crate::chance::answer_chance;
 use crate::delivery::deliver;
 use crate::explaining::{explanation, too_long_note};
 use crate::json::answer_object;
@@ -256,6 +257,9 @@ fn answer_unformatted<'a, R: Threads + Wait + Clock + Sync, F: Files, W: Watch +
         Invocation::Run(options, names) => {
             answer_run(rt, alloc, options, files, names.as_slice(), watch)
         }
+        Invocation::Chance(options, names) => {
+            answer_chance(alloc, options, files, names.as_slice())
+        }
         Invocation::Replay(options, names) => {
             answer_replay(alloc, options, files, names.as_slice(), watch)
         }
@@ -280,6 +284,7 @@ fn format_asked(invocation: &Invocation<'_>) -> Format
         Invocation::OnFiles(command, _) => format_of(command),
         Invocation::CheckAll(options, _) => options.format,
         Invocation::Run(options, _) => options.format,
+        Invocation::Chance(options, _) => options.format,
         Invocation::Replay(options, _) => options.format,
         Invocation::Search(options, _) => options.format,
         Invocation::Test(options, _) => shape_of(options.format),

@@ -32,6 +32,9 @@ pub fn check_target<'a, F: Files>(
         Invocation::Run(options, names) => {
             check_record(alloc, files, options.record, names.as_slice())
         }
+        Invocation::Chance(options, names) => {
+            check_record(alloc, files, options.record, names.as_slice())
+        }
         Invocation::Search(options, names) => {
             check_record(alloc, files, options.record, names.as_slice())
         }

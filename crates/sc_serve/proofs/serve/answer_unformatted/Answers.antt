@@ -1,6 +1,6 @@
 use Rattle.std.proofs.Common.{IfOk, subst, sym}
 use Rattle.sc_arguments.specs.declared.arguments.Invocation.{Invocation}
-use Rattle.sc_serve.proofs.ServedLemmas.{all_answered, files_answered, replay_answered, run_answered, search_answered, tests_answered}
+use Rattle.sc_serve.proofs.ServedLemmas.{all_answered, chance_answered, files_answered, replay_answered, run_answered, search_answered, tests_answered}
 use Rattle.sc_serve.specs.Served.{Answers}
 use Rattle.sc_serve.proofs.serve.answer_unformatted.Goals as goal
 
@@ -35,6 +35,14 @@ returns-in-Run g c =
     subst P (sym c.in-Run.is)
     (run_answered (g.F.Files.bytes_of c.args.files.now) c.in-Run.options c.in-Run.names c.answer_run.result
     (rw c.as_slice-in-Run.ensures.value at c.answer_run.ensures.answer) c.answer_run.ensures.object)
+
+-- what is answered to runs by chance
+pub returns-in-Chance : goal.returns-in-Chance
+returns-in-Chance g c =
+    let P : Invocation → Type 0 = λ what. IfOk c.answer_chance.result (Answers (g.F.Files.bytes_of c.args.files.now) what) in
+    subst P (sym c.in-Chance.is)
+    (chance_answered (g.F.Files.bytes_of c.args.files.now) c.in-Chance.options c.in-Chance.names c.answer_chance.result
+    (rw c.as_slice-in-Chance.ensures.value at c.answer_chance.ensures.answer) c.answer_chance.ensures.object)
 
 -- what is answered to a search
 pub returns-in-Search : goal.returns-in-Search
