@@ -18,9 +18,12 @@ use Rattle.sc_search.specs.declared.progress.Stop.{Stop}
 use Rattle.sc_search.specs.declared.progress.Stop.TheVariants as stop
 use Rattle.sc_search.specs.declared.verdict.Finding.{Finding}
 use Rattle.sc_search.specs.declared.verdict.Finding.TheVariants as finding
+use Rattle.sc_search.specs.declared.verdict.GivenUp.{GivenUp}
+use Rattle.sc_search.specs.declared.verdict.Reason.{Reason}
+use Rattle.sc_search.specs.declared.verdict.Reason.TheVariants as reason
 use Rattle.sc_search.specs.declared.verdict.Verdict.{Verdict}
 use Rattle.sc_search.specs.Aims.{AreStuck, HasFailed, HasRefused, IsMet, IsMetBy, TellsRefusal, tells_failure}
-use Rattle.sc_search.specs.Limits.{AllMet, AllPlayed, ArePlayed, GivesUp, IsOrder, NothingSays, SaysWhy, Two, turns_a_state}
+use Rattle.sc_search.specs.Limits.{ArePlayed, AreTwo, HasReason, IsOrder, IsUsedUp, IsWhy, PassGivesUp, SaysWhy, has_given_up, turns_a_state}
 use Rattle.sc_search.specs.Steps.{IsLedTo}
 use Rattle.sc_search.specs.Stops.{AreReached, ChoiceStopsFor, HasStopped, IsOrdered, IsReached, MeetsAfter, MissesAfter, StopsFor, goes_on, is_undecided}
 use Rattle.sc_search.proofs.KeptStates.{get_before, get_either, get_last, of_world}
@@ -156,30 +159,45 @@ module _ (p : Image) (v : Version) (a : Aim) where
   -- ---- why it stops
 
   -- as many states are met as may be
-  pub full : (ks : List PlainKept) (os : List (List ℕ)) (ts : List (List Status)) (turns limit : ℕ) → AreReached p v a ks os ts turns → limit ≤ length ks → GivesUp p v a limit
-  full ks os ts turns limit so many = AllMet (record {
-    states = ks;
-    many = many;
-    unmet = λ i k at.
-        let r = so.each i k at in
-        record { world = r.world; stands_in = record { handlers = r.order; runs = r.runs; kept = r.kept_is }; unmet = r.unmet };
-  })
+  pub full : (ks : List PlainKept) (os : List (List ℕ)) (ts : List (List Status)) (turns limit : ℕ) (g : GivenUp) →
+      AreReached p v a ks os ts turns → limit ≤ length ks →
+      g.reason ≡ reason.States → g.states ≡ length ks → PassGivesUp p v a limit g
+  full ks os ts turns limit g so many why states =
+      subst (λ (r : Reason). IsUsedUp p v a limit r g.states g.turns) (sym why) (
+        omega (arith, many, states),
+        record {
+          states = ks;
+          many = omega (arith, states);
+          unmet = λ i k at.
+              let r = so.each i k at in
+              record { world = r.world; stands_in = record { handlers = r.order; runs = r.runs; kept = r.kept_is }; unmet = r.unmet };
+        },
+      )
 
   -- as many turns are played as may be
-  pub played_out : (turns limit : ℕ) → ArePlayed p v turns → turns_a_state * limit ≤ turns → GivesUp p v a limit
-  played_out turns limit played many = AllPlayed (record { orders = played.orders; each = played.each; many = omega (arith, many, played.many) })
+  pub played_out : (turns limit : ℕ) (g : GivenUp) → ArePlayed p v turns → turns_a_state * limit ≤ turns → g.reason ≡ reason.Turns →
+      g.turns ≡ turns → PassGivesUp p v a limit g
+  played_out turns limit g played many why same =
+      subst (λ (r : Reason). IsUsedUp p v a limit r g.states g.turns) (sym why) (
+        omega (arith, many, same),
+        record { orders = played.orders; each = played.each; many = omega (arith, played.many, same) },
+      )
+
+  -- an order leads to two worlds
+  pub two_worlds : (limit : ℕ) (g : GivenUp) → g.reason ≡ reason.Worlds → AreTwo p v → PassGivesUp p v a limit g
+  two_worlds limit g why two = subst (λ (r : Reason). IsUsedUp p v a limit r g.states g.turns) (sym why) two
 
   -- turns lead to a world in a state, and to one that isn't
-  pub lost : (ks : List PlainKept) (number : ℕ) (path : List ℕ) (w : PlainWorld) (limit : ℕ) → IsLedTo p v ks number path → Runs path (opened p v) w →
-      (slice_get ks number ≡ Some (kept w) → ⊥) → GivesUp p v a limit
-  lost ks number path w limit led runs apart = Two (record {
+  pub lost : (ks : List PlainKept) (number : ℕ) (path : List ℕ) (w : PlainWorld) → IsLedTo p v ks number path → Runs path (opened p v) w →
+      (slice_get ks number ≡ Some (kept w) → ⊥) → AreTwo p v
+  lost ks number path w led runs apart = record {
     order = path;
     one = led.0;
     other = w;
     leads_to_one = led.1.runs;
     leads_to_other = runs;
     differ = λ e. apart (led.1.stands ∙ ap (λ (x : PlainWorld). Some (kept x)) e);
-  })
+  }
 
   pub led : (ks : List PlainKept) (os : List (List ℕ)) (ts : List (List Status)) (turns number : ℕ) (path : List ℕ) → AreReached p v a ks os ts turns → number < length ks →
       ((order : List ℕ) → slice_get os number ≡ Some order → path ≡ order) → IsLedTo p v ks number path
@@ -194,70 +212,89 @@ module _ (p : Image) (v : Version) (a : Aim) where
       )
 
   -- turns lead to a world that shows what is looked for, and to one that doesn't
-  pub differs : (turns : List ℕ) (limit : ℕ) → MeetsAfter p v a turns → MissesAfter p v a turns → GivesUp p v a limit
-  differs turns limit m n = Two (record {
+  pub differs : (turns : List ℕ) → MeetsAfter p v a turns → MissesAfter p v a turns → AreTwo p v
+  differs turns m n = record {
     order = turns;
     one = m.world;
     other = n.world;
     leads_to_one = m.runs;
     leads_to_other = n.runs;
     differ = λ e. n.unmet (subst (λ (w : PlainWorld). IsMet a w) e m.met);
-  })
+  }
 
   -- ---- what it says then
 
-  pub says_why : (limit : ℕ) (b : Bool) (f : Finding) → GivesUp p v a limit → SaysWhy p v a limit b f
-  says_why limit true finding.Nothing up = tt
-  says_why limit false finding.Nothing up = up
-  says_why limit b (finding.Stuck order) up = tt
-  says_why limit b (finding.Fails order) up = tt
-  says_why limit b (finding.Refused order) up = tt
-  says_why limit b finding.Undecided up = up
+  -- a pass gave up
+  pub says_cut : (limit : ℕ) (b : Bool) (g : GivenUp) → PassGivesUp p v a limit g → SaysWhy p v a limit b finding.Undecided (Some g)
+  says_cut limit b g up = inl up
 
-  pub says_ordered : (limit : ℕ) (b : Bool) (f : Finding) → IsOrdered f → SaysWhy p v a limit b f
+  pub says_ordered : (limit : ℕ) (b : Bool) (f : Finding) → IsOrdered f → SaysWhy p v a limit b f None
   says_ordered limit b finding.Nothing never = absurd never
-  says_ordered limit b (finding.Stuck order) is = tt
-  says_ordered limit b (finding.Fails order) is = tt
-  says_ordered limit b (finding.Refused order) is = tt
+  says_ordered limit b (finding.Stuck order) is = refl
+  says_ordered limit b (finding.Fails order) is = refl
+  says_ordered limit b (finding.Refused order) is = refl
   says_ordered limit b finding.Undecided never = absurd never
 
-  pub says_whole : (limit : ℕ) (b : Bool) (f : Finding) → SaysWhy p v a limit false f → SaysWhy p v a limit b f
-  says_whole limit true finding.Nothing is = tt
-  says_whole limit false finding.Nothing is = is
-  says_whole limit b (finding.Stuck order) is = tt
-  says_whole limit b (finding.Fails order) is = tt
-  says_whole limit b (finding.Refused order) is = tt
-  says_whole limit b finding.Undecided is = is
+  -- nothing is found, and the search is whole
+  pub says_none : (limit : ℕ) (b : Bool) (f : Finding) (why : Option GivenUp) → f ≡ finding.Nothing → b ≡ true → why ≡ None → SaysWhy p v a limit b f why
+  says_none limit b f why nothing whole none =
+      subst (λ (g : Finding). SaysWhy p v a limit b g why) (sym nothing) (subst (λ (c : Bool). SaysWhy p v a limit c finding.Nothing why) (sym whole) none)
 
-  pub undecided_why : (limit : ℕ) (b : Bool) (f : Finding) → is_undecided f ≡ true → SaysWhy p v a limit b f → GivesUp p v a limit
-  undecided_why limit b finding.Nothing e is = cc
-  undecided_why limit b (finding.Stuck order) e is = cc
-  undecided_why limit b (finding.Fails order) e is = cc
-  undecided_why limit b (finding.Refused order) e is = cc
-  undecided_why limit b finding.Undecided e is = is
+  -- a search that isn't whole says what one says that may be whole
+  pub says_part : (limit : ℕ) (b : Bool) (f : Finding) (why : Option GivenUp) → (b ≡ true → ⊥) → SaysWhy p v a limit false f why → SaysWhy p v a limit b f why
+  says_part limit true f why part is = absurd (part refl)
+  says_part limit false f why part is = is
+
+  pub undecided_why : (limit : ℕ) (b : Bool) (f : Finding) (why : Option GivenUp) → is_undecided f ≡ true → SaysWhy p v a limit b f why →
+      HasReason p v a limit why
+  undecided_why limit b finding.Nothing why e is = cc
+  undecided_why limit b (finding.Stuck order) why e is = cc
+  undecided_why limit b (finding.Fails order) why e is = cc
+  undecided_why limit b (finding.Refused order) why e is = cc
+  undecided_why limit b finding.Undecided why e is = is
+
+  -- turns led to what is looked for, and don't lead there again
+  pub says_worlds : (limit : ℕ) (turns : List ℕ) (g : GivenUp) → g.reason ≡ reason.Worlds → MissesAfter p v a turns → MeetsAfter p v a turns →
+      SaysWhy p v a limit false finding.Undecided (Some g)
+  says_worlds limit turns g why n m = inl (two_worlds limit g why (differs turns m n))
+
+  -- one that has given up says why another one did, and one that hasn't says nothing
+  pub says_other : (limit : ℕ) (b : Bool) (f : Finding) (why said : Option GivenUp) → HasReason p v a limit why → (has_given_up b f ≡ true → said ≡ why) →
+      (has_given_up b f ≡ false → said ≡ None) → SaysWhy p v a limit b f said
+  says_other limit b f why said is up none = by (has_given_up b f) refl
+    where
+      by : (c : Bool) → has_given_up b f ≡ c → IsWhy p v a limit (has_given_up b f) said
+      by true e =
+          subst (λ (d : Bool). IsWhy p v a limit d said) (sym e) (subst (λ (w : Option GivenUp). HasReason p v a limit w) (sym (up e)) is)
+      by false e = subst (λ (d : Bool). IsWhy p v a limit d said) (sym e) (none e)
 
   -- a search over choices after which none over all turns follows
   pub has_stopped : (limit : ℕ) (s : Option Stop) → IfSome s (ChoiceStopsFor p v a limit) → goes_on s ≡ false → HasStopped p v a limit s
   has_stopped limit None is e = cc
   has_stopped limit (Some (stop.Met turns)) is e = is
-  has_stopped limit (Some stop.Cut) is e = is
+  has_stopped limit (Some (stop.Cut why)) is e = is
   has_stopped limit (Some stop.Endless) is e = cc
 
   pub choice_stops : (limit : ℕ) (s : Option Stop) → IfSome s (StopsFor p v a limit) → IfSome s (ChoiceStopsFor p v a limit)
   choice_stops limit None is = tt
   choice_stops limit (Some (stop.Met turns)) is = is
-  choice_stops limit (Some stop.Cut) is = is
+  choice_stops limit (Some (stop.Cut why)) is = is
   choice_stops limit (Some stop.Endless) is = absurd is
 
-  pub whole_says : (limit : ℕ) (s : Option Stop) (b : Bool) (f : Finding) → IfSome s (StopsFor p v a limit) →
-      (s ≡ None → (f ≡ finding.Nothing) × (b ≡ true)) → (HasStopped p v a limit s → SaysWhy p v a limit false f) → SaysWhy p v a limit b f
-  whole_says limit None b f is done why =
-      let d = done refl in
-      subst (λ (g : Finding). SaysWhy p v a limit b g) (sym d.0) (subst (λ (c : Bool). NothingSays p v a limit c) (sym d.1) tt)
-  whole_says limit (Some s) b f is done why = says_whole limit b f (why is)
+  -- where it has stopped it isn't whole
+  pub not_none : (limit : ℕ) (s : Option Stop) → HasStopped p v a limit s → s ≡ None → ⊥
+  not_none limit None is e = is
+  not_none limit (Some s) is e = cc
+
+  -- the verdict of a search over all turns
+  pub whole_says : (limit : ℕ) (s : Option Stop) (d : Verdict) → IfSome s (StopsFor p v a limit) →
+      (s ≡ None → (d.finding ≡ finding.Nothing) × (d.is_whole ≡ true) × (d.why ≡ None)) →
+      (HasStopped p v a limit s → SaysWhy p v a limit d.is_whole d.finding d.why) → SaysWhy p v a limit d.is_whole d.finding d.why
+  whole_says limit None d is done why = let n = done refl in says_none limit d.is_whole d.finding d.why n.0 n.1 n.2
+  whole_says limit (Some s) d is done why = why is
 
   pub whole_verdict : {E : Type 0} (r : Result Verdict E) (s : Option Stop) (limit : ℕ) → IfSome s (StopsFor p v a limit) →
-      (s ≡ None → IfOk r (λ d. (d.finding ≡ finding.Nothing) × (d.is_whole ≡ true))) →
-      IfOk r (λ d. (l : ℕ) → HasStopped p v a l s → SaysWhy p v a l false d.finding) → IfOk r (λ d. SaysWhy p v a limit d.is_whole d.finding)
-  whole_verdict (Ok d) s limit is done why = whole_says limit s d.is_whole d.finding is done (why limit)
+      (s ≡ None → IfOk r (λ d. (d.finding ≡ finding.Nothing) × (d.is_whole ≡ true) × (d.why ≡ None))) →
+      IfOk r (λ d. (l : ℕ) → HasStopped p v a l s → SaysWhy p v a l d.is_whole d.finding d.why) → IfOk r (λ d. SaysWhy p v a limit d.is_whole d.finding d.why)
+  whole_verdict (Ok d) s limit is done why = whole_says limit s d is done (why limit)
   whole_verdict (Err e) s limit is done why = tt

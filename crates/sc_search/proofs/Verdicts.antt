@@ -15,9 +15,7 @@ use Rattle.sc_search.specs.Closed.{IsClosed}
 use Rattle.sc_search.specs.Found.{EndsFirst, LeadsTo, RunsUnmet, turns_of}
 use Rattle.sc_search.specs.Verdicts.{IsShown}
 use Rattle.sc_search.specs.Waiting.{AreMoving, IsSought, seeks_stuck}
-use Rattle.sc_search.specs.Limits.{SaysWhy}
 use Rattle.sc_search.proofs.OrderEnds.{unmet_runs}
-use Rattle.sc_search.proofs.Reasons.{says_whole}
 
 pub leads : (p : Image) (v : Version) (a : Aim) (lines : List RecordLine) (turns : List ℕ) (w : PlainWorld) (Holds : PlainWorld → Type 0) →
     turns_of lines ≡ turns → RunsUnmet a turns (opened p v) w → Holds w → LeadsTo p v lines Holds
@@ -74,9 +72,3 @@ module _ (p : Image) (v : Version) (a : Aim) (ks : List PlainKept) (b : Bool) wh
   pub found_shown : {E : Type 0} (r : Result Verdict E) → IfOk r (λ d. d.is_whole ≡ false) → IfOk r (IsShown p v a)
   found_shown (Ok d) not_whole = λ e. never (sym e ∙ not_whole)
   found_shown (Err e) not_whole = tt
-
-  -- and says why, whole or not
-  pub says_any : {E : Type 0} (r : Result Verdict E) → IfOk r (λ d. (limit : ℕ) → SaysWhy p v a limit false d.finding) →
-      IfOk r (λ d. (limit : ℕ) → SaysWhy p v a limit d.is_whole d.finding)
-  says_any (Ok d) why = λ limit. says_whole p v a limit d.is_whole d.finding (why limit)
-  says_any (Err e) why = tt

@@ -1,5 +1,5 @@
 -- When a search gives up.
-use Rattle.std.specs.Prelude.{◌≡◌, ◌≤◌, ◌*◌, ℕ, Bool, true, false, List, Some, length, slice_get, sum_by}
+use Rattle.std.specs.Prelude.{◌≡◌, ◌⊎◌, ◌≤◌, ◌*◌, ℕ, Bool, true, false, List, Option, Some, None, if◌then◌else◌, length, slice_get, sum_by}
 use Rattle.sc_lockpass.specs.declared.version.Version.{Version}
 use Rattle.sc_code.specs.declared.program.Image.{Image}
 use Rattle.sc_world.specs.Kept.{PlainKept}
@@ -9,6 +9,10 @@ use Rattle.sc_search.specs.declared.aims.Aim.{Aim}
 use Rattle.sc_search.specs.declared.replay.Subject.{Subject}
 use Rattle.sc_search.specs.declared.verdict.Finding.{Finding}
 use Rattle.sc_search.specs.declared.verdict.Finding.TheVariants as finding
+use Rattle.sc_search.specs.declared.verdict.GivenUp.{GivenUp}
+use Rattle.sc_search.specs.declared.verdict.Pass.TheVariants as pass
+use Rattle.sc_search.specs.declared.verdict.Reason.{Reason}
+use Rattle.sc_search.specs.declared.verdict.Reason.TheVariants as reason
 use Rattle.sc_search.specs.Closed.{IsUnmet}
 
 -- At least this number of states were met. Turns lead to each of them, and none of them shows what is looked for.
@@ -41,26 +45,50 @@ pub record AreTwo (p : Image) (v : Version) : Type 0 where
 abbrev pub turns_a_state : ℕ
 turns_a_state = 2000
 
--- Why a search gives up with this limit on states: it has met as many, or played as many turns as that allows. Or an
--- order led to two worlds, which those of accepted texts don't.
-pub data GivesUp (p : Image) (v : Version) (a : Aim) (limit : ℕ) : Type 0 where
-  AllMet : (met : AreMet p v a limit) → GivesUp p v a limit
-  AllPlayed : (played : ArePlayed p v (turns_a_state * limit)) → GivesUp p v a limit
-  Two : (two : AreTwo p v) → GivesUp p v a limit
+-- What the limit on states allows is used up after so many states and turns, for this reason: as many states as may be
+-- kept were met, or as many turns as that allows were played. Or an order led to two worlds, which those of accepted
+-- texts don't.
+abbrev pub IsUsedUp : Image → Version → Aim → ℕ → Reason → ℕ → ℕ → Type 0
+IsUsedUp p v a limit reason.States states turns = (limit ≤ states) × AreMet p v a states
+IsUsedUp p v a limit reason.Turns states turns = (turns_a_state * limit ≤ turns) × ArePlayed p v turns
+IsUsedUp p v a limit reason.Memory states turns = ⊥
+IsUsedUp p v a limit reason.Worlds states turns = AreTwo p v
 
--- Nothing is found: that is whole, or the search has given up.
-abbrev pub NothingSays : Image → Version → Aim → ℕ → Bool → Type 0
-NothingSays p v a limit true = Unit {0}
-NothingSays p v a limit false = GivesUp p v a limit
+-- A pass gives up so with this limit on states.
+abbrev pub PassGivesUp : Image → Version → Aim → ℕ → GivenUp → Type 0
+PassGivesUp p v a limit g = IsUsedUp p v a limit g.reason g.states g.turns
 
--- If nothing is found and the search isn't whole, or it is undecided, it has given up.
-abbrev pub SaysWhy : Image → Version → Aim → ℕ → Bool → Finding → Type 0
-SaysWhy p v a limit is_whole finding.Nothing = NothingSays p v a limit is_whole
-SaysWhy p v a limit is_whole (finding.Stuck order) = Unit {0}
-SaysWhy p v a limit is_whole (finding.Fails order) = Unit {0}
-SaysWhy p v a limit is_whole (finding.Refused order) = Unit {0}
-SaysWhy p v a limit is_whole finding.Undecided = GivesUp p v a limit
+-- Memory ran out in the second pass. No more is said of that.
+pub record LacksMemory (g : GivenUp) : Type 0 where
+  pub ran_out : g.reason ≡ reason.Memory
+  pub late : g.pass ≡ pass.AllTurns
+
+-- A search gives up if a pass does, or if memory ran out.
+abbrev pub GivesUp : Image → Version → Aim → ℕ → GivenUp → Type 0
+GivesUp p v a limit g = PassGivesUp p v a limit g ⊎ LacksMemory g
+
+-- A search has given up if it is undecided, or has found nothing and isn't whole.
+abbrev pub has_given_up : Bool → Finding → Bool
+has_given_up is_whole finding.Nothing = if is_whole then false else true
+has_given_up is_whole (finding.Stuck order) = false
+has_given_up is_whole (finding.Fails order) = false
+has_given_up is_whole (finding.Refused order) = false
+has_given_up is_whole finding.Undecided = true
+
+-- There is a reason for giving up, and it is true.
+abbrev pub HasReason : Image → Version → Aim → ℕ → Option GivenUp → Type 0
+HasReason p v a limit None = ⊥
+HasReason p v a limit (Some g) = GivesUp p v a limit g
+
+-- That is so if the search has given up, and there is none else.
+abbrev pub IsWhy : Image → Version → Aim → ℕ → Bool → Option GivenUp → Type 0
+IsWhy p v a limit true why = HasReason p v a limit why
+IsWhy p v a limit false why = why ≡ None
+
+-- A verdict says why the search gave up, if it has this finding and is whole or isn't.
+abbrev pub SaysWhy : Image → Version → Aim → ℕ → Bool → Finding → Option GivenUp → Type 0
+SaysWhy p v a limit is_whole found why = IsWhy p v a limit (has_given_up is_whole found) why
 
 -- the reason, for what is searched
-abbrev pub SaysWhyFor : Subject → ℕ → Bool → Finding → Type 0
-SaysWhyFor s limit is_whole found = SaysWhy s.program.now.image s.version s.aim limit is_whole found
+abbrev pub SaysWhyFor : Subject → ℕ → Bool → Finding → Option GivenUp → Type 0
+SaysWhyFor s limit is_whole found why = SaysWhy s.program.now.image s.version s.aim limit is_whole found why

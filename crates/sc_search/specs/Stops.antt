@@ -18,8 +18,9 @@ use Rattle.sc_search.specs.declared.progress.Stop.TheVariants as stop
 use Rattle.sc_search.specs.declared.replay.Subject.{Subject}
 use Rattle.sc_search.specs.declared.verdict.Finding.{Finding}
 use Rattle.sc_search.specs.declared.verdict.Finding.TheVariants as finding
+use Rattle.sc_search.specs.declared.verdict.GivenUp.{GivenUp}
 use Rattle.sc_search.specs.Aims.{IsMet}
-use Rattle.sc_search.specs.Limits.{ArePlayed, GivesUp, SaysWhyFor}
+use Rattle.sc_search.specs.Limits.{ArePlayed, PassGivesUp, SaysWhyFor}
 use Rattle.sc_search.specs.Stored.{IsAlikeAfter, IsStored}
 use Rattle.sc_search.specs.Views.{orders_of, states_of, statuses_of}
 
@@ -66,13 +67,13 @@ pub record MissesAfter (p : Image) (v : Version) (a : Aim) (turns : List ℕ) : 
 -- a search over all turns
 abbrev pub StopsFor : Image → Version → Aim → ℕ → Stop → Type 0
 StopsFor p v a limit (stop.Met turns) = MeetsAfter p v a turns.items
-StopsFor p v a limit stop.Cut = GivesUp p v a limit
+StopsFor p v a limit (stop.Cut why) = PassGivesUp p v a limit why
 StopsFor p v a limit stop.Endless = ⊥
 
 -- a search over choices
 abbrev pub ChoiceStopsFor : Image → Version → Aim → ℕ → Stop → Type 0
 ChoiceStopsFor p v a limit (stop.Met turns) = MeetsAfter p v a turns.items
-ChoiceStopsFor p v a limit stop.Cut = GivesUp p v a limit
+ChoiceStopsFor p v a limit (stop.Cut why) = PassGivesUp p v a limit why
 ChoiceStopsFor p v a limit stop.Endless = Unit {0}
 
 -- It has stopped, for such a reason.
@@ -80,16 +81,17 @@ abbrev pub HasStopped : Image → Version → Aim → ℕ → Option Stop → Ty
 HasStopped p v a limit None = ⊥
 HasStopped p v a limit (Some s) = StopsFor p v a limit s
 
--- If it has stopped so at a limit, a finding that isn't whole says why.
-abbrev pub SaysWhyAt : Subject → Option Stop → Finding → Type 0
-SaysWhyAt s why found =
-    (limit : ℕ) → HasStopped s.program.now.image s.version s.aim limit why → SaysWhyFor s limit false found
+-- If it has stopped so at a limit, what is found says why.
+abbrev pub SaysWhyAt : Subject → Option Stop → Bool → Finding → Option GivenUp → Type 0
+SaysWhyAt s stopped is_whole found why =
+    (limit : ℕ) → HasStopped s.program.now.image s.version s.aim limit stopped →
+    SaysWhyFor s limit is_whole found why
 
 -- A search over all turns follows one over choices that has played all, or in which movers went on and on.
 abbrev pub goes_on : Option Stop → Bool
 goes_on None = true
 goes_on (Some (stop.Met turns)) = false
-goes_on (Some stop.Cut) = false
+goes_on (Some (stop.Cut why)) = false
 goes_on (Some stop.Endless) = true
 
 abbrev pub is_undecided : Finding → Bool

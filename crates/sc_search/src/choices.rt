@@ -38,7 +38,7 @@ pub(crate) fn play_choices<'p, W: Watch>(
         if let Some(stop) = choose(subject, progress, number, limit)? {
             return Ok(Some(stop));
         }
-        watch.kept(progress.store.len());
+        progress.show(number, watch);
     }
     Ok(None)
 }

@@ -13,6 +13,7 @@ ghost use Rattle.sc_search.specs.Views.{met_of, nothing_met, states_of};
 use crate::judging::{Kind, is_at};
 use crate::progress::{Progress, Stop, Way};
 use crate::replay::Subject;
+use crate::verdict::Reason;
 use crate::watch::Watch;
 use sc_lockpass::HandlerNumber;
 use sc_world::laws::{
@@ -52,11 +53,11 @@ pub(crate) fn play_all<'p, W: Watch>(
         if let Some(stop) = try_all(subject, progress, number, joined, limit)? {
             return Ok(Some(stop));
         }
+        progress.show(number, watch);
         number += 1;
-        watch.kept(progress.store.len());
     }
     if number < progress.store.len() || number == u32::MAX {
-        return Ok(Some(Stop::Cut));
+        return Ok(Some(Stop::Cut(progress.give_up(Reason::States))));
     }
     Ok(None)
 }

@@ -23,5 +23,5 @@ mod watch;
 
 pub use aims::Aim;
 pub use searching::search;
-pub use verdict::{End, Finding, Length, Order, Verdict};
-pub use watch::Watch;
+pub use verdict::{End, Finding, GivenUp, Length, Order, Pass, Reason, Verdict};
+pub use watch::{Stage, Watch};

@@ -13,6 +13,8 @@ use crate::joining::go_on;
 use crate::judging::{Kind, is_met, some_is};
 use crate::replay::Subject;
 use crate::store::Store;
+use crate::verdict::{GivenUp, Pass, Reason};
+use crate::watch::{Stage, Watch};
 use sc_lockpass::HandlerNumber;
 use sc_model::Status;
 use sc_orders::Edge;
@@ -31,8 +33,8 @@ const TURNS_A_STATE: u64 = 2_000;
 pub(crate) enum Stop {
     /// What is looked for is met after these turns.
     Met(Vec<HandlerNumber>),
-    /// The limit is reached.
-    Cut,
+    /// The search gives up.
+    Cut(GivenUp),
     /// Movers went on and on.
     Endless,
 }
@@ -40,6 +42,7 @@ pub(crate) enum Stop {
 /// What a search has met, and the world that it plays in.
 #[derive(Drop)]
 pub(crate) struct Progress<'p> {
+    pass: Pass,
     pub(crate) store: Store<'p>,
     pub(crate) world: Configuration<'p>,
     /// The numbers of what the world holds. It is written each time that a state is looked for.
@@ -64,17 +67,18 @@ impl<'p> Progress<'p> {
     ghost use Rattle.sc_search.specs.Stops.{HasReached, Moves, StopsFor};
     ghost use Rattle.sc_search.specs.Views.{met_of, nothing_met, orders_of, states_of, tuples_in};
 
-    /// Progress with nothing searched yet. The world is the opening.
+    /// Progress of a pass with nothing searched yet. The world is the opening.
     ///
     /// # Errors
     /// Memory ran out.
-    pub(crate) fn new(subject: Subject<'p>) -> Result<Progress<'p>, AllocError>
+    pub(crate) fn new(subject: Subject<'p>, pass: Pass) -> Result<Progress<'p>, AllocError>
         ensures none { IfOk result (λ progress. met_of progress ≡ nothing_met) }
         ensures opens { IfOk result (λ progress. world_in progress.world ≡ opened subject.entry.program.now.image subject.entry.version) }
         ensures reached { IfOk result (HasReached subject.entry.program.now.image subject.entry.version subject.entry.aim) }
     {
         openings_are_of_their_program();
         Ok(Progress {
+            pass,
             store: Store::new(subject.alloc)?,
             world: Configuration::open(subject.alloc, subject.program, subject.version)?,
             tuple: Vec::new(subject.alloc),
@@ -82,6 +86,51 @@ impl<'p> Progress<'p> {
             outcomes: Vec::new(subject.alloc),
             turns: 0,
         })
+    }
+
+    /// How many turns were played.
+    pub(crate) fn turns(&self) -> u64
+        ensures { result ≡ self.now.turns }
+    {
+        self.turns
+    }
+
+    /// Shows how far the search is to a watch for which that is due. The turns of the state with the number were tried last.
+    pub(crate) fn show<W: Watch>(&self, number: u32, watch: &mut W) {
+        let states = self.store.len();
+        if !watch.is_due(states) {
+            return;
+        }
+        watch.sees(Stage {
+            pass: self.pass,
+            states,
+            depth: self.depth(number),
+        })
+    }
+
+    /// How many turns lead to the state with the number; 0 if there is none, or if memory ran out.
+    fn depth(&self, number: u32) -> u32 {
+        if number >= self.store.len() {
+            return 0;
+        }
+        match self.store.order(number) {
+            Ok(turns) => turns.len().min(u32::MAX as usize) as u32,
+            Err(_) => 0,
+        }
+    }
+
+    /// That the search gives up here, for this reason.
+    pub(crate) fn give_up(&self, reason: Reason) -> GivenUp
+        ensures reason { result.reason ≡ reason }
+        ensures states { result.states ≡ length (states_of self.now) }
+        ensures turns { result.turns ≡ self.now.turns }
+    {
+        GivenUp {
+            pass: self.pass,
+            reason,
+            states: self.store.len(),
+            turns: self.turns,
+        }
     }
 
     /// Brings the world into the state with the number.
@@ -303,8 +352,11 @@ impl<'p> Progress<'p> {
         openings_are_of_their_program();
         runs_stay_of_their_program();
         let number = self.store.len();
-        if number >= limit || self.turns >= TURNS_A_STATE * limit as u64 {
-            return Ok(Some(Stop::Cut));
+        if number >= limit {
+            return Ok(Some(Stop::Cut(self.give_up(Reason::States))));
+        }
+        if self.turns >= TURNS_A_STATE * limit as u64 {
+            return Ok(Some(Stop::Cut(self.give_up(Reason::Turns))));
         }
         self.push_end(subject, way, statuses)?;
         self.push_edge(way, number)?;

@@ -15,7 +15,7 @@ use crate::aims::Aim;
 use crate::judging::{is_met, tells_failure, tells_refusal};
 use crate::lines::lines_of;
 use crate::progress::Progress;
-use crate::verdict::{Finding, Order};
+use crate::verdict::{Finding, GivenUp, Order, Reason};
 use sc_audit::RecordLine;
 use sc_code::Program;
 use sc_lockpass::{HandlerNumber, Version};
@@ -29,6 +29,13 @@ pub(crate) struct Subject<'p> {
     pub(crate) program: &'p Program,
     pub(crate) version: Version,
     pub(crate) aim: Aim,
+}
+
+/// What turns show that are played once more, and why the search gives up if they show nothing.
+#[derive(Drop)]
+pub(crate) struct Shown {
+    pub(crate) finding: Finding,
+    pub(crate) why: Option<GivenUp>,
 }
 
 /// The world after these turns, from the opening on.
@@ -67,25 +74,32 @@ pub(crate) fn stuck_after<'p>(
     subject: Subject<'p>,
     progress: Progress<'p>,
     number: u32,
-) -> Result<Finding, AllocError>
+) -> Result<Shown, AllocError>
     requires stuck { HasStuck subject.program.now.image subject.version (states_of progress) number }
     requires reached { HasReached subject.program.now.image subject.version subject.aim progress }
     requires seeks { seeks_stuck subject.aim ≡ true }
-    ensures found { IfOk result (IsFound subject.entry.program.now.image subject.entry.version) }
-    ensures first { IfOk result (IsFirst subject.entry.program.now.image subject.entry.version subject.entry.aim) }
-    ensures why { IfOk result (λ found. (limit : ℕ) → SaysWhyFor subject.entry limit false found) }
+    ensures found { IfOk result (λ shown. IsFound subject.entry.program.now.image subject.entry.version shown.finding) }
+    ensures first { IfOk result (λ shown. IsFirst subject.entry.program.now.image subject.entry.version subject.entry.aim shown.finding) }
+    ensures why { IfOk result (λ shown. (limit : ℕ) → SaysWhyFor subject.entry limit false shown.finding shown.why) }
 {
+    let worlds = progress.give_up(Reason::Worlds);
     let turns = progress.store.order(number)?;
     let state = state_at(subject, progress, number)?;
     let (world, made) = play_until_met(subject, &turns)?;
     if let Some(finding) = finding_in(subject, &world, &made)? {
-        return Ok(finding);
+        return Ok(Shown { finding, why: None });
     }
     if !state.is_same(&world) {
-        return Ok(Finding::Undecided);
+        return Ok(Shown {
+            finding: Finding::Undecided,
+            why: Some(worlds),
+        });
     }
     let lines = lines_of(subject.alloc, &made)?;
-    Ok(Finding::Stuck(Order { lines }))
+    Ok(Shown {
+        finding: Finding::Stuck(Order { lines }),
+        why: None,
+    })
 }
 
 /// The state with the number. Nothing else of what was met is left.

@@ -3,9 +3,9 @@ ghost use Rattle.std.specs.Prelude.{◌≡◌, ℕ, IfOk, None, false, length, m
 ghost use Rattle.sc_search.specs.Closed.{IsClosedFor};
 ghost use Rattle.sc_search.specs.Ends.{AreEnds};
 ghost use Rattle.sc_search.specs.Found.{IsFirst, IsFound};
-ghost use Rattle.sc_search.specs.Limits.{SaysWhy, SaysWhyFor};
+ghost use Rattle.sc_search.specs.Limits.{LacksMemory, SaysWhy, SaysWhyFor, has_given_up};
 ghost use Rattle.sc_search.specs.Steps.{IsExplored};
-ghost use Rattle.sc_search.specs.Stops.{HasReached, SaysWhyAt, goes_on, is_undecided};
+ghost use Rattle.sc_search.specs.Stops.{HasReached, MeetsAfter, SaysWhyAt, goes_on, is_undecided};
 ghost use Rattle.sc_search.specs.Verdicts.{IsShown};
 ghost use Rattle.sc_search.specs.Views.{met_of, states_of};
 ghost use Rattle.sc_search.specs.Waiting.{HasStuck, seeks_stuck};
@@ -17,12 +17,12 @@ use crate::ends::ends_after;
 use crate::judging::seeks_stuck;
 use crate::length::length_of;
 use crate::progress::{Progress, Stop};
-use crate::replay::{Subject, finding_after, stuck_after};
-use crate::verdict::{Finding, Length, Verdict};
+use crate::replay::{Shown, Subject, finding_after, stuck_after};
+use crate::verdict::{Finding, GivenUp, Length, Pass, Reason, Verdict};
 use crate::waiting::{all_may_move, first_stuck};
 use crate::watch::Watch;
 use sc_code::Program;
-use sc_lockpass::Version;
+use sc_lockpass::{HandlerNumber, Version};
 use std::alloc::{AllocError, Global};
 
 /// How many turns that may follow at once are joined with the one before them.
@@ -32,11 +32,11 @@ const MOST_JOINED: u32 = 1_000;
 /// it would have to keep more than this number of states, or has played 2,000 turns for each of them.
 ///
 /// First, orders that differ only in turns that touch nothing of others are played once. If nothing is found so, all
-/// are played. A turn that asks nothing of others, or releases what is its
-/// handler's own, then follows the one before it at once.
+/// are played. A turn that asks nothing of others, or releases what is its handler's own, then follows the one before it at once.
+/// If memory runs out meanwhile, the verdict is what the first pass has found.
 ///
 /// # Errors
-/// Memory ran out.
+/// Memory ran out in the first pass.
 pub fn search<W: Watch>(
     alloc: Global,
     program: &Program,
@@ -49,7 +49,7 @@ pub fn search<W: Watch>(
     ensures first { IfOk result (λ verdict. IsFirst program.now.image version aim verdict.finding) }
     ensures ends { IfOk result (λ verdict. AreEnds program.now.image version verdict.ends.items) }
     ensures whole { IfOk result (IsShown program.now.image version aim) }
-    ensures why { IfOk result (λ verdict. SaysWhy program.now.image version aim states verdict.is_whole verdict.finding) }
+    ensures why { IfOk result (λ verdict. SaysWhy program.now.image version aim states verdict.is_whole verdict.finding verdict.why) }
 {
     let subject = Subject {
         alloc,
@@ -57,18 +57,60 @@ pub fn search<W: Watch>(
         version,
         aim,
     };
-    let mut progress = Progress::new(subject)?;
+    let mut progress = Progress::new(subject, Pass::Choices)?;
     let stop = play_choices(subject, &mut progress, states, watch)?;
     let may_go_on = goes_on(&stop);
-    let found = verdict_of(subject, progress, stop, false)?;
+    let mut found = verdict_of(subject, progress, stop, false)?;
     if !may_go_on {
         return Ok(found);
     }
-    let whole = search_all(subject, states, watch)?;
+    let mut far = Far {
+        states: 0,
+        turns: 0,
+    };
+    let whole = match search_all(subject, states, watch, &mut far) {
+        Ok(whole) => whole,
+        Err(_) => {
+            found.why = why_of(&found, Some(want_of_memory(far)));
+            return Ok(found);
+        }
+    };
     if is_undecided(&whole.finding) {
+        found.why = why_of(&found, whole.why);
         return Ok(found);
     }
     Ok(whole)
+}
+
+/// How far the search over all turns came.
+#[derive(Clone, Copy)]
+struct Far {
+    states: u32,
+    turns: u64,
+}
+
+/// That the search gives up since memory ran out, when it had come so far.
+fn want_of_memory(far: Far) -> GivenUp
+    ensures { LacksMemory result }
+{
+    GivenUp {
+        pass: Pass::AllTurns,
+        reason: Reason::Memory,
+        states: far.states,
+        turns: far.turns,
+    }
+}
+
+/// Why the search gave up that has this verdict, if it did.
+fn why_of(verdict: &Verdict, why: Option<GivenUp>) -> Option<GivenUp>
+    ensures given_up { has_given_up verdict.now.is_whole verdict.now.finding ≡ true → result ≡ why }
+    ensures decided { has_given_up verdict.now.is_whole verdict.now.finding ≡ false → result ≡ None }
+{
+    match verdict.finding {
+        Finding::Nothing if verdict.is_whole => None,
+        Finding::Nothing | Finding::Undecided => why,
+        Finding::Stuck(_) | Finding::Fails(_) | Finding::Refused(_) => None,
+    }
 }
 
 /// Whether the search over all turns follows one over choices that stopped so.
@@ -85,42 +127,54 @@ fn is_undecided(finding: &Finding) -> bool
 }
 
 /// The search over all turns, joined with turns that may follow at once. If that doesn't show that each handler may go on, each
-/// turn is tried by itself.
+/// turn is tried by itself. It says how far it came, also if memory runs out.
 fn search_all<W: Watch>(
     subject: Subject<'_>,
     limit: u32,
     watch: &mut W,
+    far: &mut Far,
 ) -> Result<Verdict, AllocError>
     ensures found { IfOk result (λ verdict. IsFound subject.entry.program.now.image subject.entry.version verdict.finding) }
     ensures first { IfOk result (λ verdict. IsFirst subject.entry.program.now.image subject.entry.version subject.entry.aim verdict.finding) }
     ensures ends { IfOk result (λ verdict. AreEnds subject.entry.program.now.image subject.entry.version verdict.ends.items) }
     ensures whole { IfOk result (IsShown subject.entry.program.now.image subject.entry.version subject.entry.aim) }
-    ensures why { IfOk result (λ verdict. SaysWhyFor subject.entry limit verdict.is_whole verdict.finding) }
+    ensures why { IfOk result (λ verdict. SaysWhyFor subject.entry limit verdict.is_whole verdict.finding verdict.why) }
 {
-    let mut progress = Progress::new(subject)?;
-    if let Some(stop) = play_all(subject, &mut progress, MOST_JOINED, limit, watch)? {
+    let mut progress = Progress::new(subject, Pass::AllTurns)?;
+    let played = play_all(subject, &mut progress, MOST_JOINED, limit, watch);
+    *far = Far {
+        states: progress.store.len(),
+        turns: progress.turns(),
+    };
+    if let Some(stop) = played? {
         return verdict_of(subject, progress, Some(stop), true);
     }
     if all_may_move(subject, &progress)? {
         return verdict_of(subject, progress, None, true);
     }
-    search_singly(subject, limit, watch)
+    search_singly(subject, limit, watch, far)
 }
 
-/// The search over all turns, each by itself.
+/// The search over all turns, each by itself. It says how far it came, also if memory runs out.
 fn search_singly<W: Watch>(
     subject: Subject<'_>,
     limit: u32,
     watch: &mut W,
+    far: &mut Far,
 ) -> Result<Verdict, AllocError>
     ensures found { IfOk result (λ verdict. IsFound subject.entry.program.now.image subject.entry.version verdict.finding) }
     ensures first { IfOk result (λ verdict. IsFirst subject.entry.program.now.image subject.entry.version subject.entry.aim verdict.finding) }
     ensures ends { IfOk result (λ verdict. AreEnds subject.entry.program.now.image subject.entry.version verdict.ends.items) }
     ensures whole { IfOk result (IsShown subject.entry.program.now.image subject.entry.version subject.entry.aim) }
-    ensures why { IfOk result (λ verdict. SaysWhyFor subject.entry limit verdict.is_whole verdict.finding) }
+    ensures why { IfOk result (λ verdict. SaysWhyFor subject.entry limit verdict.is_whole verdict.finding verdict.why) }
 {
-    let mut progress = Progress::new(subject)?;
-    if let Some(stop) = play_all(subject, &mut progress, 0, limit, watch)? {
+    let mut progress = Progress::new(subject, Pass::AllTurns)?;
+    let played = play_all(subject, &mut progress, 0, limit, watch);
+    *far = Far {
+        states: progress.store.len(),
+        turns: progress.turns(),
+    };
+    if let Some(stop) = played? {
         return verdict_of(subject, progress, Some(stop), true);
     }
     if seeks_stuck(subject.aim) {
@@ -139,7 +193,7 @@ fn closed_verdict<'p>(subject: Subject<'p>, progress: Progress<'p>) -> Result<Ve
     ensures first { IfOk result (λ verdict. IsFirst subject.entry.program.now.image subject.entry.version subject.entry.aim verdict.finding) }
     ensures ends { IfOk result (λ verdict. AreEnds subject.entry.program.now.image subject.entry.version verdict.ends.items) }
     ensures whole { IfOk result (IsShown subject.entry.program.now.image subject.entry.version subject.entry.aim) }
-    ensures why { IfOk result (λ verdict. (limit : ℕ) → SaysWhyFor subject.entry limit verdict.is_whole verdict.finding) }
+    ensures why { IfOk result (λ verdict. (limit : ℕ) → SaysWhyFor subject.entry limit verdict.is_whole verdict.finding verdict.why) }
 {
     match first_stuck(subject, &progress)? {
         Some(number) => stuck_verdict(subject, progress, number),
@@ -160,18 +214,19 @@ fn stuck_verdict<'p>(
     ensures first { IfOk result (λ verdict. IsFirst subject.entry.program.now.image subject.entry.version subject.entry.aim verdict.finding) }
     ensures ends { IfOk result (λ verdict. AreEnds subject.entry.program.now.image subject.entry.version verdict.ends.items) }
     ensures whole { IfOk result (λ verdict. verdict.is_whole ≡ false) }
-    ensures why { IfOk result (λ verdict. (limit : ℕ) → SaysWhyFor subject.entry limit false verdict.finding) }
+    ensures why { IfOk result (λ verdict. (limit : ℕ) → SaysWhyFor subject.entry limit verdict.is_whole verdict.finding verdict.why) }
 {
     let met = progress.store.len();
     let length = orders_length(subject.alloc, &progress)?;
     let ends = ends_after(subject, &progress.outcomes)?;
-    let finding = stuck_after(subject, progress, number)?;
+    let Shown { finding, why } = stuck_after(subject, progress, number)?;
     Ok(Verdict {
         finding,
         states: met,
         is_whole: false,
         ends,
         length,
+        why,
     })
 }
 
@@ -196,16 +251,17 @@ fn verdict_of(
     ensures ends { IfOk result (λ verdict. AreEnds subject.entry.program.now.image subject.entry.version verdict.ends.items) }
     ensures states { IfOk result (λ verdict. verdict.states ≡ min (length (states_of progress.entry)) 4294967295) }
     ensures whole { IfOk result (λ verdict. verdict.is_whole ≡ true → (is_all ≡ true) × (stop ≡ None) × (verdict.finding ≡ Finding.Nothing)) }
-    ensures done { stop ≡ None → IfOk result (λ verdict. (verdict.finding ≡ Finding.Nothing) × (verdict.is_whole ≡ is_all)) }
-    ensures why { IfOk result (λ verdict. SaysWhyAt subject.entry stop verdict.finding) }
+    ensures done { stop ≡ None → IfOk result (λ verdict. (verdict.finding ≡ Finding.Nothing) × (verdict.is_whole ≡ is_all) × (verdict.why ≡ None)) }
+    ensures why { IfOk result (λ verdict. SaysWhyAt subject.entry stop verdict.is_whole verdict.finding verdict.why) }
 {
     let states = progress.store.len();
+    let worlds = progress.give_up(Reason::Worlds);
     let is_whole = is_all && stop.is_none();
     let length = match stop {
         None => orders_length(subject.alloc, &progress)?,
         Some(_) => Length::Unknown,
     };
-    let finding = finding_of(subject, stop)?;
+    let Shown { finding, why } = shown_at(subject, stop, worlds)?;
     let ends = ends_after(subject, &progress.outcomes)?;
     Ok(Verdict {
         finding,
@@ -213,22 +269,55 @@ fn verdict_of(
         is_whole,
         ends,
         length,
+        why,
     })
 }
 
-/// What is found where a search stopped so.
-fn finding_of(subject: Subject<'_>, stop: Option<Stop>) -> Result<Finding, AllocError>
-    ensures found { IfOk result (IsFound subject.entry.program.now.image subject.entry.version) }
-    ensures first { IfOk result (IsFirst subject.entry.program.now.image subject.entry.version subject.entry.aim) }
-    ensures none { stop ≡ None → IfOk result (λ finding. finding ≡ Finding.Nothing) }
-    ensures why { IfOk result (λ finding. SaysWhyAt subject.entry stop finding) }
+/// What is found where a search stopped so, and why it gives up if that is nothing. `worlds` is why it does if turns
+/// don't lead to the same world again.
+fn shown_at(subject: Subject<'_>, stop: Option<Stop>, worlds: GivenUp) -> Result<Shown, AllocError>
+    requires worlds { worlds.reason ≡ Reason.Worlds }
+    ensures found { IfOk result (λ shown. IsFound subject.entry.program.now.image subject.entry.version shown.finding) }
+    ensures first { IfOk result (λ shown. IsFirst subject.entry.program.now.image subject.entry.version subject.entry.aim shown.finding) }
+    ensures none { stop ≡ None → IfOk result (λ shown. (shown.finding ≡ Finding.Nothing) × (shown.why ≡ None)) }
+    ensures why { IfOk result (λ shown. SaysWhyAt subject.entry stop false shown.finding shown.why) }
 {
     match stop {
-        None => Ok(Finding::Nothing),
-        Some(Stop::Met(turns)) => Ok(match finding_after(subject, &turns)? {
-            Some(finding) => finding,
-            None => Finding::Undecided,
+        None => Ok(Shown {
+            finding: Finding::Nothing,
+            why: None,
         }),
-        Some(Stop::Cut | Stop::Endless) => Ok(Finding::Undecided),
+        Some(Stop::Met(turns)) => shown_after(subject, &turns, worlds),
+        Some(Stop::Cut(why)) => Ok(Shown {
+            finding: Finding::Undecided,
+            why: Some(why),
+        }),
+        Some(Stop::Endless) => Ok(Shown {
+            finding: Finding::Undecided,
+            why: None,
+        }),
+    }
+}
+
+/// What is found after these turns, which led to what is looked for. `worlds` is why the search gives up if they don't lead there
+/// again.
+fn shown_after(
+    subject: Subject<'_>,
+    turns: &[HandlerNumber],
+    worlds: GivenUp,
+) -> Result<Shown, AllocError>
+    requires worlds { worlds.reason ≡ Reason.Worlds }
+    ensures found { IfOk result (λ shown. IsFound subject.entry.program.now.image subject.entry.version shown.finding) }
+    ensures first { IfOk result (λ shown. IsFirst subject.entry.program.now.image subject.entry.version subject.entry.aim shown.finding) }
+    ensures why { IfOk result (λ shown. (limit : ℕ) →
+        MeetsAfter subject.entry.program.now.image subject.entry.version subject.entry.aim turns.now →
+        SaysWhyFor subject.entry limit false shown.finding shown.why) }
+{
+    match finding_after(subject, turns)? {
+        Some(finding) => Ok(Shown { finding, why: None }),
+        None => Ok(Shown {
+            finding: Finding::Undecided,
+            why: Some(worlds),
+        }),
     }
 }

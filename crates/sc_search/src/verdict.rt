@@ -20,8 +20,41 @@ pub enum Finding {
     Fails(Order),
     /// After these turns some handler has refused a request for which no handler waited.
     Refused(Order),
-    /// The limit was reached before all was played.
+    /// The search gave up before all was played.
     Undecided,
+}
+
+/// A pass of a search.
+#[derive(Clone, Copy)]
+pub enum Pass {
+    /// The first one, which leaves out orders that should come to the same.
+    Choices,
+    /// The second one, which plays all turns.
+    AllTurns,
+}
+
+/// Why a pass stops before all is played, and has found nothing.
+#[derive(Clone, Copy)]
+pub enum Reason {
+    /// As many states were kept as may be.
+    States,
+    /// As many turns were played as go with the states that may be kept.
+    Turns,
+    /// Memory ran out in the second pass.
+    Memory,
+    /// An order led to two worlds, which those of accepted texts don't.
+    Worlds,
+}
+
+/// In which pass a search gave up, why, and how far that had come.
+#[derive(Clone, Copy)]
+pub struct GivenUp {
+    pub pass: Pass,
+    pub reason: Reason,
+    /// How many states the pass had kept.
+    pub states: u32,
+    /// How many turns it had played.
+    pub turns: u64,
 }
 
 /// How orders end: in a state in which no handler has anything to do.
@@ -48,11 +81,13 @@ pub enum Length {
 #[derive(Drop)]
 pub struct Verdict {
     pub finding: Finding,
-    /// How many states were kept.
+    /// How many states were kept by the pass that the finding is of.
     pub states: u32,
     /// Whether every order was played, and none left out.
     pub is_whole: bool,
     /// The ends that were met, each with another report.
     pub ends: Vec<End>,
     pub length: Length,
+    /// Why the search gave up. None if it found an order, or played every order.
+    pub why: Option<GivenUp>,
 }

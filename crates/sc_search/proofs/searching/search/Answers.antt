@@ -1,19 +1,11 @@
 use Rattle.std.proofs.Common.{◌≡◌, ◌∙◌, false, sym, arith, rules}
 use Rattle.std.proofs.lemmas.Grind.{common_steps}
-use Rattle.sc_search.proofs.Reasons.{has_stopped, says_whole, says_why, undecided_why}
+use Rattle.sc_search.proofs.Reasons.{has_stopped}
 use Rattle.sc_search.proofs.searching.search.Goals as goal
 
 pub returns-then-not-may_go_on-clause-why : goal.returns-then-not-may_go_on-clause-why
 returns-then-not-may_go_on-clause-why g c =
     let p = c.args.program.now.image in
     let over : c.goes_on-may_go_on.result ≡ false = first_of (search rules, grind (arith, common_steps)) in
-    says_whole p c.args.version c.args.aim c.args.states c.in_ok-found.found.is_whole c.in_ok-found.found.finding
-    (c.in_ok-found.ensures.why c.args.states
-    (has_stopped p c.args.version c.args.aim c.args.states c.in_ok-stop.stop c.in_ok-stop.ensures.stops (sym c.goes_on-may_go_on.ensures ∙ over)))
-
-pub returns-then-is_undecided-clause-why : goal.returns-then-is_undecided-clause-why
-returns-then-is_undecided-clause-why g c =
-    let p = c.args.program.now.image in
-    says_why p c.args.version c.args.aim c.args.states c.in_ok-found.found.is_whole c.in_ok-found.found.finding
-    (undecided_why p c.args.version c.args.aim c.args.states c.in_ok-whole.whole.is_whole c.in_ok-whole.whole.finding
-    (sym c.is_undecided.ensures ∙ c.if-is_undecided.true) c.in_ok-whole.ensures.why)
+    c.in_ok-found.ensures.why c.args.states
+    (has_stopped p c.args.version c.args.aim c.args.states c.in_ok-stop.stop c.in_ok-stop.ensures.stops (sym c.goes_on-may_go_on.ensures ∙ over))

@@ -16,8 +16,8 @@ returns-in-Some-clause-why g c =
 
 pub returns-then-branch-clause-whole : goal.returns-then-branch-clause-whole
 returns-then-branch-clause-whole g c =
-    closed_shown c.args.subject.program.now.image c.args.subject.version c.args.subject.aim (states_of c.play_all.new.progress) true c.verdict_of-then-branch.result
-    (at_none c.in_ok-stop.field-0 c.in_default.is c.in_ok-stop.ensures.closed) (c.in_ok-all_may_move.ensures c.if-branch.true)
+    closed_shown c.args.subject.program.now.image c.args.subject.version c.args.subject.aim (states_of c.play_all-played.new.progress) true
+    c.verdict_of-then-branch.result (at_none c.in_ok-stop.field-0 c.in_default.is c.in_ok-stop.ensures.closed) (c.in_ok-all_may_move.ensures c.if-branch.true)
     c.verdict_of-then-branch.ensures.whole c.verdict_of-then-branch.ensures.states
 
 pub returns-then-branch-clause-why : goal.returns-then-branch-clause-why

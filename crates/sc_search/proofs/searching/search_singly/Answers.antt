@@ -9,8 +9,8 @@ use Rattle.sc_search.proofs.searching.search_singly.Goals as goal
 
 pub returns-clause-whole : goal.returns-clause-whole
 returns-clause-whole g c =
-    other_shown c.args.subject.program.now.image c.args.subject.version c.args.subject.aim (states_of c.play_all.new.progress) true c.verdict_of-2.result None
-    (at_none c.in_ok-stop.field-0 c.in_default.is c.in_ok-stop.ensures.closed)
+    other_shown c.args.subject.program.now.image c.args.subject.version c.args.subject.aim (states_of c.play_all-played.new.progress) true
+    c.verdict_of-2.result None (at_none c.in_ok-stop.field-0 c.in_default.is c.in_ok-stop.ensures.closed)
     (λ e seeks. let no : false ≡ true = sym c.if-seeks_stuck.false ∙ c.seeks_stuck.ensures ∙ seeks in cc)
     c.verdict_of-2.ensures.whole c.verdict_of-2.ensures.states
 
@@ -26,4 +26,4 @@ returns-in-Some-clause-why g c =
 
 pub returns-then-seeks_stuck-clause-why : goal.returns-then-seeks_stuck-clause-why
 returns-then-seeks_stuck-clause-why g c =
-    of_limit (λ d limit. SaysWhyFor c.args.subject limit d.is_whole d.finding) c.closed_verdict.result c.args.limit c.closed_verdict.ensures.why
+    of_limit (λ d limit. SaysWhyFor c.args.subject limit d.is_whole d.finding d.why) c.closed_verdict.result c.args.limit c.closed_verdict.ensures.why

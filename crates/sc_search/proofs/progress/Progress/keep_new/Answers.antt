@@ -4,7 +4,6 @@ use Rattle.sc_model.specs.declared.status.Status.{Status}
 use Rattle.sc_world.specs.declared.configuration.Configuration.{Configuration}
 use Rattle.sc_world.specs.Views.{world_in}
 use Rattle.sc_world.specs.Kept.{IsOf}
-use Rattle.sc_world.specs.Reports.{statuses}
 use Rattle.sc_search.specs.declared.store.Store.{Store}
 use Rattle.sc_search.specs.Steps.{AddsEdge}
 use Rattle.sc_search.specs.Stops.{AreReached}
@@ -13,22 +12,19 @@ use Rattle.sc_search.specs.Tuples.{state_by}
 use Rattle.sc_search.specs.Views.{contents_in, met_of, orders_in, orders_of, parts_in, states_in, states_of, statuses_in, statuses_of}
 use Rattle.sc_search.proofs.LoadedStates.{keeps_pushed, reached_kept}
 use Rattle.sc_search.proofs.Reasons.{full, played_out}
-use Rattle.sc_search.proofs.progress.Progress.keep_new.Goals.{then-number-limit-via-else-number-limit+then-self-limit, then-number-limit-via-then-number-limit}
 use Rattle.sc_search.proofs.progress.Progress.keep_new.Goals as goal
 
 pub returns-then-number-limit-clause-stops : goal.returns-then-number-limit-clause-stops
 returns-then-number-limit-clause-stops c =
-    let p = c.args.subject.program.now.image in
-    let v = c.args.subject.version in
-    let a = c.args.subject.aim in
     let x = c.args.self.now in
-    let so = c.requires.reached.reached in
-    elim c.then-number-limit.branch [
-      | then-number-limit-via-then-number-limit w ↦
-          full p v a (states_of x) (orders_of x) (statuses_of x) x.turns c.args.limit so (omega (arith, w.if-number-limit.true, c.len-number.ensures))
-      | then-number-limit-via-else-number-limit+then-self-limit w ↦
-          played_out p v a x.turns c.args.limit so.played (omega (arith, w.if-self-limit.true))
-    ]
+    full c.args.subject.program.now.image c.args.subject.version c.args.subject.aim (states_of x) (orders_of x) (statuses_of x) x.turns
+    c.args.limit c.give_up.result c.requires.reached.reached (omega (arith, c.if-number-limit.true, c.len-number.ensures))
+    c.give_up.ensures.reason c.give_up.ensures.states
+
+pub returns-then-self-limit-clause-stops : goal.returns-then-self-limit-clause-stops
+returns-then-self-limit-clause-stops c =
+    played_out c.args.subject.program.now.image c.args.subject.version c.args.subject.aim c.args.self.now.turns c.args.limit c.give_up-then-self-limit.result
+    c.requires.reached.reached.played (omega (arith, c.if-self-limit.true)) c.give_up-then-self-limit.ensures.reason c.give_up-then-self-limit.ensures.turns
 
 pub returns-clause-keeps : goal.returns-clause-keeps
 returns-clause-keeps c =
