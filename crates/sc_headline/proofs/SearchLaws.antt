@@ -1,5 +1,5 @@
 -- What a search finds, or doesn't, beside the machine.
-use Rattle.std.proofs.Common.{◌≡◌, ◌⊎◌, ◌<◌, ◌*◌, ◌++◌, ◌∙◌, ◌&&◌, inl, inr, ℕ, Bool, true, false, List, [], ◌∷◌, Option, Some, None, get_or, refl, sym, ap, subst, arith}
+use Rattle.std.proofs.Common.{◌≡◌, ◌≤◌, ◌<◌, ◌*◌, ◌++◌, ◌∙◌, ◌&&◌, inl, inr, ℕ, Bool, true, false, List, [], ◌∷◌, Option, Some, None, get_or, refl, sym, ap, subst, arith}
 use Rattle.std.specs.Prelude.{nat_lt}
 use Rattle.std.proofs.lemmas.Bool.{cases_lt, ltb-true}
 use Rattle.std.proofs.lemmas.List.FromFn.{get_or-map-range_with_len, length-map-range_with_len}
@@ -32,12 +32,15 @@ use Rattle.sc_search.specs.declared.aims.Aim.TheVariants as aim
 use Rattle.sc_search.specs.Aims.{HasFailed, HasRefused, IsMet}
 use Rattle.sc_search.specs.Closed.{IsClosed}
 use Rattle.sc_search.specs.Found.{turns_of}
-use Rattle.sc_search.specs.Limits.{AllMet, AllPlayed, AreMet, ArePlayed, GivesUp, Two, turns_a_state}
+use Rattle.sc_search.specs.declared.verdict.GivenUp.{GivenUp}
+use Rattle.sc_search.specs.declared.verdict.Reason.{Reason}
+use Rattle.sc_search.specs.declared.verdict.Reason.TheVariants as reason
+use Rattle.sc_search.specs.Limits.{AreMet, ArePlayed, GivesUp, IsUsedUp, turns_a_state}
 use Rattle.sc_search.specs.Waiting.{AreMoving, IsAnewTurn}
 use Rattle.sc_search.specs.Waiting as world
 use Rattle.sc_headline.specs.Exactly.{OneWorld}
 use Rattle.sc_headline.specs.Headline.{machine_after}
-use Rattle.sc_headline.specs.Searched.{FoundOrdersAreTheMachines, IsSought, SearchesGiveUpAtLimits, SomeHasRefused, SomeWaits, WaitsForGood, WholeSearchesFindAll, statuses_in}
+use Rattle.sc_headline.specs.Searched.{FoundOrdersAreTheMachines, IsAtLimit, IsSought, SearchesGiveUpAtLimits, SomeHasRefused, SomeWaits, WaitsForGood, WholeSearchesFindAll, statuses_in}
 use Rattle.sc_headline.proofs.JoinedTurns as joined
 use Rattle.sc_headline.proofs.Statuses.{is_busy, is_waiting}
 use Rattle.sc_headline.proofs.Stuck.{busy_with, lives}
@@ -264,11 +267,25 @@ whole anew alike near tells movers open_of stay text root program version a stat
 
 -- ---- where a search gives up
 
--- turns lead to one world
+module _ (one : OneWorld) (text : List ℕ) (root : Root) (p : Image) (v : Version) (a : Aim) (limit : ℕ) (loaded : IsLoaded text root p) where
+  -- as many were met, so as many as may be kept
+  met_limit : (states : ℕ) → limit ≤ states → AreMet p v a states → AreMet p v a limit
+  met_limit states few met = record { states = met.states; many = omega (arith, few, met.many); unmet = met.unmet }
+
+  played_limit : (turns : ℕ) → turns_a_state * limit ≤ turns → ArePlayed p v turns → ArePlayed p v (turns_a_state * limit)
+  played_limit turns few played = record { orders = played.orders; each = played.each; many = omega (arith, few, played.many) }
+
+  -- turns lead to one world
+  by_reason : (g : GivenUp) (r : Reason) (states turns : ℕ) → IsUsedUp p v a limit r states turns → IsAtLimit p v a limit g
+  by_reason g reason.States states turns up = inl (met_limit states up.0 up.1)
+  by_reason g reason.Turns states turns up = inr (inl (played_limit turns up.0 up.1))
+  by_reason g reason.Memory states turns up = absurd up
+  by_reason g reason.Worlds states turns two =
+      absurd (two.differ (one text root p v two.order two.one two.other loaded two.leads_to_one two.leads_to_other))
+
+  at_limit : (g : GivenUp) → GivesUp p v a limit g → IsAtLimit p v a limit g
+  at_limit g (inl up) = by_reason g g.reason g.states g.turns up
+  at_limit g (inr memory) = inr (inr memory)
+
 pub gives_up : OneWorld → SearchesGiveUpAtLimits
-gives_up one text root p v a limit loaded up = by up
-  where
-    by : GivesUp p v a limit → AreMet p v a limit ⊎ ArePlayed p v (turns_a_state * limit)
-    by (AllMet met) = inl met
-    by (AllPlayed played) = inr played
-    by (Two two) = absurd (two.differ (one text root p v two.order two.one two.other loaded two.leads_to_one two.leads_to_other))
+gives_up one text root p v a limit g loaded up = at_limit one text root p v a limit loaded g up

@@ -16,10 +16,11 @@ use Rattle.sc_world.specs.Kept.{PlainKept}
 use Rattle.sc_frontend.specs.Texts.{IsLoaded, IsRead, IsSound}
 use Rattle.sc_search.specs.declared.aims.Aim.{Aim}
 use Rattle.sc_search.specs.declared.aims.Aim.TheVariants as aim
+use Rattle.sc_search.specs.declared.verdict.GivenUp.{GivenUp}
 use Rattle.sc_search.specs.Aims.{AreStuck, HasFailed, SomeRefuses}
 use Rattle.sc_search.specs.Closed.{IsClosed}
 use Rattle.sc_search.specs.Found.{LeadsTo, turns_of}
-use Rattle.sc_search.specs.Limits.{AreMet, ArePlayed, GivesUp, turns_a_state}
+use Rattle.sc_search.specs.Limits.{AreMet, ArePlayed, GivesUp, LacksMemory, turns_a_state}
 use Rattle.sc_search.specs.Waiting.{AreMoving}
 use Rattle.sc_search.specs.Waiting as world
 use Rattle.sc_headline.specs.Headline.{HasNoTurn, machine_after}
@@ -92,10 +93,13 @@ WholeSearchesFindAll =
 
 -- ---- where a search gives up
 
--- A search of a text's program gives up only if it has met as many states as it may keep, or has played as many
--- turns as that allows.
+-- As many states as may be kept were met, or as many turns as that allows were played, or memory ran out.
+abbrev pub IsAtLimit : Image → Version → Aim → ℕ → GivenUp → Type 0
+IsAtLimit p v a limit g =
+    AreMet p v a limit ⊎ ArePlayed p v (turns_a_state * limit) ⊎ LacksMemory g
+
+-- A search of a text's program gives up only if that is so.
 abbrev pub SearchesGiveUpAtLimits : Type 0
 SearchesGiveUpAtLimits =
-    (text : List ℕ) (root : Root) (program : Image) (version : Version) (a : Aim) (limit : ℕ) →
-    IsLoaded text root program → GivesUp program version a limit →
-    AreMet program version a limit ⊎ ArePlayed program version (turns_a_state * limit)
+    (text : List ℕ) (root : Root) (program : Image) (version : Version) (a : Aim) (limit : ℕ) (g : GivenUp) →
+    IsLoaded text root program → GivesUp program version a limit g → IsAtLimit program version a limit g
