@@ -67,7 +67,7 @@ _scoop_words() {
             '--states=[The most states that are kept, 1 to 10000000]:N:' \
             '--record=[Writes the record of the order that is found to this file]:PATH:_files' \
             '--outcomes[Lists each outcome: the report of an order that ends so]' \
-            '--explain[Shows where a refusal stands, or says who waits for whom and why one fails, on standard error; the default where that is a terminal]' \
+            '--explain[Shows where a refusal stands, or says who waits for whom, why one fails or why the search gave up, on standard error; the default where that is a terminal]' \
             '--no-explain[Leaves that out]' \
             '--format=[How the answer is written: as lines, or as one object of JSON]:FORMAT:(text json)' \
             '--root=[The root class and its creation procedure]:CLASS.PROCEDURE:' \

@@ -193,7 +193,7 @@ Exit status:
   3  a handler has failed, or does in an order that was found
   4  a handler is waiting or busy, or waits for good in an order that was found
   5  memory or a thread is refused, or what the threads did doesn't agree
-  6  a search found nothing and proved nothing: its states were used up";
+  6  a search found nothing and proved nothing: it gave up";
 
 const RUN_AFTER_HELP: &str = "\
 Limits:

@@ -1,5 +1,5 @@
 -- What the program answers to a search.
-use Rattle.std.specs.Prelude.{ℕ, ◌≡◌, ◌-◌, ◌^◌, ◌⊎◌, Bool, true, false, List, [], ◌++◌, Option, None, codes, decimal, length, min}
+use Rattle.std.specs.Prelude.{ℕ, ◌≡◌, ◌-◌, ◌^◌, ◌⊎◌, Bool, true, false, List, [], ◌++◌, Option, Some, None, codes, decimal, if◌then◌else◌, length, min}
 use Rattle.std.specs.Option.{option_map}
 use Rattle.sc_lockpass.specs.declared.version.Version.TheVariants.{Two}
 use Rattle.sc_audit.specs.declared.line.RecordLine.{RecordLine}
@@ -13,9 +13,12 @@ use Rattle.sc_search.specs.declared.aims.Aim.{Aim}
 use Rattle.sc_search.specs.declared.aims.Aim.TheVariants as aim
 use Rattle.sc_search.specs.declared.verdict.Finding.{Finding}
 use Rattle.sc_search.specs.declared.verdict.Finding.TheVariants as finding
+use Rattle.sc_search.specs.declared.verdict.GivenUp.{GivenUp}
 use Rattle.sc_search.specs.declared.verdict.Length.{Length}
 use Rattle.sc_search.specs.declared.verdict.Length.TheVariants as span
 use Rattle.sc_search.specs.declared.verdict.Order.{Order}
+use Rattle.sc_search.specs.declared.verdict.Reason.{Reason}
+use Rattle.sc_search.specs.declared.verdict.Reason.TheVariants as reason
 use Rattle.sc_search.specs.declared.verdict.Verdict.{Verdict}
 use Rattle.sc_search.specs.Ends.{AreEnds}
 use Rattle.sc_search.specs.Found.{IsFirst, IsFound}
@@ -96,11 +99,27 @@ outcomes_line finding.Undecided count = []
 abbrev pub states_line : ℕ → List ℕ
 states_line count = codes "states " ++ (decimal count ++ codes "\n")
 
+abbrev pub is_memory : Reason → Bool
+is_memory reason.States = false
+is_memory reason.Turns = false
+is_memory reason.Memory = true
+is_memory reason.Worlds = false
+
+-- whether a search gave up since memory ran out
+abbrev pub lacks_memory : Option GivenUp → Bool
+lacks_memory None = false
+lacks_memory (Some why) = is_memory why.reason
+
+-- the line that says so
+abbrev pub memory_line : Option GivenUp → List ℕ
+memory_line why = if lacks_memory why then codes "out of memory\n" else []
+
 abbrev pub verdict_lines : Sought → Verdict → List ℕ
 verdict_lines what verdict =
     finding_line what verdict.is_whole verdict.finding
     ++ (length_line verdict.length
-    ++ (outcomes_line verdict.finding (length verdict.ends.items) ++ states_line verdict.states))
+    ++ (outcomes_line verdict.finding (length verdict.ends.items)
+    ++ (states_line verdict.states ++ memory_line verdict.why)))
 
 -- The output is the lines of the verdict, and after them the outcomes if they are to be listed.
 abbrev pub IsTold : Sought → Bool → Verdict → List ℕ → Type 0
@@ -120,11 +139,11 @@ found_for name finding.Undecided = None
 -- The answer to a search of the program: a verdict on its orders of turns, and the exit for it. An order that was
 -- found leads to what the verdict says, and no beginning of it does. If every order was played, nothing was found and
 -- there is nothing to find. If nothing was found and some orders weren't played, or if the search is undecided, one of
--- three things is true. There is a list of as many states as may be kept: turns lead to each, and none of them is what
+-- four things is true. There is a list of as many states as may be kept: turns lead to each, and none of them is what
 -- was looked for. Or there is a list of orders, each of which can be played from the opening on, with 2,000 turns
--- together for each state that may be kept. Or an order leads to two worlds. The states of the list need not differ,
--- and the orders need not either. Each outcome is that of an order that ends. The order that was found is to be
--- written as a record if a file is named for it.
+-- together for each state that may be kept. Or an order leads to two worlds. Or the answer says that memory ran out. The
+-- states of the list need not differ, and the orders need not either. Each outcome is that of an order that ends. The
+-- order that was found is to be written as a record if a file is named for it.
 pub record IsSearchOf (program : Image) (options : SearchOptions) (output : List ℕ) (exit : Exit)
     (recording : Option Recording) : Type 0 where
   pub verdict : Verdict
@@ -132,7 +151,7 @@ pub record IsSearchOf (program : Image) (options : SearchOptions) (output : List
   pub first : IsFirst program Two (aim_of options.sought) verdict.finding
   pub ends : AreEnds program Two verdict.ends.items
   pub whole : IsShown program Two (aim_of options.sought) verdict
-  pub why : SaysWhy program Two (aim_of options.sought) options.states verdict.is_whole verdict.finding
+  pub why : SaysWhy program Two (aim_of options.sought) options.states verdict.is_whole verdict.finding verdict.why
   pub told : IsTold options.sought options.lists_outcomes verdict output
   pub status : exit ≡ exit_for verdict.is_whole verdict.finding
   pub kept : kept_of recording ≡ found_for (option_map (λ n. n.now) options.record) verdict.finding

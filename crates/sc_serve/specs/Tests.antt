@@ -41,7 +41,7 @@ use Rattle.sc_arguments.specs.declared.arguments.testing.TestFormat.{TestFormat}
 use Rattle.sc_arguments.specs.declared.arguments.testing.TestFormat.TheVariants as tests
 use Rattle.sc_arguments.specs.declared.arguments.testing.TestOptions.{TestOptions}
 use Rattle.sc_serve.specs.Answer.{IsRefusalOf, IsSourceOf, TellsTooLong}
-use Rattle.sc_serve.specs.Search.{told_turns}
+use Rattle.sc_serve.specs.Search.{lacks_memory, told_turns}
 use Rattle.sc_serve.specs.declared.serve.Answer.{Answer}
 use Rattle.sc_serve.specs.declared.serve.Exit.{Exit}
 use Rattle.sc_serve.specs.declared.serve.Exit.TheVariants.{Done, Failed, Undecided}
@@ -111,14 +111,15 @@ pub record IsOutcomeOfRun (program : Image) (turns : ℕ) (how : Outcome) (order
   pub judged : how ≡ outcome_of_run (center_of left.core) left.lines.items
   pub kept : order ≡ order_of_run (center_of left.core) left.lines.items
 
--- The outcome is that of the verdict on all orders of the program's turns, with as many states as may be kept. The order
--- is the one that was found.
+-- The outcome is that of the verdict on all orders of the program's turns, with as many states as may be kept. The search
+-- had memory enough. The order is the one that was found.
 pub record IsOutcomeOfSearch (program : Image) (states : ℕ) (how : Outcome) (order : Option (List RecordLine)) : Type 0 where
   pub verdict : Verdict
   pub found : IsFound program Two verdict.finding
   pub first : IsFirst program Two Any verdict.finding
   pub whole : IsShown program Two Any verdict
-  pub why : SaysWhy program Two Any states verdict.is_whole verdict.finding
+  pub why : SaysWhy program Two Any states verdict.is_whole verdict.finding verdict.why
+  pub had_memory : lacks_memory verdict.why ≡ false
   pub judged : how ≡ outcome_of_search verdict.is_whole verdict.length verdict.finding
   pub kept : order ≡ order_of_search verdict.finding
 

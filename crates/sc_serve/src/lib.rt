@@ -12,6 +12,7 @@ mod delivery;
 mod explaining;
 mod fault_list;
 mod folder;
+mod giving_up;
 mod json;
 mod layouts;
 mod numbered;

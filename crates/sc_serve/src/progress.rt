@@ -1,7 +1,8 @@
 //! What people see on the way to an answer.
 
-use sc_search::Watch;
+use sc_search::{Pass, Stage, Watch};
 use std::io::Write;
+use std::time::{Clock, Instant};
 
 /// How much the number of states has to grow before it is shown again.
 const STEP: u32 = 256;
@@ -16,25 +17,62 @@ pub trait Tell {
 
     /// Shows there how many turns of a run are made, and how many handlers there are.
     fn show_run(&mut self, turns: u64, handlers: usize);
+
+    /// For how many milliseconds the call goes on, if there is a clock.
+    fn millis(&self) -> Option<u64>;
 }
 
 /// Shows on a line of a terminal, which is overwritten each time, how far a search or a run is; elsewhere it shows
 /// nothing of that. Lines that stay are shown anywhere.
 #[derive(Drop)]
-pub struct Progress<'e, E> {
+pub struct Progress<'e, C, E> {
+    clock: &'e C,
     err: &'e mut E,
     is_shown: bool,
+    /// When the call began, if there is a clock.
+    began: Option<Instant>,
     /// How many states were said last, if something was said.
     said: Option<u32>,
+    /// The pass of a search that was seen last, by number, and when it began, in milliseconds.
+    pass: u32,
+    pass_began: u64,
+    /// When a search was seen last, in milliseconds.
+    seen: u64,
 }
 
-impl<'e, E: Write> Progress<'e, E> {
-    pub fn new(err: &'e mut E, is_shown: bool) -> Self {
+impl<'e, C: Clock, E: Write> Progress<'e, C, E> {
+    pub fn new(clock: &'e C, err: &'e mut E, is_shown: bool) -> Self {
+        let began = match Instant::now(clock) {
+            Ok(began) => Some(began),
+            Err(_) => None,
+        };
         Progress {
+            clock,
             err,
             is_shown,
+            began,
             said: None,
+            pass: 1,
+            pass_began: 0,
+            seen: 0,
         }
+    }
+
+    /// How many of these states the pass has kept in each second, if that is known.
+    fn rate(&mut self, pass: u32, states: u32) -> Option<u64> {
+        let Some(millis) = self.millis() else {
+            return None;
+        };
+        if self.pass != pass {
+            self.pass = pass;
+            self.pass_began = self.seen;
+        }
+        self.seen = millis;
+        let took = millis.saturating_sub(self.pass_began);
+        if took == 0 {
+            return None;
+        }
+        Some(states as u64 * 1_000 / took)
     }
 
     /// Clears the line, if there is one.
@@ -51,7 +89,7 @@ impl<'e, E: Write> Progress<'e, E> {
     }
 }
 
-impl<'e, E: Write> Tell for Progress<'e, E> {
+impl<'e, C: Clock, E: Write> Tell for Progress<'e, C, E> {
     fn tell(&mut self, lines: &[u8]) {
         self.clear();
         self.said = None;
@@ -72,14 +110,46 @@ impl<'e, E: Write> Tell for Progress<'e, E> {
             self.show("\x1b[K");
         }
     }
+
+    fn millis(&self) -> Option<u64> {
+        let Some(began) = self.began else {
+            return None;
+        };
+        match began.elapsed(self.clock) {
+            Ok(took) => Some(took.as_millis().min(u64::MAX as u128) as u64),
+            Err(_) => None,
+        }
+    }
 }
 
-impl<'e, E: Write> Watch for Progress<'e, E> {
-    fn kept(&mut self, states: u32) {
-        if self.is_shown && states.abs_diff(self.said.unwrap_or(0)) >= STEP {
-            self.said = Some(states);
-            let _ = write!(self.err, "\r{states} states");
-            self.show("\x1b[K");
+impl<'e, C: Clock, E: Write> Watch for Progress<'e, C, E> {
+    fn is_due(&self, states: u32) -> bool {
+        self.is_shown && states.abs_diff(self.said.unwrap_or(0)) >= STEP
+    }
+
+    fn sees(&mut self, stage: Stage) {
+        let Stage {
+            pass,
+            states,
+            depth,
+        } = stage;
+        self.said = Some(states);
+        let number = number_of(pass);
+        let _ = write!(
+            self.err,
+            "\rpass {number}: {states} states, {depth} turns deep"
+        );
+        if let Some(rate) = self.rate(number, states) {
+            let _ = write!(self.err, ", {rate} a second");
         }
+        self.show("\x1b[K");
+    }
+}
+
+/// The number of a pass.
+fn number_of(pass: Pass) -> u32 {
+    match pass {
+        Pass::Choices => 1,
+        Pass::AllTurns => 2,
     }
 }

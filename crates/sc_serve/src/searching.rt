@@ -7,14 +7,15 @@ ghost use Rattle.sc_serve.specs.Answer.{IsUnansweredOn, kept_of, out_of_memory};
 ghost use Rattle.sc_serve.specs.Search as spec;
 ghost use Rattle.sc_serve.specs.Search.{IsSearchOf, IsSearchOfSource, IsSearchOn, IsTold};
 
+use crate::giving_up::unfound_note;
 use crate::json::search_object;
+use crate::progress::Tell;
 use crate::serve::{Answer, Exit, Fault, Recording, answer_explained, answer_unread, root_if};
 use crate::verdict::{outcome_lines, verdict_lines};
 use sc_arguments::{Format, SearchOptions, Sought};
 use sc_audit::RecordLine;
 use sc_code::Program;
 use sc_explain_run::{Limit, Played, order_note};
-use sc_explain_text::Lines;
 use sc_frontend::load_text;
 use sc_lockpass::Version;
 use sc_search::{Aim, Finding, Verdict, Watch, search};
@@ -24,7 +25,7 @@ use std::alloc::{AllocError, Global};
 
 /// Plays the system of the named files in every order of turns.
 #[inline(never)]
-pub fn answer_search<'a, F: Files, W: Watch>(
+pub fn answer_search<'a, F: Files, W: Watch + Tell>(
     alloc: Global,
     options: &SearchOptions<'a>,
     files: &F,
@@ -45,7 +46,7 @@ pub fn answer_search<'a, F: Files, W: Watch>(
 }
 
 /// Plays the system of a source text in every order of turns.
-fn search_source<'a, W: Watch>(
+fn search_source<'a, W: Watch + Tell>(
     alloc: Global,
     options: &SearchOptions<'a>,
     source: &Source,
@@ -70,7 +71,7 @@ fn search_source<'a, W: Watch>(
 }
 
 /// Plays the program of a source text in every order of turns.
-fn search_loaded<'a, W: Watch>(
+fn search_loaded<'a, W: Watch + Tell>(
     alloc: Global,
     program: &Program,
     options: &SearchOptions<'a>,
@@ -84,8 +85,9 @@ fn search_loaded<'a, W: Watch>(
 {
     let aim = aim_of(options.sought);
     let verdict = search(alloc, program, Version::Two, aim, options.states, watch)?;
+    let millis = watch.millis();
     let VerdictText { text, object, note } = write_verdict(
-        alloc, program, options, source, &verdict,
+        alloc, program, options, source, &verdict, millis,
     )?;
     let exit = exit_of(&verdict);
     Ok(Answer {
@@ -105,7 +107,7 @@ struct VerdictText {
     note: Vec<u8>,
 }
 
-/// Writes a verdict.
+/// Writes a verdict, of a search that took so many milliseconds.
 #[inline(never)]
 fn write_verdict(
     alloc: Global,
@@ -113,13 +115,14 @@ fn write_verdict(
     options: &SearchOptions<'_>,
     source: &Source,
     verdict: &Verdict,
+    millis: Option<u64>,
 ) -> Result<VerdictText, AllocError>
     ensures text { IfOk result (λ told. IsTold options.now.sought options.now.lists_outcomes verdict.now told.text.items) }
     ensures object { options.now.format ≡ Format.Text → IfOk result (λ told. told.object ≡ None) }
 {
     let text = verdict_text(alloc, options, verdict)?;
     let object = object_of(alloc, options, verdict)?;
-    let note = note_of(alloc, program, options, source, &verdict.finding)?;
+    let note = note_of(alloc, program, options, source, verdict, millis)?;
     Ok(VerdictText { text, object, note })
 }
 
@@ -187,33 +190,30 @@ fn object_of(
     }
 }
 
-/// What is said beside the verdict: that there is no order for the record, and why handlers wait or fail where that is asked
-/// for.
+/// What is said beside the verdict: that there is no order for the record, and why handlers wait or fail or the search gave
+/// up, where that is asked for.
 fn note_of(
     alloc: Global,
     program: &Program,
     options: &SearchOptions<'_>,
     source: &Source,
-    finding: &Finding,
+    verdict: &Verdict,
+    millis: Option<u64>,
 ) -> Result<Vec<u8>, AllocError> {
-    match (lines_of(finding), options.record) {
-        (None, Some(name)) => {
-            let mut lines = Lines::new(alloc);
-            lines.fill_name("no order was found, so nothing is written to ~\n", name);
-            lines.finish()
-        }
-        (Some(lines), _) if options.is_explained => {
+    match lines_of(&verdict.finding) {
+        None => unfound_note(alloc, options, verdict.why, millis),
+        Some(lines) if options.is_explained => {
             let played = Played {
                 source,
                 program,
                 version: Version::Two,
                 lines,
-                limit: limit_of(finding),
+                limit: limit_of(&verdict.finding),
                 may_refuse: true,
             };
             order_note(alloc, played)
         }
-        _ => Ok(Vec::new(alloc)),
+        Some(_) => Ok(Vec::new(alloc)),
     }
 }
 

@@ -156,7 +156,7 @@ pub fn serve<
     ensures { let words = map S.text arguments.now in
         IsServed words (F.bytes_of files.now) (O.contents out.old) (O.contents out.new) result }
 {
-    let mut progress = Progress::new(err, is_terminal);
+    let mut progress = Progress::new(rt, err, is_terminal);
     let response = respond(rt, arguments, files, &mut progress, is_terminal);
     progress.clear();
     match response {

@@ -15,7 +15,7 @@ use crate::running::fault_of;
 use crate::searching::{limit_of, lines_of};
 use crate::serve::Fault;
 use crate::tracing::Tracing;
-use crate::verdict::turns_of;
+use crate::verdict::{lacks_memory, turns_of};
 use crate::watching::RunWatch;
 use sc_arguments::TestOptions;
 use sc_audit::RecordLine;
@@ -189,6 +189,9 @@ fn search_test<W: Watch>(
         options.states,
         watch,
     )?;
+    if lacks_memory(verdict.why) {
+        return Err(AllocError);
+    }
     let note = search_note_of(alloc, program, options, source, &verdict.finding)?;
     Ok(Trial {
         outcome: outcome_of(&verdict),

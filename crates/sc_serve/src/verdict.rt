@@ -7,11 +7,11 @@ use crate::numbered::push_number;
 use sc_arguments::Sought;
 use sc_audit::RecordLine;
 use sc_explain_text::Lines;
-use sc_search::{End, Finding, Length, Order, Verdict};
+use sc_search::{End, Finding, GivenUp, Length, Order, Reason, Verdict};
 use std::alloc::{AllocError, Global};
 
 /// The lines that tell a verdict on what was looked for: what was found, whether orders end, how many outcomes there are where
-/// nothing was found, and how many states were kept.
+/// nothing was found, how many states were kept, and whether memory ran out.
 pub fn verdict_lines(
     alloc: Global,
     sought: Sought,
@@ -24,6 +24,7 @@ pub fn verdict_lines(
     push_length(alloc, &mut lines, verdict.length)?;
     push_outcomes(alloc, &mut lines, &verdict.finding, verdict.ends.len())?;
     push_number(alloc, &mut lines, "states ", verdict.states as u64, "\n")?;
+    push_memory(&mut lines, verdict.why)?;
     Ok(lines)
 }
 
@@ -114,6 +115,30 @@ fn push_outcomes(
     match finding {
         Finding::Nothing => push_number(alloc, lines, "outcomes ", count as u64, "\n"),
         Finding::Stuck(_) | Finding::Fails(_) | Finding::Refused(_) | Finding::Undecided => Ok(()),
+    }
+}
+
+/// Adds that memory ran out, if the search gave up for this reason.
+fn push_memory(lines: &mut Vec<u8>, why: Option<GivenUp>) -> Result<(), AllocError>
+    ensures { OnOk result (lines.new.items ≡ lines.old.items ++ spec.memory_line why) }
+{
+    if lacks_memory(why) {
+        lines.extend_from_slice(b"out of memory\n")
+    } else {
+        Ok(())
+    }
+}
+
+/// Whether a search gave up since memory ran out.
+pub fn lacks_memory(why: Option<GivenUp>) -> bool
+    ensures { result ≡ spec.lacks_memory why }
+{
+    let Some(why) = why else {
+        return false;
+    };
+    match why.reason {
+        Reason::Memory => true,
+        Reason::States | Reason::Turns | Reason::Worlds => false,
     }
 }
 

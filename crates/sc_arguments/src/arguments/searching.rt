@@ -75,7 +75,7 @@ one of the lines
   stuck after N turns    an order leaves handlers waiting for good
   fails after N turns    a handler fails in an order
   refused after N turns  a handler refuses a request in an order
-  undecided              the states were used up before all was played
+  undecided              the states or turns were used up before all was played
 
 and below it how many outcomes and states there are. A handler is stuck, and waits
 for good, if no order gives it a turn any more, whatever others do. Beside others that
@@ -95,8 +95,8 @@ Exit status:
   2  an argument, a file or the output is at fault
   3  an order makes a handler fail, or refuse a request
   4  an order leaves a handler waiting for good
-  5  memory ran out
-  6  none found, or undecided: the states were used up";
+  5  memory ran out before there was an answer
+  6  none found, or undecided: states, turns or memory were used up";
 
 pub const STATES_HELP: &str = "The most states that are kept, 1 to 10000000";
 
@@ -105,7 +105,7 @@ const FOUND_HELP: &str = "Writes the record of the order that is found to this f
 const OUTCOMES_HELP: &str = "Lists each outcome: the report of an order that ends so";
 
 const SEARCH_EXPLAIN_HELP: &str =
-    "Shows where a refusal stands, or says who waits for whom and why one fails, on standard error; the default where that is a terminal";
+    "Shows where a refusal stands, or says who waits for whom, why one fails or why the search gave up, on standard error; the default where that is a terminal";
 
 /// What `search` takes.
 const SEARCH_TAKES: [Taken; 9] = [

@@ -6,7 +6,7 @@ use crate::verdict::turns_of;
 use sc_arguments::{SearchOptions, Sought};
 use sc_audit::RecordLine;
 use sc_explain_text::Lines;
-use sc_search::{End, Finding, Length, Verdict};
+use sc_search::{End, Finding, GivenUp, Length, Pass, Reason, Verdict};
 use std::alloc::{AllocError, Global};
 
 /// The object of a verdict, with its outcomes if they are to be listed.
@@ -18,7 +18,9 @@ pub fn search_object(
     let mut lines = Lines::new(alloc);
     let order = lines_of(&verdict.finding);
     lines.push(answer_of(options.sought, verdict));
-    push_length(&mut lines, verdict.length);
+    push_endless(&mut lines, verdict.length);
+    push_why(&mut lines, verdict.why);
+    push_longest(&mut lines, verdict.length);
     lines.push(r#","order":"#);
     push_order(&mut lines, order);
     lines.fill_number(outcomes_of(verdict), verdict.ends.len() as u64);
@@ -47,15 +49,40 @@ fn answer_of(sought: Sought, verdict: &Verdict) -> &'static str {
     }
 }
 
-/// Writes whether some order goes on for ever, and how many turns an order has at most, as far as that is known.
-fn push_length(lines: &mut Lines, length: Length) {
+/// Writes whether some order goes on for ever, as far as that is known.
+fn push_endless(lines: &mut Lines, length: Length) {
+    lines.push(match length {
+        Length::AtMost(_) => r#","endless":false"#,
+        Length::Endless => r#","endless":true"#,
+        Length::Unknown => r#","endless":null"#,
+    })
+}
+
+/// Writes how many turns an order has at most, as far as that is known.
+fn push_longest(lines: &mut Lines, length: Length) {
     match length {
-        Length::AtMost(turns) => {
-            lines.fill_number(r#","endless":false,"longest":~"#, turns as u64)
-        }
-        Length::Endless => lines.push(r#","endless":true,"longest":null"#),
-        Length::Unknown => lines.push(r#","endless":null,"longest":null"#),
+        Length::AtMost(turns) => lines.fill_number(r#","longest":~"#, turns as u64),
+        Length::Endless | Length::Unknown => lines.push(r#","longest":null"#),
     }
+}
+
+/// Writes why the search gave up, and how far it came; null if it didn't.
+fn push_why(lines: &mut Lines, why: Option<GivenUp>) {
+    let Some(why) = why else {
+        return lines.push(r#","gave_up":null"#);
+    };
+    lines.push(match why.pass {
+        Pass::Choices => r#","gave_up":{"pass":1,"reason":"#,
+        Pass::AllTurns => r#","gave_up":{"pass":2,"reason":"#,
+    });
+    lines.push(match why.reason {
+        Reason::States => r#""states""#,
+        Reason::Turns => r#""turns""#,
+        Reason::Memory => r#""memory""#,
+        Reason::Worlds => r#""worlds""#,
+    });
+    lines.fill_number(r#","states":~"#, why.states as u64);
+    lines.fill_number(r#","turns":~}"#, why.turns)
 }
 
 /// The number of outcomes, whether the answer is more than what was met, and the name of the reports. An order that was

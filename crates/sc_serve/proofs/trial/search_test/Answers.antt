@@ -1,3 +1,4 @@
+use Rattle.std.proofs.Common.{◌∙◌, sym}
 use Rattle.sc_serve.proofs.trial.search_test.Goals as goal
 
 -- how the test came out by the verdict, with the order that was found
@@ -9,6 +10,7 @@ returns g c =
       first = c.in_ok-verdict.ensures.first;
       whole = c.in_ok-verdict.ensures.whole;
       why = c.in_ok-verdict.ensures.why;
+      had_memory = sym c.lacks_memory.ensures ∙ c.if-lacks_memory.false;
       judged = c.outcome_of.ensures;
       kept = c.order_of.ensures;
     }
