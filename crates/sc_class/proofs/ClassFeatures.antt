@@ -1,5 +1,5 @@
 -- The features of classes, which are found from parents to heirs.
-use Rattle.std.proofs.Common.{◌≡◌, ◌<◌, ◌≤◌, ◌+◌, ℕ, zero, suc, Bool, true, false, cond, List, [], ◌∷◌, ◌++◌, Option, Some, None, length, get_or, map, drop, refl, ap, sym, subst, ◌∙◌, arith, append_assoc, ◌⊎◌, inl, inr}
+use Rattle.std.proofs.Common.{◌≡◌, ◌<◌, ◌+◌, ℕ, zero, suc, Bool, true, false, cond, List, [], ◌∷◌, ◌++◌, Option, Some, None, length, get_or, map, drop, refl, ap, sym, subst, ◌∙◌, arith, append_assoc, ◌⊎◌, inl, inr}
 use Rattle.std.specs.Prelude.{not, slice_get, slice_set, string_bytes}
 use Rattle.std.proofs.lemmas.List.{map-append}
 use Rattle.sc_tree.specs.Plain.{System, Name}
@@ -13,7 +13,6 @@ use Rattle.sc_class.specs.View.{entry_of}
 use Rattle.sc_class.specs.Internal.FoundFeatures.{AreWithin, AreAbove, AreFeatures, AreItsIfAny, AreFound, Keeps}
 use Rattle.sc_class.proofs.AncestorLemmas.{not_redefined-none}
 use Rattle.sc_class.proofs.Anys.{at}
-use Rattle.sc_class.proofs.Items.{some_is}
 
 -- ---- what a class inherits
 

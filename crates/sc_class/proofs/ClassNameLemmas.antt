@@ -10,9 +10,10 @@ use Rattle.sc_tree.specs.Plain.{Class, Name}
 use Rattle.sc_tree.specs.View.{class_of}
 use Rattle.sc_class.specs.Names.{is_listed, number_among}
 use Rattle.sc_class.specs.ClassNames.{is_built_in, class_names, RepeatedAt, built_in, repeated, further}
-use Rattle.sc_class.specs.Internal.Found.{FindsFirstPlace, first_place}
+use Rattle.sc_class.specs.Internal.Found.{FindsOnly}
+use Rattle.sc_class.specs.Internal.Places.{Gains, if_any, union}
 use Rattle.sc_class.proofs.Anys.{at, seen, take_end}
-use Rattle.sc_class.proofs.SearchLemmas.{first_either}
+use Rattle.sc_class.proofs.PlaceLists.{gains_none, gains_both, gains_union, only}
 
 -- whether a name is one of those before it decides at which number it is found
 found_before : (x : List ℕ) (ns ms : List Name) (n : Name) → n.text ≡ x → (b : Bool) → is_listed x ns ≡ b → option_eq eqb (number_among x (ns ++ n ∷ ms)) (Some (length ns)) ≡ not b
@@ -57,12 +58,12 @@ repeated_parts {p} ns (x ∷ xs) ys (further r) = by (repeated_parts (ns ++ x.na
     by (inr b) = inr (subst (λ ns. RepeatedAt ns ys p) (append_assoc ns (x.name ∷ []) (class_names xs)) b)
 
 -- a class behind others has one name, which is taken or isn't
-one_repeated : (ns : List Name) (x : Class) (b : Bool) → (is_built_in x.name.text || is_listed x.name.text ns) ≡ b → FindsFirstPlace (RepeatedAt ns (x ∷ [])) (if b then Some x.name.span else None)
+one_repeated : (ns : List Name) (x : Class) (b : Bool) → (is_built_in x.name.text || is_listed x.name.text ns) ≡ b → FindsOnly (RepeatedAt ns (x ∷ [])) (if b then Some x.name.span else None)
 one_repeated ns x b e = by (is_built_in x.name.text) refl (is_listed x.name.text ns) refl b e
   where
-    there : (p : Span) → RepeatedAt ns (x ∷ []) p → x.name.span.start ≤ p.start
-    there _ (built_in f) = omega arith
-    there _ (repeated f) = omega arith
+    there : (p : Span) → RepeatedAt ns (x ∷ []) p → p ≡ x.name.span
+    there _ (built_in f) = refl
+    there _ (repeated f) = refl
     there _ (further r) = elim r [ ]
 
     free : is_built_in x.name.text ≡ false → is_listed x.name.text ns ≡ false → (p : Span) → RepeatedAt ns (x ∷ []) p → ⊥
@@ -70,7 +71,7 @@ one_repeated ns x b e = by (is_built_in x.name.text) refl (is_listed x.name.text
     free f g _ (repeated h) = cc
     free f g _ (further r) = elim r [ ]
 
-    by : (a : Bool) → is_built_in x.name.text ≡ a → (c : Bool) → is_listed x.name.text ns ≡ c → (b : Bool) → (a || c) ≡ b → FindsFirstPlace (RepeatedAt ns (x ∷ [])) (if b then Some x.name.span else None)
+    by : (a : Bool) → is_built_in x.name.text ≡ a → (c : Bool) → is_listed x.name.text ns ≡ c → (b : Bool) → (a || c) ≡ b → FindsOnly (RepeatedAt ns (x ∷ [])) (if b then Some x.name.span else None)
     by true f c g true e = (built_in f, there)
     by true f c g false e = cc
     by false f true g true e = (repeated g, there)
@@ -111,23 +112,20 @@ module _ (cs : List tree.Class) where
       twice true = refl
       twice false = refl
 
-  pub none_repeated : FindsFirstPlace (RepeatedAt [] (map class_of (take 0 cs))) None
-  none_repeated p r = elim r [ ]
+  pub repeated_begin : (old : List Span) → Gains (RepeatedAt [] (map class_of (take 0 cs))) old old
+  repeated_begin old = gains_none old (λ p r. elim r [ ])
 
-  pub repeated_more : (k : ℕ) (x : tree.Class) (o found next : Option Span) → k < length cs → x ≡ get_or cs k x → o ≡ (if taken k (class_of x).name then Some (class_of x).name.span else None) → next ≡ first_place found o →
-      FindsFirstPlace (RepeatedAt [] (map class_of (take k cs))) found → FindsFirstPlace (RepeatedAt [] (map class_of (take (k + 1) cs))) next
-  repeated_more k x o found next l g e n h =
-      subst (FindsFirstPlace (RepeatedAt [] (map class_of (take (k + 1) cs)))) (sym (n ∙ ap (first_place found) e))
-      (subst (λ ys. FindsFirstPlace (RepeatedAt [] ys) (first_place found o')) (sym (ap (map class_of) (seen cs k x l g) ∙ map-append class_of (take k cs) (x ∷ [])))
-      (first_either (λ (p : Span). p.start) {P = RepeatedAt [] before} {Q = RepeatedAt (class_names before) (class_of x ∷ [])} {R = RepeatedAt [] (before ++ class_of x ∷ [])} found o'
+  pub repeated_more : (k : ℕ) (x : tree.Class) (o : Option Span) (old found next : List Span) → k < length cs → x ≡ get_or cs k x → o ≡ (if taken k (class_of x).name then Some (class_of x).name.span else None) → next ≡ union found (if_any o) →
+      Gains (RepeatedAt [] (map class_of (take k cs))) old found → Gains (RepeatedAt [] (map class_of (take (k + 1) cs))) old next
+  repeated_more k x o old found next l g e n h =
+      subst (λ ys. Gains (RepeatedAt [] ys) old next) (sym (ap (map class_of) (seen cs k x l g) ∙ map-append class_of (take k cs) (x ∷ [])))
+      (gains_both {P = RepeatedAt [] before} {Q = RepeatedAt (class_names before) (class_of x ∷ [])} {R = RepeatedAt [] (before ++ class_of x ∷ [])}
       (λ p r. repeated_left (class_of x ∷ []) r) (λ p r. repeated_right [] before (class_of x ∷ []) r) (λ p r. repeated_parts [] before (class_of x ∷ []) r) h
-      (one_repeated (class_names before) (class_of x) (taken k (class_of x).name) (taken_is k x l g))))
+      (gains_union found (if_any o) next (only (RepeatedAt (class_names before) (class_of x ∷ [])) o
+      (subst (FindsOnly (RepeatedAt (class_names before) (class_of x ∷ []))) (sym e) (one_repeated (class_names before) (class_of x) (taken k (class_of x).name) (taken_is k x l g)))) n))
     where
       before : List Class
       before = map class_of (take k cs)
 
-      o' : Option Span
-      o' = if taken k (class_of x).name then Some (class_of x).name.span else None
-
-  pub repeated_of_all : (k : ℕ) (found : Option Span) (all : List Class) → map class_of cs ≡ all → length cs ≤ k → FindsFirstPlace (RepeatedAt [] (map class_of (take k cs))) found → FindsFirstPlace (RepeatedAt [] all) found
-  repeated_of_all k found all e l h = subst (λ ys. FindsFirstPlace (RepeatedAt [] ys) found) (ap (map class_of) (take_end cs k l) ∙ e) h
+  pub repeated_of_all : (k : ℕ) (old found : List Span) (all : List Class) → map class_of cs ≡ all → length cs ≤ k → Gains (RepeatedAt [] (map class_of (take k cs))) old found → Gains (RepeatedAt [] all) old found
+  repeated_of_all k old found all e l h = subst (λ ys. Gains (RepeatedAt [] ys) old found) (ap (map class_of) (take_end cs k l) ∙ e) h

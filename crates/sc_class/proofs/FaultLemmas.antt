@@ -1,92 +1,138 @@
--- Faults that are found class by class, and those that no class has.
-use Rattle.std.proofs.Common.{◌≡◌, ◌<◌, ◌≤◌, ◌+◌, ℕ, Bool, true, false, List, [], Option, Some, None, length, get_or, map, refl, ap, sym, subst, ◌∙◌, ◌⊎◌, inl, inr, arith}
-use Rattle.std.specs.Prelude.{nat_lt, slice_get}
-use Rattle.std.specs.Option.{option_map_or}
+-- What is at fault in the features of classes, as one class after another is looked at.
+use Rattle.std.proofs.Common.{◌≡◌, ◌<◌, ◌≤◌, ◌+◌, ℕ, zero, suc, Bool, true, false, List, [], ◌∷◌, Option, Some, None, length, map, refl, ap, sym, subst, ◌∙◌, ◌⊎◌, inl, inr, arith, below_more}
+use Rattle.std.specs.Prelude.{slice_get, slice_set, unwrap_or}
 use Rattle.std.proofs.lemmas.Option.{slice_get_within}
-use Rattle.std.proofs.lemmas.List.{length-map, append-nil}
 use Rattle.sc_text.specs.declared.token.Span.{Span}
-use Rattle.sc_tree.specs.declared.system.Class as tree_class
-use Rattle.sc_tree.specs.Plain.{System, Class, Feature, Name}
-use Rattle.sc_tree.specs.View.{class_of}
-use Rattle.sc_class.specs.Internal.Found.{FindsFirstPlace, first_place}
-use Rattle.sc_class.specs.Internal.FaultAt.{FaultAt, FaultBefore}
-use Rattle.sc_class.specs.Names.{OneClashes}
-use Rattle.sc_class.specs.Tables.Features.{redefined_by, redefined_names, not_redefined, inherited_features}
-use Rattle.sc_class.specs.Faults.Scopes.{ClassClashes, in_features, in_routine, in_invariant, inherited_names, feature_names}
-use Rattle.sc_class.specs.declared.faults.scopes.features.Part.TheVariants.{Inherited}
-use Rattle.sc_class.specs.Internal.ScopeSearch.{names_of_part, names_clash}
-use Rattle.sc_class.specs.Internal.FeatureFaults.{TextsClash}
-use Rattle.sc_class.proofs.SearchLemmas.{first_same, first_either}
-use Rattle.sc_class.proofs.Items.{some_is, item_in}
-use Rattle.sc_class.proofs.NamesFound.{names_found}
+use Rattle.sc_tree.specs.Plain.{System, Class, Feature}
+use Rattle.sc_class.specs.declared.faults.features.FeatureFaults.{FeatureFaults}
+use Rattle.sc_class.specs.declared.faults.scopes.features.Part.TheVariants.{All, Inherited}
+use Rattle.sc_class.specs.Faults.Redefinition.{BadlyRedefines}
+use Rattle.sc_class.specs.Faults.Scopes.{ClassClashes}
+use Rattle.sc_class.specs.Internal.FaultAt.{FaultAt}
+use Rattle.sc_class.specs.Internal.FeatureFaults.{AddsThoseOf, AreFound, AreOfAll, Goes, IsDone, Marks}
+use Rattle.sc_class.specs.Internal.Places.{Gains, Has, union}
+use Rattle.sc_class.specs.Internal.ScopeSearch.{class_clash, names_clash, names_of_part, texts_clash}
+use Rattle.sc_class.proofs.Anys.{any_none}
+use Rattle.sc_class.proofs.Items.{some_is}
+use Rattle.sc_class.proofs.PlaceLists.{gains_union}
+use Rattle.sc_class.proofs.ScopesFound.{class_found}
+use Rattle.sc_class.proofs.ScopeSteps.{two}
 
-no_faults_before : (s : System) (P : ℕ → Class → Span → Type 0) (p : Span) → FaultBefore s P 0 p → ⊥
-no_faults_before s P p (k, c, l, e, y) = absurd (omega arith)
+-- the clashes of a class are added, those of its features and then those in its texts
+pub class_gained : (s : System) (k : ℕ) (c : Class) → slice_get s.classes k ≡ Some c → (f g h : List Span) → g ≡ union f (names_clash (names_of_part Inherited s k) [] (map (λ (f : Feature). f.name) c.features)) → h ≡ union g (texts_clash (names_of_part All s k) c) → Gains (ClassClashes s k c) f h
+class_gained s k c is_class f g h i j =
+    gains_union f (class_clash s k c) h (class_found s k c is_class) (j ∙ two f g (names_clash (names_of_part Inherited s k) [] (map (λ (f : Feature). f.name) c.features)) (texts_clash (names_of_part All s k) c) i)
 
-pub begins_at : (s : System) (P : ℕ → Class → Span → Type 0) → FindsFirstPlace (FaultBefore s P 0) None
-begins_at s P = no_faults_before s P
+-- ---- classes that have been looked at
 
-module _ (s : System) (cs : List tree_class.Class) (all : map class_of cs ≡ s.classes) (P : ℕ → Class → Span → Type 0) where
-  module _ (n : ℕ) (x : tree_class.Class) (l : n < length cs) (g : x ≡ get_or cs n x) where
-    at_number : slice_get s.classes n ≡ Some (class_of x)
-    at_number = subst (λ (cs : List Class). slice_get cs n ≡ Some (class_of x)) all (item_in class_of cs n x l g)
+set_done : (xs : List Bool) (n : ℕ) → n < length xs → IsDone (slice_set xs n true) n
+set_done [] n l = absurd (omega arith)
+set_done (x ∷ xs) zero l = refl
+set_done (x ∷ xs) (suc n) l = set_done xs n (less l)
+  where
+    less : suc n < suc (length xs) → n < length xs
+    less l = omega arith
 
-    before : (p : Span) → FaultBefore s P n p → FaultBefore s P (n + 1) p
-    before p (k, c, l, e, y) = (k, c, omega (arith, l), e, y)
+set_keeps : (xs : List Bool) (n k : ℕ) → IsDone xs k → IsDone (slice_set xs n true) k
+set_keeps [] n k e = e
+set_keeps (x ∷ xs) zero zero e = refl
+set_keeps (x ∷ xs) zero (suc k) e = e
+set_keeps (x ∷ xs) (suc n) zero e = e
+set_keeps (x ∷ xs) (suc n) (suc k) e = set_keeps xs n k e
 
-    one_there : (p : Span) → P n (class_of x) p → FaultBefore s P (n + 1) p
-    one_there p y = (n, class_of x, omega arith, at_number, y)
+set_before : (xs : List Bool) (n k : ℕ) → IsDone (slice_set xs n true) k → (k ≡ n) ⊎ IsDone xs k
+set_before [] n k e = inr e
+set_before (x ∷ xs) zero zero e = inl refl
+set_before (x ∷ xs) zero (suc k) e = inr e
+set_before (x ∷ xs) (suc n) zero e = inr e
+set_before (x ∷ xs) (suc n) (suc k) e = of (set_before xs n k e)
+  where
+    of : (k ≡ n) ⊎ IsDone xs k → (suc k ≡ suc n) ⊎ IsDone xs k
+    of (inl p) = inl (ap suc p)
+    of (inr p) = inr p
 
-    below_or : (k : ℕ) → k < n + 1 → (b : Bool) → nat_lt k n ≡ b → (k < n) ⊎ (k ≡ n)
-    below_or k l true e = inl (grind arith)
-    below_or k l false e = inr (grind arith)
+set_length : (xs : List Bool) (n : ℕ) → length (slice_set xs n true) ≡ length xs
+set_length [] n = refl
+set_length (x ∷ xs) zero = refl
+set_length (x ∷ xs) (suc n) = ap suc (set_length xs n)
 
-    parts_at : {p : Span} (k : ℕ) (c : Class) → slice_get s.classes k ≡ Some c → P k c p → (k < n) ⊎ (k ≡ n) → FaultBefore s P n p ⊎ P n (class_of x) p
-    parts_at k c e y (inl l) = inl (k, c, l, e, y)
-    parts_at {p} k c e y (inr q) =
-        let f : slice_get s.classes n ≡ Some c = subst (λ (k : ℕ). slice_get s.classes k ≡ Some c) q e in
-        inr (subst (λ (c : Class). P n c p) (sym (some_is (class_of x) c (sym at_number ∙ f))) (subst (λ (k : ℕ). P k c p) q y))
+pub set_marks : (xs : List Bool) (n : ℕ) → n < length xs → Marks n xs (slice_set xs n true)
+set_marks xs n l = record { same_length = set_length xs n; keeps = set_keeps xs n; done = λ m. set_done xs n m; before = set_before xs n }
 
-    parts : (p : Span) → FaultBefore s P (n + 1) p → FaultBefore s P n p ⊎ P n (class_of x) p
-    parts p (k, c, l, e, y) = parts_at k c e y (below_or k l (nat_lt k n) refl)
+pub none_marked : (xs : List Bool) (n : ℕ) → length xs ≤ n → Marks n xs xs
+none_marked xs n l = record { same_length = refl; keeps = λ k d. d; done = λ m. absurd (omega (arith, l, m)); before = λ k d. inr d }
 
-    pub first_of_more_at : (found o next : Option Span) → FindsFirstPlace (FaultBefore s P n) found → FindsFirstPlace (P n (class_of x)) o → next ≡ first_place found o → FindsFirstPlace (FaultBefore s P (n + 1)) next
-    first_of_more_at found o next h i e =
-        subst (FindsFirstPlace (FaultBefore s P (n + 1))) (sym e)
-        (first_either (λ (p : Span). p.start) {P = FaultBefore s P n} {Q = P n (class_of x)} {R = FaultBefore s P (n + 1)} found o before one_there parts h i)
+pub is_done : (xs : List Bool) (n : ℕ) → unwrap_or (slice_get xs n) false ≡ true → IsDone xs n
+is_done xs n e = by (slice_get xs n) e
+  where
+    by : (o : Option Bool) → unwrap_or o false ≡ true → o ≡ Some true
+    by None e = cc
+    by (Some true) e = refl
+    by (Some false) e = cc
 
-  some_before : (n : ℕ) (p : Span) → FaultBefore s P n p → FaultAt s P p
-  some_before n p (k, c, l, e, y) = (k, c, e, y)
+pub goes_done : (s : System) (xs : List Bool) (n : ℕ) → IsDone xs n → Goes s n xs xs
+goes_done s xs n d = record { same_length = refl; keeps = λ k e. e; done = λ l m. d }
 
-  within : (n : ℕ) → length cs ≤ n → (p : Span) → FaultAt s P p → FaultBefore s P n p
-  within n l p (k, c, e, y) = let m = slice_get_within s.classes k c e in (k, c, omega (arith, m, l, ap length all, length-map cs class_of), e, y)
+pub goes_past : (s : System) (xs : List Bool) (n : ℕ) → slice_get s.classes n ≡ None → Goes s n xs xs
+goes_past s xs n e = record { same_length = refl; keeps = λ k d. d; done = λ l m. absurd (there s.classes n m e) }
+  where
+    there : (cs : List Class) (n : ℕ) → n < length cs → slice_get cs n ≡ None → ⊥
+    there [] n l e = absurd (omega arith)
+    there (c ∷ cs) zero l e = cc
+    there (c ∷ cs) (suc n) l e = there cs n (less l) e
+      where
+        less : suc n < suc (length cs) → n < length cs
+        less l = omega arith
 
-  pub first_of_all_at : (n : ℕ) (found : Option Span) → length cs ≤ n → FindsFirstPlace (FaultBefore s P n) found → FindsFirstPlace (FaultAt s P) found
-  first_of_all_at n found l h = first_same (λ (p : Span). p.start) {P = FaultBefore s P n} {Q = FaultAt s P} found (some_before n) (within n l) h
+pub goes_on : (s : System) (n : ℕ) (old new : List Bool) → Marks n old new → Goes s n old new
+goes_on s n old new m = record { same_length = m.same_length; keeps = m.keeps; done = λ l k. m.done l }
 
--- ---- clashes of a class
+-- ---- what is found
 
-module _ (s : System) (k : ℕ) (c : Class) (is_class : slice_get s.classes k ≡ Some c) where
-  names_are : redefined_names s k ≡ redefined_by c
-  names_are = ap (λ (o : Option Class). option_map_or redefined_by o []) is_class
+module _ (s : System) (n : ℕ) (c : Class) (is_class : slice_get s.classes n ≡ Some c) (done done' : List Bool) (marks : Marks n done done') where
+  -- of one kind of faults
+  module _ (P : ℕ → Class → Span → Type 0) (found found' : List Span) (gains : Gains (P n c) found found') where
+    are_more : ((p : Span) → Has found p → FaultAt s P p) → (p : Span) → Has found' p → FaultAt s P p
+    are_more are p h = of (gains.each_is p h)
+      where
+        of : Has found p ⊎ P n c p → FaultAt s P p
+        of (inl i) = are p i
+        of (inr y) = (n, c, is_class, y)
 
-  features_found : FindsFirstPlace (OneClashes (inherited_names s k c) (map (λ (f : Feature). f.name) c.features)) (names_clash (names_of_part Inherited s k) [] (map (λ (f : Feature). f.name) c.features))
-  features_found =
-      subst (λ known. FindsFirstPlace (OneClashes known (map (λ (f : Feature). f.name) c.features)) (names_clash (names_of_part Inherited s k) [] (map (λ (f : Feature). f.name) c.features)))
-      (append-nil (names_of_part Inherited s k) ∙ ap (λ (ns : List Name). feature_names (not_redefined ns (inherited_features s k))) names_are)
-      (names_found (names_of_part Inherited s k) [] (map (λ (f : Feature). f.name) c.features))
+    of_more : ((k : ℕ) (d : Class) → IsDone done k → slice_get s.classes k ≡ Some d → (p : Span) → P k d p → Has found p) →
+        (k : ℕ) (d : Class) → IsDone done' k → slice_get s.classes k ≡ Some d → (p : Span) → P k d p → Has found' p
+    of_more all k d i e p y = of (marks.before k i)
+      where
+        of : (k ≡ n) ⊎ IsDone done k → Has found' p
+        of (inl q) =
+            let same : d ≡ c = some_is d c (sym e ∙ ap (slice_get s.classes) q ∙ is_class) in
+            gains.each_listed p (subst (λ (d : Class). P n d p) same (subst (λ (k : ℕ). P k d p) q y))
+        of (inr j) = gains.keeps p (all k d j e p y)
 
-  pub class_found : (a t all : Option Span) → a ≡ names_clash (names_of_part Inherited s k) [] (map (λ (f : Feature). f.name) c.features) → FindsFirstPlace (TextsClash s k c) t → all ≡ first_place a t → FindsFirstPlace (ClassClashes s k c) all
-  class_found a t all declared h e =
-      subst (FindsFirstPlace (ClassClashes s k c)) (sym e)
-      (first_either (λ (p : Span). p.start) {P = OneClashes (inherited_names s k c) (map (λ (f : Feature). f.name) c.features)} {Q = TextsClash s k c} {R = ClassClashes s k c} a t
-      (λ p. in_features) (λ p. within) (λ p. parts) (subst (FindsFirstPlace (OneClashes (inherited_names s k c) (map (λ (f : Feature). f.name) c.features))) (sym declared) features_found) h)
-    where
-      within : {p : Span} → TextsClash s k c p → ClassClashes s k c p
-      within (inl y) = in_routine y
-      within (inr y) = in_invariant y
+  pub more_found : (found found' : FeatureFaults) → AreFound s done found → AddsThoseOf s n c found found' → AreFound s done' found'
+  more_found found found' are adds = record {
+    clashes_are = are_more (ClassClashes s) found.clash found'.clash adds.clash are.clashes_are;
+    clashes_of = of_more (ClassClashes s) found.clash found'.clash adds.clash are.clashes_of;
+    redefinitions_are = are_more (BadlyRedefines s) found.redefinition found'.redefinition adds.redefinition are.redefinitions_are;
+    redefinitions_of = of_more (BadlyRedefines s) found.redefinition found'.redefinition adds.redefinition are.redefinitions_of;
+  }
 
-      parts : {p : Span} → ClassClashes s k c p → OneClashes (inherited_names s k c) (map (λ (f : Feature). f.name) c.features) p ⊎ TextsClash s k c p
-      parts (in_features y) = inl y
-      parts (in_routine y) = inr (inl y)
-      parts (in_invariant y) = inr (inr y)
+pub none_found : (s : System) (done : List Bool) (found : FeatureFaults) → ((k : ℕ) → IsDone done k → ⊥) → found.clash ≡ [] → found.redefinition ≡ [] → AreFound s done found
+none_found s done found none e f = record {
+  clashes_are = λ p h. absurd (any_none (subst (λ ps. Has ps p) e h));
+  clashes_of = λ k c d g p y. absurd (none k d);
+  redefinitions_are = λ p h. absurd (any_none (subst (λ ps. Has ps p) f h));
+  redefinitions_of = λ k c d g p y. absurd (none k d);
+}
+
+pub all_found : (s : System) (done : List Bool) (found : FeatureFaults) (n : ℕ) → length s.classes ≤ n → ((k : ℕ) → k < n → IsDone done k) → AreFound s done found → AreOfAll s found
+all_found s done found n l all are = record {
+  clash = record { each_is = are.clashes_are; each_listed = λ p y. are.clashes_of y.0 y.1 (there y.0 y.1 y.2) y.2 p y.3 };
+  redefinition = record { each_is = are.redefinitions_are; each_listed = λ p y. are.redefinitions_of y.0 y.1 (there y.0 y.1 y.2) y.2 p y.3 };
+}
+  where
+    there : (k : ℕ) (c : Class) → slice_get s.classes k ≡ Some c → IsDone done k
+    there k c e = let m = slice_get_within s.classes k c e in all k (omega (arith, l, m))
+
+pub done_more : (s : System) (n : ℕ) (old new : List Bool) → Goes s n old new → n < length old → n < length s.classes → ((k : ℕ) → k < n → IsDone old k) → (k : ℕ) → k < n + 1 → IsDone new k
+done_more s n old new goes l m below = below_more (λ k. IsDone new k) n (λ k i. goes.keeps k (below k i)) (goes.done l m)

@@ -100,3 +100,7 @@ features_begin es redefined fs e h = ap (λ es. map entry_of es ++ not_redefined
 
 pub features_end : (s : System) (ks : List ℕ) (i : ℕ) (fs total : List DeclaredFeature) (redefined : List Name) → length ks ≤ i → fs ++ not_redefined redefined (features_along s (drop i ks)) ≡ total → fs ≡ total
 features_end s ks i fs total redefined l inv = sym (append-nil fs) ∙ ap (λ ds. fs ++ not_redefined redefined (features_along s ds)) (sym (drop_all i ks l)) ∙ inv
+
+pub kept_begin : (es : List FeatureEntry) (none names redefined : List Name) (fs : List DeclaredFeature) → es ≡ [] → none ≡ [] → redefined ≡ none ++ names → map entry_of es ++ not_redefined redefined fs ≡ not_redefined names fs
+kept_begin es none names redefined fs e f g =
+    ap (λ (es : List FeatureEntry). map entry_of es ++ not_redefined redefined fs) e ∙ ap (λ ns. not_redefined ns fs) (g ∙ ap (λ ns. ns ++ names) f)

@@ -3,6 +3,7 @@ pub mod NameLemmas
 pub mod Anys
 pub mod Decisions
 pub mod SearchLemmas
+pub mod PlaceLists
 pub mod ClassNameLemmas
 pub mod LeftOutLemmas
 pub mod Items
@@ -11,11 +12,12 @@ pub mod AncestorLemmas
 pub mod FeatureLemmas
 pub mod RedefinitionLemmas
 pub mod FaultLemmas
+pub mod ListingLemmas
 pub mod ScopeSteps
+pub mod LaterNames
 pub mod NamesFound
 pub mod ScopesFound
 pub mod FeaturePlaces
-pub mod FoundFaults
 pub mod Lines
 pub mod LimitLemmas
 pub mod TableLemmas

@@ -1,36 +1,36 @@
 -- What a class redefines badly, from what the code finds of it.
-use Rattle.std.proofs.Common.{◌≡◌, ◌≤◌, ℕ, Bool, true, false, List, [], ◌∷◌, Option, Some, None, length, map, suc, ◌&&◌, refl, ap, sym, ◌∙◌, arith}
+use Rattle.std.proofs.Common.{◌≡◌, ℕ, Bool, true, false, List, [], ◌∷◌, Option, Some, None, length, map, suc, ◌&&◌, refl, ap, sym, ◌∙◌}
 use Rattle.std.proofs.lemmas.List.{length-map}
 use Rattle.sc_text.specs.declared.token.Span.{Span}
 use Rattle.sc_tree.specs.declared.declaration.Declaration as tree
 use Rattle.sc_tree.specs.Plain.{System, Name, Declaration}
 use Rattle.sc_tree.specs.View.{declaration_of}
-use Rattle.sc_class.specs.Internal.Found.{FindsFirstPlace}
+use Rattle.sc_class.specs.Internal.Found.{FindsOnly}
 use Rattle.sc_class.specs.Tables.Features.{DeclaredFeature, declared_features, inherited_features, named_among}
 use Rattle.sc_class.specs.Faults.Redefinition.{is_same_formals, is_same_formal, can_redefine, NameBadlyRedefined, not_inherited, not_declared, does_not_fit}
 use Rattle.sc_class.proofs.Items.{some_is}
 
 module _ (s : System) (k : ℕ) (n : Name) (y : List ℕ) (text : y ≡ n.text) where
-  pub none_inherited : (g : Option DeclaredFeature) → g ≡ named_among y (inherited_features s k) → g ≡ None → FindsFirstPlace (NameBadlyRedefined s k n) (Some n.span)
+  pub none_inherited : (g : Option DeclaredFeature) → g ≡ named_among y (inherited_features s k) → g ≡ None → FindsOnly (NameBadlyRedefined s k n) (Some n.span)
   none_inherited g e i = (not_inherited none, λ p y. there p y)
     where
       none : named_among n.text (inherited_features s k) ≡ None
       none = ap (λ x. named_among x (inherited_features s k)) (sym text) ∙ sym e ∙ i
 
-      there : (p : Span) → NameBadlyRedefined s k n p → n.span.start ≤ p.start
-      there _ (not_inherited h) = omega arith
-      there _ (not_declared h) = omega arith
+      there : (p : Span) → NameBadlyRedefined s k n p → p ≡ n.span
+      there _ (not_inherited h) = refl
+      there _ (not_declared h) = refl
       there _ (does_not_fit {g = b} h j l) = let q : None ≡ Some b = sym none ∙ j in cc
 
-  pub none_declared : (f : Option DeclaredFeature) → f ≡ named_among y (declared_features s k) → f ≡ None → FindsFirstPlace (NameBadlyRedefined s k n) (Some n.span)
+  pub none_declared : (f : Option DeclaredFeature) → f ≡ named_among y (declared_features s k) → f ≡ None → FindsOnly (NameBadlyRedefined s k n) (Some n.span)
   none_declared f e i = (not_declared none, λ p y. there p y)
     where
       none : named_among n.text (declared_features s k) ≡ None
       none = ap (λ x. named_among x (declared_features s k)) (sym text) ∙ sym e ∙ i
 
-      there : (p : Span) → NameBadlyRedefined s k n p → n.span.start ≤ p.start
-      there _ (not_inherited h) = omega arith
-      there _ (not_declared h) = omega arith
+      there : (p : Span) → NameBadlyRedefined s k n p → p ≡ n.span
+      there _ (not_inherited h) = refl
+      there _ (not_declared h) = refl
       there _ (does_not_fit {f = a} h j l) = let q : None ≡ Some a = sym none ∙ h in cc
 
   module _ (g : Option DeclaredFeature) (inherits : g ≡ named_among y (inherited_features s k)) (z : List ℕ) (again : z ≡ n.text) (f : Option DeclaredFeature) (declares : f ≡ named_among z (declared_features s k))
@@ -41,14 +41,13 @@ module _ (s : System) (k : ℕ) (n : Name) (y : List ℕ) (text : y ≡ n.text) 
     declared : named_among n.text (declared_features s k) ≡ Some new
     declared = ap (λ x. named_among x (declared_features s k)) (sym again) ∙ sym declares ∙ is_new
 
-    pub fits_not : can_redefine s new.feature.kind old.feature.kind ≡ false → FindsFirstPlace (NameBadlyRedefined s k n) (Some new.feature.name.span)
+    pub fits_not : can_redefine s new.feature.kind old.feature.kind ≡ false → FindsOnly (NameBadlyRedefined s k n) (Some new.feature.name.span)
     fits_not e = (does_not_fit declared inherited e, λ p y. there p y)
       where
-        there : (p : Span) → NameBadlyRedefined s k n p → new.feature.name.span.start ≤ p.start
+        there : (p : Span) → NameBadlyRedefined s k n p → p ≡ new.feature.name.span
         there _ (not_inherited h) = let q : None ≡ Some old = sym h ∙ inherited in cc
         there _ (not_declared h) = let q : None ≡ Some new = sym h ∙ declared in cc
-        there _ (does_not_fit {f = a} h i j) =
-            let same : new.feature.name.span.start ≡ a.feature.name.span.start = ap (λ (d : DeclaredFeature). d.feature.name.span.start) (some_is new a (sym declared ∙ h)) in omega (arith, same)
+        there _ (does_not_fit {f = a} h i j) = ap (λ (d : DeclaredFeature). d.feature.name.span) (some_is a new (sym h ∙ declared))
 
     pub fits_it : can_redefine s new.feature.kind old.feature.kind ≡ true → (p : Span) → NameBadlyRedefined s k n p → ⊥
     fits_it e p (not_inherited h) = let q : None ≡ Some old = sym h ∙ inherited in cc

@@ -1,8 +1,7 @@
 -- What searches find, one behind the other.
-use Rattle.std.proofs.Common.{◌≡◌, ◌<◌, ◌≤◌, ◌+◌, ℕ, Bool, true, false, List, [], ◌∷◌, length, take, get_or, map, Option, Some, None, refl, ap, sym, subst, arith, ◌⊎◌, inl, inr}
-use Rattle.std.specs.Prelude.{Any, nat_lt, if◌then◌else◌}
+use Rattle.std.proofs.Common.{◌≡◌, ◌<◌, ◌≤◌, ℕ, Bool, true, false, Option, Some, None, refl, ap, arith, ◌⊎◌, inl, inr}
+use Rattle.std.specs.Prelude.{nat_lt, if◌then◌else◌}
 use Rattle.sc_class.specs.Internal.Found.{FindsFirst, first_placed}
-use Rattle.sc_class.proofs.Anys.{any_none, any_left, any_right, any_parts, any_only, any_first, map_seen, take_end}
 
 -- ---- the first of what is found
 
@@ -49,26 +48,3 @@ first_either {X} start {P} {Q} {R} (Some p) (Some q) f g h i j = by (nat_lt (sta
     by : (b : Bool) → nat_lt (start q) (start p) ≡ b → FindsFirst start R (if b then Some q else Some p)
     by true e = (g q j.0, λ y r. least_q (before e) y (h y r))
     by false e = (f p i.0, λ y r. least_p (behind e) y (h y r))
-
--- ---- what stands in one of several parts
-
-module _ {A B X : Type 0} (start : X → ℕ) (P : B → X → Type 0) (f : A → B) (xs : List A) where
-  -- in one of the first k
-  abbrev pub Among : ℕ → X → Type 0
-  Among k p = Any (λ x. P x p) (map f (take k xs))
-
-  pub none_yet : FindsFirst start (Among 0) None
-  none_yet p a = any_none a
-
-  pub first_of_more : (k : ℕ) (x : A) (found o next : Option X) → k < length xs → x ≡ get_or xs k x → FindsFirst start (Among k) found → FindsFirst start (P (f x)) o → next ≡ first_placed start found o → FindsFirst start (Among (k + 1)) next
-  first_of_more k x found o next l g h i e =
-      subst (FindsFirst start (Among (k + 1))) (sym e)
-      (subst (λ ys. FindsFirst start (λ p. Any (λ x. P x p) ys) (first_placed start found o)) (sym (map_seen f xs k x l g))
-      (first_either start found o (λ p. any_left (map f (take k xs)) (f x ∷ [])) (λ p y. any_right (map f (take k xs)) (f x ∷ []) (any_first (f x) [] y)) (λ p r. parts p (any_parts (map f (take k xs)) (f x ∷ []) r)) h i))
-    where
-      parts : (p : X) → Any (λ x. P x p) (map f (take k xs)) ⊎ Any (λ x. P x p) (f x ∷ []) → Any (λ x. P x p) (map f (take k xs)) ⊎ P (f x) p
-      parts p (inl a) = inl a
-      parts p (inr a) = inr (any_only (f x) a)
-
-  pub first_of_all : (k : ℕ) (found : Option X) → length xs ≤ k → FindsFirst start (Among k) found → FindsFirst start (λ p. Any (λ x. P x p) (map f xs)) found
-  first_of_all k found l h = subst (λ ys. FindsFirst start (λ p. Any (λ x. P x p) (map f ys)) found) (take_end xs k l) h

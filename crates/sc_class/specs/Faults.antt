@@ -4,3 +4,4 @@ pub mod Redefinition
 pub mod Limits
 pub mod LeftOut
 pub mod ClassRules
+pub mod FaultList

@@ -14,7 +14,7 @@ use crate::class_tables::hierarchy::Hierarchy;
 use crate::class_tables::outline::Outline;
 use crate::fault::ClassFault;
 use crate::faults::cycles::cycle;
-use crate::faults::features::feature_faults;
+use crate::faults::features::first_feature_faults;
 use crate::faults::left_out::left_out;
 use crate::faults::limits::passes_limit;
 use crate::faults::parents::{repeated_class, unknown_parent};
@@ -32,10 +32,10 @@ fn refuse_classes(alloc: Global, hierarchy: &Hierarchy, root: &Root) -> Result<(
         ⊎ HasLeastCode (in_hierarchy hierarchy.now) (root_of root.now) fault) }
     ensures place { IfErr result (IsPlacedFirst (in_hierarchy hierarchy.now) (root_of root.now)) }
 {
-    if let Some(span) = repeated_class(hierarchy) {
+    if let Some(span) = repeated_class(alloc, hierarchy)? {
         return Err(ClassFault::DuplicateClass { span });
     }
-    if let Some(span) = unknown_parent(hierarchy) {
+    if let Some(span) = unknown_parent(alloc, hierarchy)? {
         return Err(ClassFault::UnknownParent { span });
     }
     if let Some(span) = cycle(alloc, hierarchy)? {
@@ -53,7 +53,7 @@ fn refuse_features(alloc: Global, outline: &Outline, root: &Root) -> Result<(), 
         IfErr result (λ fault. (fault ≡ OutOfMemory) ⊎ (ClassesStand s → HasLeastCode s (root_of root.now) fault)) }
     ensures place { IfErr result (IsPlacedFirst (in_outline outline.now) (root_of root.now)) }
 {
-    let faults = feature_faults(alloc, outline)?;
+    let faults = first_feature_faults(alloc, outline)?;
     if let Some(span) = faults.clash {
         return Err(ClassFault::DuplicateFeature { span });
     }
@@ -79,7 +79,7 @@ fn refuse_rest(alloc: Global, outline: &Outline, root: &Root) -> Result<(), Clas
     if passes_limit(alloc, outline)? {
         return Err(ClassFault::Limit);
     }
-    if let Some(excluded) = left_out(&outline.hierarchy) {
+    if let Some(excluded) = left_out(alloc, &outline.hierarchy)? {
         return Err(ClassFault::LeftOut {
             what: excluded.what,
             span: excluded.span,

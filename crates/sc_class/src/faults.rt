@@ -11,4 +11,4 @@ mod ranks;
 pub mod redefinition;
 pub mod root_procedure;
 mod routine_limits;
-mod scopes;
+pub mod scopes;

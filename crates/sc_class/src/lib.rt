@@ -2,8 +2,8 @@
 //! invariants; and what is refused of them.
 //!
 //! [`tables`] returns the [`Tables`] of a system that has no fault with a [`Root`], or one of its faults, a
-//! [`ClassFault`]. A class is known by its [`ClassId`], and a feature by a [`FeatureEntry`], which names the class
-//! that declares it.
+//! [`ClassFault`]; [`class_faults`] lists all of them. A class is known by its [`ClassId`], and a feature by a
+//! [`FeatureEntry`], which names the class that declares it.
 //!
 //! `specs/Faults` says what each fault is, `specs/Tables` and `specs/ClassNames` what the calls of `Tables` return,
 //! and [`heir_laws`] what follows.
@@ -16,6 +16,7 @@ mod fault;
 mod faults;
 pub mod heir_laws;
 mod identity;
+mod listing;
 mod names;
 mod root;
 
@@ -24,4 +25,5 @@ pub use class_tables::Tables;
 pub use class_tables::feature_entry::FeatureEntry;
 pub use fault::{ClassFault, LeftOut};
 pub use identity::ClassId;
+pub use listing::class_faults;
 pub use root::Root;

@@ -5,7 +5,11 @@ ghost use Rattle.sc_tree.specs.Plain as plain;
 ghost use Rattle.sc_tree.specs.View.{name_of};
 ghost use Rattle.sc_class.specs.Names.{number_among, is_listed};
 ghost use Rattle.sc_class.specs.Internal.NameIndex.{names_in, place_among, known_then, IsIndex};
+ghost use Rattle.sc_class.specs.Internal.Places.{union};
+ghost use Rattle.sc_class.specs.Internal.ScopeSearch.{NoneLater, later_places};
 
+use crate::faults::places::Places;
+use crate::faults::scopes::insert_if_later;
 use sc_text::Span;
 use sc_tree::Name;
 use std::alloc::{AllocError, Global};
@@ -48,9 +52,21 @@ fn known_with(before: Option<Known>, number: usize, place: Span) -> Known
     }
 }
 
+/// Finds those of the names that are like one and stand after it in the text.
+fn find_later_among(names: &[Added], name: &Name, found: &mut Places) -> Result<(), AllocError>
+    ensures { OnOk result (found.new ≡ union found.old (later_places (names_in names.now) (name_of name.now))) }
+{
+    for added in names {
+        insert_if_later(added.name, name, found)?;
+    }
+    Ok(())
+}
+
 /// Names in the order in which they were added. A text is found by hash.
 #[derive(Drop)]
 pub struct NameIndex<'s> {
+    /// The greatest start of the names that were ever added.
+    latest: u32,
     names: Vec<Added<'s>>,
     known: HashMap<&'s str, Known>,
 }
@@ -60,7 +76,7 @@ impl<'s> Model for NameIndex<'s> {
 
     ghost view = { λ i. names_in i.names.items };
 
-    ghost invariant = { λ i. IsIndex i.known i.names.items };
+    ghost invariant = { λ i. IsIndex i.known i.names.items × NoneLater i.latest (names_in i.names.items) };
 }
 
 impl<'s> NameIndex<'s> {
@@ -69,6 +85,7 @@ impl<'s> NameIndex<'s> {
         ensures { result ≡ [] }
     {
         NameIndex {
+            latest: 0,
             names: Vec::new(alloc),
             known: HashMap::new(alloc),
         }
@@ -92,6 +109,7 @@ impl<'s> NameIndex<'s> {
         self.names.reserve(1)?;
         self.known.insert(text, known)?;
         self.names.push_reserved(Added { name, before });
+        self.latest = self.latest.max(name.span.start);
         Ok(())
     }
 
@@ -116,6 +134,17 @@ impl<'s> NameIndex<'s> {
     {
         let known = self.known.get(text)?;
         Some(known.place)
+    }
+
+    /// Finds those of the names that are like one and stand after it in the text. It goes over all names, unless they
+    /// were added in the order of the text, as those of a routine are.
+    pub fn find_later(&self, name: &Name, found: &mut Places) -> Result<(), AllocError>
+        ensures { OnOk result (found.new ≡ union found.old (later_places self.now (name_of name.now))) }
+    {
+        if self.latest <= name.span.start {
+            return Ok(());
+        }
+        find_later_among(&self.names, name, found)
     }
 
     /// Takes the last name away.

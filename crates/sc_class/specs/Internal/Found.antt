@@ -1,5 +1,5 @@
 -- The result of a search for a fault: one if there is any, or that there is none.
-use Rattle.std.specs.Prelude.{◌≤◌, ℕ, Option, Some, None, nat_lt, if◌then◌else◌}
+use Rattle.std.specs.Prelude.{◌≡◌, ◌≤◌, ℕ, Option, Some, None, nat_lt, if◌then◌else◌}
 use Rattle.sc_text.specs.declared.token.Span.{Span}
 use Rattle.sc_class.specs.declared.faults.left_out.Exclusion.{Exclusion}
 
@@ -7,6 +7,11 @@ use Rattle.sc_class.specs.declared.faults.left_out.Exclusion.{Exclusion}
 abbrev pub Finds : {X : Type 0} → (X → Type 0) → Option X → Type 0
 Finds {X} P None = (x : X) → P x → ⊥
 Finds P (Some x) = P x
+
+-- It is the only one of these, or there is none of them.
+abbrev pub FindsOnly : {X : Type 0} → (X → Type 0) → Option X → Type 0
+FindsOnly {X} P None = (x : X) → P x → ⊥
+FindsOnly {X} P (Some x) = P x × ((y : X) → P y → y ≡ x)
 
 -- It is one of these, and none of them comes before it; or there is none of them.
 abbrev pub FindsFirst : {X : Type 0} → (X → ℕ) → (X → Type 0) → Option X → Type 0

@@ -12,10 +12,18 @@ use Rattle.sc_class.specs.Faults.LeftOut.{ClassLeftOut}
 use Rattle.sc_class.specs.Faults.ClassRules.{has_root}
 use Rattle.sc_class.specs.Internal.FaultAt.{FaultAt}
 
+-- This is the place of a parent that no class can be.
+abbrev pub IsUnknownIn : System → Span → Type 0
+IsUnknownIn s p = Any (λ c. Any (λ q. UnknownParentAt s q p) c.parents) s.classes
+
+-- This is left out in one of the classes.
+abbrev pub IsLeftOutIn : System → Exclusion → Type 0
+IsLeftOutIn s x = Any (λ c. ClassLeftOut c x) s.classes
+
 -- No fault is in the names and the parents of the classes.
 pub record ClassesStand (s : System) : Type 0 where
   pub none_repeated : (p : Span) → RepeatedAt [] s.classes p → ⊥
-  pub none_unknown : (p : Span) → Any (λ c. Any (λ q. UnknownParentAt s q p) c.parents) s.classes → ⊥
+  pub none_unknown : (p : Span) → IsUnknownIn s p → ⊥
   pub none_cyclic : (p : Span) → CycleAt s p → ⊥
 
 -- No fault is in their features, and the system can be run from this root.
@@ -27,4 +35,4 @@ pub record FeaturesStand (s : System) (root : Root) : Type 0 where
 -- It is within the limits and the language.
 pub record RestStands (s : System) : Type 0 where
   pub within_limits : PassesLimit s → ⊥
-  pub none_left_out : (x : Exclusion) → Any (λ c. ClassLeftOut c x) s.classes → ⊥
+  pub none_left_out : (x : Exclusion) → IsLeftOutIn s x → ⊥

@@ -1,6 +1,6 @@
 //! The ancestors of classes, and the features that they have along these.
 
-ghost use Rattle.std.specs.Prelude.{◌≡◌, ◌<◌, ℕ, List, IfOk, length, map};
+ghost use Rattle.std.specs.Prelude.{◌≡◌, ◌<◌, ℕ, List, IfOk, drop, length, map};
 ghost use Rattle.sc_tree.specs.View.{system_of};
 ghost use Rattle.sc_class.specs.Tables.Ancestors.{ancestors};
 ghost use Rattle.sc_class.specs.Tables.Features as class_features;
@@ -69,6 +69,34 @@ pub fn features_of<'s>(
     let mut redefined = NameIndex::new(alloc);
     outline.add_along(&mut features, &mut redefined, &ancestors)?;
     Ok(features)
+}
+
+/// The features that the class at a number inherits and doesn't redefine.
+pub fn kept_features_of<'s>(
+    alloc: Global,
+    outline: &Outline<'s>,
+    number: usize,
+) -> Result<Vec<FeatureEntry<'s>>, AllocError>
+    ensures { let s = system_of outline.now.hierarchy.system.now in
+        IfOk result (λ features. map entry_of features.items ≡ class_features.not_redefined
+        (class_features.redefined_names s number) (class_features.inherited_features s number)) }
+{
+    let ancestors = ancestors_of(alloc, &outline.hierarchy, number)?;
+    let mut features = Vec::new(alloc);
+    let mut redefined = NameIndex::new(alloc);
+    outline.add_redefined(&mut redefined, number)?;
+    outline.add_along(&mut features, &mut redefined, above_first(&ancestors))?;
+    Ok(features)
+}
+
+/// All but the first of the classes.
+fn above_first(ancestors: &[usize]) -> &[usize]
+    ensures { result.now ≡ drop 1 ancestors.now }
+{
+    match ancestors {
+        [] => &[],
+        [_, above @ ..] => above,
+    }
 }
 
 /// The features of the classes, by number.

@@ -1,8 +1,11 @@
 //! What the grammar has and this language leaves out.
 
-ghost use Rattle.std.specs.Prelude.{◌≡◌, Any, map};
+ghost use Rattle.std.specs.Prelude.{◌≡◌, Any, IfOk, OnOk, Some, map};
+ghost use Rattle.std.specs.Bool.{OnTrue};
 ghost use Rattle.sc_tree.specs.View.{name_of, feature_of, class_of, mark_of};
-ghost use Rattle.sc_class.specs.Internal.Found.{FindsFirstExclusion, first_placed};
+ghost use Rattle.sc_class.specs.Internal.Found.{FindsFirstExclusion, FindsOnly, first_placed};
+ghost use Rattle.sc_class.specs.Internal.NoFaults.{IsLeftOutIn};
+ghost use Rattle.sc_class.specs.Internal.Places.{Gains, Has, Lists};
 ghost use Rattle.sc_class.specs.Faults.LeftOut as left_out;
 ghost use Rattle.sc_class.specs.Internal.Systems.{in_hierarchy};
 
@@ -11,6 +14,7 @@ use crate::class_tables::hierarchy::Hierarchy;
 use crate::fault::LeftOut;
 use sc_text::Span;
 use sc_tree::{Class, ClassMark, Feature, Name};
+use std::alloc::{AllocError, Global};
 
 /// Something that the language leaves out, and its place.
 #[derive(Clone, Copy)]
@@ -36,31 +40,92 @@ fn first_exclusion(one: Option<Exclusion>, other: Option<Exclusion>) -> Option<E
     }
 }
 
-/// What is left out of the language in one of the classes.
-pub fn left_out(hierarchy: &Hierarchy) -> Option<Exclusion>
-    ensures { FindsFirstExclusion
-        (λ x. Any (λ c. left_out.ClassLeftOut c x) (in_hierarchy hierarchy.now).classes) result }
+/// The first thing in the text that the language leaves out.
+pub fn left_out(alloc: Global, hierarchy: &Hierarchy) -> Result<Option<Exclusion>, AllocError>
+    ensures { IfOk result (FindsFirstExclusion (IsLeftOutIn (in_hierarchy hierarchy.now))) }
 {
-    let mut found = None;
-    let classes = hierarchy.classes();
-    for class in classes {
-        found = first_exclusion(found, in_class(class));
-    }
-    found
+    let found = exclusions(alloc, hierarchy)?;
+    Ok(first_of(&found))
 }
 
-/// What is left out of the language in a class.
-fn in_class(class: &Class) -> Option<Exclusion>
-    ensures { FindsFirstExclusion (left_out.ClassLeftOut (class_of class.now)) result }
+/// What the language leaves out in the classes.
+pub fn exclusions(alloc: Global, hierarchy: &Hierarchy) -> Result<Vec<Exclusion>, AllocError>
+    ensures { IfOk result (λ found. Lists (IsLeftOutIn (in_hierarchy hierarchy.now)) found.items) }
 {
-    let marked = first_exclusion(marked(class), second_parent(class));
-    first_exclusion(marked, export_list(&class.features))
+    let mut found = Vec::new(alloc);
+    find_left_out(hierarchy, &mut found)?;
+    Ok(found)
+}
+
+/// The first of these in the text.
+fn first_of(found: &[Exclusion]) -> Option<Exclusion>
+    ensures { FindsFirstExclusion (Has found.now) result }
+{
+    let mut first = None;
+    for exclusion in found {
+        first = first_exclusion(first, Some(*exclusion));
+    }
+    first
+}
+
+/// Whether the two are one export list. Features that are declared together have one.
+fn is_same_export_list(one: &Exclusion, other: &Exclusion) -> bool
+    ensures { OnTrue result (one.now ≡ other.now) }
+{
+    match (one.what, other.what) {
+        (LeftOut::ExportList, LeftOut::ExportList) => one.span == other.span,
+        _ => false,
+    }
+}
+
+/// Whether the export list was found last.
+fn is_found_last(found: &[Exclusion], exclusion: &Exclusion) -> bool
+    ensures { OnTrue result (Has found.now exclusion.now) }
+{
+    match found.last() {
+        None => false,
+        Some(last) => is_same_export_list(last, exclusion),
+    }
+}
+
+/// Adds what was found, if it is something, and not the export list that was found last.
+fn add_if_any(found: &mut Vec<Exclusion>, exclusion: Option<Exclusion>) -> Result<(), AllocError>
+    ensures { OnOk result (Gains (λ x. exclusion ≡ Some x) found.old.items found.new.items) }
+{
+    let Some(exclusion) = exclusion else {
+        return Ok(());
+    };
+    if is_found_last(found, &exclusion) {
+        return Ok(());
+    }
+    found.push(exclusion)?;
+    Ok(())
+}
+
+/// Finds what the language leaves out in the classes.
+fn find_left_out(hierarchy: &Hierarchy, found: &mut Vec<Exclusion>) -> Result<(), AllocError>
+    ensures { OnOk result (Gains (IsLeftOutIn (in_hierarchy hierarchy.now)) found.old.items found.new.items) }
+{
+    let classes = hierarchy.classes();
+    for class in classes {
+        find_in_class(class, found)?;
+    }
+    Ok(())
+}
+
+/// Finds what is left out of the language in a class.
+fn find_in_class(class: &Class, found: &mut Vec<Exclusion>) -> Result<(), AllocError>
+    ensures { OnOk result (Gains (left_out.ClassLeftOut (class_of class.now)) found.old.items found.new.items) }
+{
+    add_if_any(found, marked(class))?;
+    add_if_any(found, second_parent(class))?;
+    find_export_lists(&class.features, found)
 }
 
 /// The class, if it has a mark.
 #[tactic(auto, unfolding(sc_tree::specs::View::class_of))]
 fn marked(class: &Class) -> Option<Exclusion>
-    ensures { FindsFirstExclusion (left_out.MarkLeftOut (class_of class.now)) result }
+    ensures { FindsOnly (left_out.MarkLeftOut (class_of class.now)) result }
 {
     let mark = class.mark.as_ref()?;
     Some(Exclusion {
@@ -83,7 +148,7 @@ fn kind_of_mark(mark: &ClassMark) -> LeftOut
 /// The second parent of the class.
 #[tactic(auto, unfolding(sc_tree::specs::View::class_of))]
 fn second_parent(class: &Class) -> Option<Exclusion>
-    ensures { FindsFirstExclusion (left_out.ParentLeftOut (class_of class.now)) result }
+    ensures { FindsOnly (left_out.ParentLeftOut (class_of class.now)) result }
 {
     let second = class.parents.get(1)?;
     Some(Exclusion {
@@ -92,21 +157,20 @@ fn second_parent(class: &Class) -> Option<Exclusion>
     })
 }
 
-/// An export list of one of the features.
-fn export_list(features: &[Feature]) -> Option<Exclusion>
-    ensures { FindsFirstExclusion (λ x. Any (λ f. left_out.ExportLeftOut f.exports x)
-        (map feature_of features.now)) result }
+/// Finds the export lists of the features that are left out.
+fn find_export_lists(features: &[Feature], found: &mut Vec<Exclusion>) -> Result<(), AllocError>
+    ensures { OnOk result (Gains (λ x. Any (λ f. left_out.ExportLeftOut f.exports x) (map feature_of features.now))
+        found.old.items found.new.items) }
 {
-    let mut found = None;
     for feature in features {
-        found = first_exclusion(found, exports_left_out(&feature.exports));
+        add_if_any(found, exports_left_out(&feature.exports))?;
     }
-    found
+    Ok(())
 }
 
 /// The first name of an export list, if it is left out.
 fn exports_left_out(exports: &[Name]) -> Option<Exclusion>
-    ensures { FindsFirstExclusion (left_out.ExportLeftOut (map name_of exports.now)) result }
+    ensures { FindsOnly (left_out.ExportLeftOut (map name_of exports.now)) result }
 {
     if is_plain_export(exports) {
         return None;

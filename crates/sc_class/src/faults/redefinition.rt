@@ -1,8 +1,9 @@
 //! What classes redefine.
 
-ghost use Rattle.std.specs.Prelude.{◌≡◌, map};
+ghost use Rattle.std.specs.Prelude.{◌≡◌, OnOk, map};
 ghost use Rattle.sc_tree.specs.View.{clause_of, class_of, declaration_of, kind_of, name_of, type_if_any};
-ghost use Rattle.sc_class.specs.Internal.Found.{FindsFirstPlace};
+ghost use Rattle.sc_class.specs.Internal.Found.{FindsOnly};
+ghost use Rattle.sc_class.specs.Internal.Places.{Gains};
 ghost use Rattle.sc_class.specs.Faults.Redefinition as redefinition;
 ghost use Rattle.sc_class.specs.Internal.Lines.{KnowsAbove};
 ghost use Rattle.sc_class.specs.Internal.Systems.{in_hierarchy, in_outline};
@@ -12,35 +13,35 @@ use crate::class_tables::declared_names::redefined_in;
 use crate::class_tables::hierarchy::Hierarchy;
 use crate::class_tables::line::Line;
 use crate::class_tables::outline::Outline;
-use crate::faults::places::first_place;
+use crate::faults::places::Places;
 use crate::names::is_same_text;
 use sc_text::Span;
 use sc_tree::{Class, Clause, Declaration, DeclaredType, FeatureKind, Name};
+use std::alloc::AllocError;
 
-/// A fault of what the class redefines.
-pub fn bad_redefinition(
+/// Finds the faults of what the class redefines.
+pub fn find_bad_redefinitions(
     outline: &Outline,
     line: &Line,
     number: usize,
     class: &Class,
-) -> Option<Span>
+    found: &mut Places,
+) -> Result<(), AllocError>
     requires { KnowsAbove (in_outline outline.now) number line.now }
-    ensures { FindsFirstPlace (redefinition.BadlyRedefines (in_outline outline.now) number (class_of
-        class.now)) result }
+    ensures { OnOk result (Gains (redefinition.BadlyRedefines (in_outline outline.now) number (class_of class.now))
+        found.old found.new) }
 {
-    let mut found = None;
     let redefined = redefined_in(class);
     for name in redefined {
-        found = first_place(found, badly_redefined(outline, line, number, name));
+        found.insert_if_any(badly_redefined(outline, line, number, name))?;
     }
-    found
+    Ok(())
 }
 
-/// A fault of one name that the class redefines.
+/// The fault of one name that the class redefines.
 fn badly_redefined(outline: &Outline, line: &Line, number: usize, name: &Name) -> Option<Span>
     requires { KnowsAbove (in_outline outline.now) number line.now }
-    ensures { FindsFirstPlace (redefinition.NameBadlyRedefined (in_outline outline.now) number (name_of
-        name.now)) result }
+    ensures { FindsOnly (redefinition.NameBadlyRedefined (in_outline outline.now) number (name_of name.now)) result }
 {
     let Some(inherited) = line.inherited(outline, number, name.as_str()) else {
         return Some(name.span);

@@ -3,10 +3,12 @@
 mod expressions;
 mod features;
 mod instructions;
+mod later;
 mod names;
 mod routine;
 
 pub use expressions::in_clauses;
 pub use features::{Features, Part};
+pub use later::insert_if_later;
 pub use names::declare_features;
-pub use routine::routine_clash;
+pub use routine::in_feature;

@@ -1,8 +1,0 @@
-use Rattle.sc_tree.specs.View.{parent_of, system_of}
-use Rattle.sc_class.specs.Tables.Ancestors.{UnknownParentAt}
-use Rattle.sc_class.specs.Internal.Found.{FindsFirstPlace}
-use Rattle.sc_class.proofs.SearchLemmas.{Among}
-use Rattle.sc_class.proofs.faults.parents.unknown_among.Given as goal
-
-abbrev pub invariant-loop-parent : goal.invariant-loop-parent
-invariant-loop-parent l = FindsFirstPlace (Among (λ p. p.start) (UnknownParentAt (system_of l.hierarchy.system.now)) parent_of l.parents l.parent-index) l.found
