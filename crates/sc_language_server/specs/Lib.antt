@@ -1,0 +1,3 @@
+pub mod Findings
+pub mod Layouts
+pub mod Messages

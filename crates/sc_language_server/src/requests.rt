@@ -1,0 +1,110 @@
+//! What is answered to requests about a document.
+
+use crate::actions::push_actions;
+use crate::failure::Failure;
+use crate::hover::push_hover;
+use crate::layout::push_layout;
+use crate::outline::{Outline, push_outline};
+use crate::parameters::{are_fixes_wanted, document_in, member, position_in, range_in};
+use crate::systems::{CheckedSystem, Part, Place};
+use sc_documents::{Position, Range, offset_of};
+use sc_explain_text::Lines;
+use serde_json::Value;
+use std::alloc::Global;
+
+/// What can be asked of a document.
+#[derive(Clone, Copy)]
+pub enum Request {
+    Actions,
+    Folds,
+    Hover,
+    Layout,
+    Symbols,
+}
+
+impl Request {
+    /// The request of this name, if there is one.
+    pub fn named(method: &str) -> Option<Request> {
+        match method {
+            "textDocument/codeAction" => Some(Request::Actions),
+            "textDocument/documentSymbol" => Some(Request::Symbols),
+            "textDocument/foldingRange" => Some(Request::Folds),
+            "textDocument/formatting" => Some(Request::Layout),
+            "textDocument/hover" => Some(Request::Hover),
+            _ => None,
+        }
+    }
+}
+
+/// Adds what is answered to a request: null if the document isn't open.
+pub fn answer_request(
+    alloc: Global,
+    lines: &mut Lines,
+    systems: &[CheckedSystem],
+    request: Request,
+    params: Option<&Value>,
+) -> Result<(), Failure> {
+    let Some(uri) = document_in(params) else {
+        return Err(Failure::InvalidParams);
+    };
+    for system in systems {
+        if let Some(index) = system.joined.part_of(uri)
+            && let Some(part) = system.joined.parts.get(index)
+        {
+            return answer_part(alloc, lines, system, (index, part), request, params);
+        }
+    }
+    lines.push("null");
+    Ok(())
+}
+
+/// Adds what is answered to a request about the document of this number of a system.
+fn answer_part(
+    alloc: Global,
+    lines: &mut Lines,
+    system: &CheckedSystem,
+    (index, part): (usize, &Part),
+    request: Request,
+    params: Option<&Value>,
+) -> Result<(), Failure> {
+    let document = &part.document;
+    match request {
+        Request::Layout => push_layout(alloc, lines, document),
+        Request::Symbols => push_outline(alloc, lines, document, Outline::Symbols),
+        Request::Folds => push_outline(alloc, lines, document, Outline::Folds),
+        Request::Actions => {
+            let place = place_in(index, part, range_in(member(params, "range")))?;
+            if are_fixes_wanted(params) {
+                push_actions(alloc, lines, system, part, place)
+            } else {
+                lines.push("[]")
+            }
+        }
+        Request::Hover => {
+            let range = point_of(position_in(member(params, "position")));
+            push_hover(alloc, lines, system, place_in(index, part, range)?)
+        }
+    }
+    Ok(())
+}
+
+/// The place of a range of the document of this number.
+fn place_in(index: usize, part: &Part, range: Option<Range>) -> Result<Place, Failure> {
+    let Some(Range { start, end }) = range else {
+        return Err(Failure::InvalidParams);
+    };
+    let text = part.document.text();
+    Ok(Place {
+        part: index,
+        start: offset_of(text, start),
+        end: offset_of(text, end),
+    })
+}
+
+/// The empty range at a position.
+fn point_of(position: Option<Position>) -> Option<Range> {
+    match position {
+        Some(start) => Some(Range { start, end: start }),
+        None => None,
+    }
+}

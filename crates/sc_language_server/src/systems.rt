@@ -1,0 +1,122 @@
+//! Documents that are a system together.
+
+use crate::findings::{Finding, findings_in};
+use sc_class::Root;
+use sc_documents::Document;
+use sc_rules::RefusalCode;
+use sc_text::Span;
+use std::alloc::{AllocError, Global};
+
+/// A document of a system, and where its text stands in that of the system.
+#[derive(Drop)]
+pub struct Part {
+    pub uri: String,
+    /// The version that the editor knows it by, if the editor has it open.
+    pub version: Option<i64>,
+    pub document: Document,
+    pub start: usize,
+}
+
+/// A part of a document of a system: the number of the document, and the offsets of the part's ends in it.
+#[derive(Clone, Copy)]
+pub struct Place {
+    pub part: usize,
+    pub start: usize,
+    pub end: usize,
+}
+
+/// The text of a system: that of each document, with a line feed after it.
+#[derive(Drop)]
+pub struct Joined {
+    pub text: String,
+    pub parts: Vec<Part>,
+}
+
+/// A system, and what is found in it.
+#[derive(Drop)]
+pub struct CheckedSystem {
+    pub joined: Joined,
+    pub findings: Vec<Finding>,
+}
+
+impl Joined {
+    /// The text of no document.
+    pub fn new(alloc: Global) -> Self {
+        Joined {
+            text: String::new(alloc),
+            parts: Vec::new(alloc),
+        }
+    }
+
+    /// Adds a document.
+    pub fn add(
+        &mut self,
+        alloc: Global,
+        uri: &str,
+        version: Option<i64>,
+        text: &str,
+    ) -> Result<(), AllocError> {
+        let start = self.text.len();
+        self.text.push_str(text)?;
+        self.text.push('\n')?;
+        let uri = String::from_str(alloc, uri)?;
+        let document = Document::of(alloc, text)?;
+        self.parts.push(Part {
+            uri,
+            version,
+            document,
+            start,
+        })?;
+        Ok(())
+    }
+
+    /// The number of the part with this URI, if there is one.
+    pub fn part_of(&self, uri: &str) -> Option<usize> {
+        for (index, part) in self.parts.iter().enumerate() {
+            if part.uri.as_str() == uri {
+                return Some(index);
+            }
+        }
+        None
+    }
+
+    /// Where a part of the text lies: in the last document that begins no later. That of the whole text is its beginning.
+    pub fn place_of(&self, span: Option<Span>) -> Place {
+        let Span { start, end } = span.unwrap_or(Span { start: 0, end: 0 });
+        let (start, end) = (start as usize, end as usize);
+        let count = self.parts.partition_point(|part| part.start <= start);
+        let part = count.saturating_sub(1);
+        let before = match self.parts.get(part) {
+            Some(part) => part.start,
+            None => 0,
+        };
+        Place {
+            part,
+            start: start.saturating_sub(before),
+            end: end.saturating_sub(before),
+        }
+    }
+}
+
+impl CheckedSystem {
+    /// Checks the system of these documents, from its root `APPLICATION.make`.
+    pub fn new(alloc: Global, joined: Joined) -> Result<Self, AllocError> {
+        let root = Root {
+            class: String::from_str(alloc, "application")?,
+            procedure: String::from_str(alloc, "make")?,
+        };
+        let findings = findings_in(alloc, &joined, &root)?;
+        Ok(CheckedSystem { joined, findings })
+    }
+
+    /// Whether its documents are to be checked one by one: a class stands twice in them, or they are too long together.
+    pub fn is_apart(&self) -> bool {
+        match self.findings.first() {
+            Some(finding) => matches!(
+                finding.code,
+                Some(RefusalCode::DuplicateClass | RefusalCode::SourceTooLong)
+            ),
+            None => false,
+        }
+    }
+}

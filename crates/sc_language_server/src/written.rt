@@ -1,0 +1,42 @@
+//! What messages have in them, as JSON.
+
+use crate::systems::{Joined, Place};
+use sc_documents::{Document, Position};
+use sc_explain_text::Lines;
+use serde_json::Value;
+use std::alloc::{AllocError, Global};
+
+/// Adds a text in quotes, with the escapes that it needs.
+pub fn push_quoted(alloc: Global, lines: &mut Lines, text: &str) {
+    match quoted(alloc, text) {
+        Ok(quoted) => lines.push(quoted.as_str()),
+        Err(_) => lines.lack(),
+    }
+}
+
+fn quoted(alloc: Global, text: &str) -> Result<String, AllocError> {
+    Value::from(String::from_str(alloc, text)?).to_string(alloc)
+}
+
+/// Adds the range of a part of a document of a system.
+pub fn push_place(lines: &mut Lines, joined: &Joined, place: Place) {
+    match joined.parts.get(place.part) {
+        Some(part) => push_range(lines, &part.document, place.start, place.end),
+        None => lines.push("null"),
+    }
+}
+
+/// Adds the range between two offsets of a document.
+pub fn push_range(lines: &mut Lines, document: &Document, start: usize, end: usize) {
+    lines.push(r#"{"end":"#);
+    push_position(lines, document.position_of(end));
+    lines.push(r#","start":"#);
+    push_position(lines, document.position_of(start));
+    lines.push("}")
+}
+
+/// Adds a position.
+fn push_position(lines: &mut Lines, position: Position) {
+    lines.fill_number(r#"{"character":~"#, position.character as u64);
+    lines.fill_number(r#","line":~}"#, position.line as u64)
+}
