@@ -127,7 +127,7 @@ abbrev pub AreGivenIn : List (List ℕ) → List (Bor (List ℕ)) → Type 0
 AreGivenIn words names = texts_of names ≡ given_in false words
 
 -- The command of this name asks for this with these words after it: files and options; a record, files and options;
--- or the page of a code or a name, if one is given.
+-- or the page of a code or a name, if one is given; or to answer an editor.
 abbrev pub IsAskedOf : List ℕ → List (List ℕ) → Invocation → Type 0
 IsAskedOf name words (invocation.OnFiles (command.Check options) names) =
     (name ≡ codes "check") × AreGivenIn words names.items × AreCheckOptions words options
@@ -155,6 +155,7 @@ IsAskedOf name words (invocation.Test options names) =
     (name ≡ codes "test") × AreGivenIn words names.items × AreTestOptions words options
 IsAskedOf name words (invocation.Explain word) =
     (name ≡ codes "explain") × (option_map (λ w. w.now) word ≡ slice_get (given_in false words) 0)
+IsAskedOf name words invocation.LanguageServer = name ≡ codes "lsp"
 
 -- ---- help
 

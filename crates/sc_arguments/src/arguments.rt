@@ -6,6 +6,7 @@ mod format;
 mod formatting;
 mod given;
 mod help;
+mod language_server;
 mod numbers;
 mod options;
 mod root_option;
@@ -24,6 +25,7 @@ use crate::arguments::checking::{CHECK, read_checking};
 use crate::arguments::format::read_format;
 use crate::arguments::formatting::{FORMATTING, read_formatting};
 use crate::arguments::given::given_in;
+use crate::arguments::language_server::LANGUAGE_SERVER;
 use crate::arguments::numbers::{limit_by, number_up_to, small_number_up_to};
 use crate::arguments::options::{
     CODE, EXPLAIN, FILES, FLAG, FORMAT, KEPT, NO_EXPLAIN, OPTION, OUTPUT_LIMIT, RECORD, ROOT,
@@ -69,6 +71,8 @@ pub enum Invocation<'a> {
     Layout(bool, Vec<&'a str>),
     /// To explain this code or name, or to list all codes.
     Explain(Option<&'a str>),
+    /// To answer an editor by the language server protocol.
+    LanguageServer,
 }
 
 /// What is to be done with a system that isn't run.
@@ -318,7 +322,7 @@ struct Described {
 }
 
 /// The commands of the program.
-const COMMANDS: [Described; 8] = [
+const COMMANDS: [Described; 9] = [
     CHECK,
     Described {
         name: "run",
@@ -362,6 +366,7 @@ const COMMANDS: [Described; 8] = [
         after_help: EXPLAIN_AFTER_HELP,
         takes: &[CODE],
     },
+    LANGUAGE_SERVER,
 ];
 
 /// What `run` takes.
@@ -486,6 +491,7 @@ fn read_command<'a, S: AsStr>(
             Ok(Invocation::Test(tests, given))
         }
         "explain" => Ok(Invocation::Explain(given.first().copied())),
+        "lsp" => Ok(Invocation::LanguageServer),
         _ => Err(UsageFault::NoCommand),
     }
 }
