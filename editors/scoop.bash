@@ -4,7 +4,7 @@
 # `.ci/commands --write PROGRAM` writes these lines.
 declare -gA _scoop_words=(
     # what `scoop --help` says
-    [commands]='check run replay search test print format explain help --help --version'
+    [commands]='check run replay search test print format explain lsp help --help --version'
     [check given]='FILE...'
     [check]='--all --explain --no-explain --format --root --help'
     [check --format]='text json'
@@ -47,7 +47,9 @@ declare -gA _scoop_words=(
     [format]='--write --check --help'
     [explain given]='[CODE]'
     [explain]='--help'
-    [help given]='check run replay search test print format explain'
+    [lsp given]=''
+    [lsp]='--help'
+    [help given]='check run replay search test print format explain lsp'
     [help]=''
     # end of what `scoop --help` says
 )

@@ -34,6 +34,7 @@ complete -c scoop -n __scoop_is_first -a test -d 'Runs the tests of a system, or
 complete -c scoop -n __scoop_is_first -a print -d 'Writes the text of a system in its one canonical layout'
 complete -c scoop -n __scoop_is_first -a format -d 'Writes a text in its layout, with its comments'
 complete -c scoop -n __scoop_is_first -a explain -d 'Says what a code stands for, and why'
+complete -c scoop -n __scoop_is_first -a lsp -d 'Answers an editor, by the language server protocol'
 complete -c scoop -n __scoop_is_first -a help -d 'Print this message or the help of the given subcommand(s)'
 complete -c scoop -n '__scoop_is check' -l all -d 'Lists each place at which a rule is broken, and warns'
 complete -c scoop -n '__scoop_is check' -l explain -d 'Shows where a refusal stands, on standard error; the default where that is a terminal'
@@ -93,5 +94,6 @@ complete -c scoop -n '__scoop_is format' -l help -d 'Print help (see a summary w
 complete -c scoop -n '__scoop_gives format' -k -a '(__fish_complete_suffix .e)'
 complete -c scoop -n '__scoop_is explain' -l help -d 'Print help (see a summary with \'-h\')'
 complete -c scoop -n '__scoop_gives explain' -k -a '(__scoop_codes)'
-complete -c scoop -n '__scoop_is help' -a 'check run replay search test print format explain'
+complete -c scoop -n '__scoop_is lsp' -l help -d 'Print help (see a summary with \'-h\')'
+complete -c scoop -n '__scoop_is help' -a 'check run replay search test print format explain lsp'
 # end of what `scoop --help` says

@@ -19,6 +19,7 @@ _scoop_commands() {
         'print:Writes the text of a system in its one canonical layout'
         'format:Writes a text in its layout, with its comments'
         'explain:Says what a code stands for, and why'
+        'lsp:Answers an editor, by the language server protocol'
         'help:Print this message or the help of the given subcommand(s)'
     )
     _describe command commands
@@ -100,6 +101,9 @@ _scoop_words() {
     explain)
         _arguments '--help[Print help (see a summary with '\''-h'\'')]' \
             '1:CODE:_scoop_codes'
+        ;;
+    lsp)
+        _arguments '--help[Print help (see a summary with '\''-h'\'')]'
         ;;
     help)
         _arguments '1:COMMAND:_scoop_commands'

@@ -119,6 +119,7 @@ formatted bytes_of (invocation.Layout is_written names) format answer (Ok told) 
     (same.kept ∙ is.0, same.object e ∙ is.1)
 formatted bytes_of (invocation.Explain word) format answer (Ok told) e is same =
     explained (option_map (λ w. w.now) word) answer told is (subst (λ f. IsFormatted f answer told) e same)
+formatted bytes_of invocation.LanguageServer format answer (Ok told) e is same = elim is [ ]
 
 -- ---- what is answered to arguments
 
@@ -173,4 +174,9 @@ served arguments bytes_of answer old new status is told = inl (answer, is, told)
 
 pub given_up_on : (arguments : List (List ℕ)) (bytes_of : List ℕ → Option (List ℕ)) (old : Option (List ℕ)) (status : ℕ) → IsGivenUp status →
     IsServed arguments bytes_of old old status
-given_up_on arguments bytes_of old status is = inr (kept_same old, is)
+given_up_on arguments bytes_of old status is = inr (inl (kept_same old, is))
+
+-- the arguments ask that an editor is answered
+pub edited : (arguments : List (List ℕ)) (bytes_of : List ℕ → Option (List ℕ)) (old new : Option (List ℕ)) (status : ℕ) →
+    IsAskedFor arguments invocation.LanguageServer → IsServed arguments bytes_of old new status
+edited arguments bytes_of old new status is = inr (inr is)

@@ -38,6 +38,7 @@ recorded_to (invocation.Search options names) = option_map (λ n. n.now) options
 recorded_to (invocation.Test options names) = None
 recorded_to (invocation.Layout is_written names) = None
 recorded_to (invocation.Explain word) = None
+recorded_to invocation.LanguageServer = None
 
 -- If a record is named and the bytes that it would replace are known, they may be replaced.
 abbrev pub MayBeWritten : (List ℕ → Option (List ℕ)) → Option (List ℕ) → Type 0

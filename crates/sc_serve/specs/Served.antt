@@ -42,6 +42,7 @@ format_asked (invocation.Search options names) = options.format
 format_asked (invocation.Test options names) = shape_of options.format
 format_asked (invocation.Layout is_written names) = Text
 format_asked (invocation.Explain word) = Text
+format_asked invocation.LanguageServer = Text
 
 -- what each of the files of these names holds, if it is known
 abbrev pub held_by : (List ℕ → Option (List ℕ)) → List (Bor (List ℕ)) → List (Option (List ℕ))
@@ -87,6 +88,7 @@ Answers bytes_of (invocation.Test options names) answer =
     × (answer.record ≡ None) × IsAs (shape_of options.format) answer
 Answers bytes_of (invocation.Layout is_written names) answer = (answer.record ≡ None) × (answer.object ≡ None)
 Answers bytes_of (invocation.Explain word) answer = IsExplained (option_map (λ w. w.now) word) answer
+Answers bytes_of invocation.LanguageServer answer = ⊥
 
 -- `formatted` has the text, the exit and the record of `answer`, and if the format is text its object too.
 pub record IsFormatted (format : Format) (answer formatted : Answer) : Type 0 where
@@ -139,8 +141,9 @@ IsDelivered answer old new status =
     (Appends old new (written_of answer) × (status ≡ number_of answer.exit))
     ⊎ (WritesBeginning old new (written_of answer) × IsGivenUp status)
 
--- An answer to the arguments is delivered; or there is no answer, nothing is written, and the program gives up.
+-- An answer to the arguments is delivered; or there is no answer, nothing is written, and the program gives up; or they ask
+-- that an editor is answered, of which nothing more is said here.
 abbrev pub IsServed : List (List ℕ) → (List ℕ → Option (List ℕ)) → Option (List ℕ) → Option (List ℕ) → ℕ → Type 0
 IsServed arguments bytes_of old new status =
     ((answer : Answer) × IsResponse arguments bytes_of answer × IsDelivered answer old new status)
-    ⊎ (Keeps old new × IsGivenUp status)
+    ⊎ ((Keeps old new × IsGivenUp status) ⊎ IsAskedFor arguments invocation.LanguageServer)

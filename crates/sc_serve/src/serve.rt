@@ -3,13 +3,14 @@
 ghost use Rattle.std.specs.Prelude.{◌≡◌, ◌⊎◌, [], IfErr, IfOk, None, OnOk, map};
 ghost use Rattle.sc_serve.specs.Answer as spec;
 ghost use Rattle.std.specs.Option.{option_map};
+ghost use Rattle.sc_arguments.specs.Asked.{IsAskedFor};
 ghost use Rattle.sc_frontend.specs.Texts.{IsUnreadable};
 ghost use Rattle.sc_serve.specs.Answer.{IsAnswerOn, IsAnswerTo, IsInLayout, IsRefusalOf, IsRejectedFor, IsUnansweredOn, IsUnread, too_long};
 ghost use Rattle.sc_serve.specs.Served.{Answers, IsExplained, IsFormatted, IsGivenUp, IsHelp, IsResponse, IsServed, format_asked, format_of};
 
 use crate::all_faults::answer_all_faults;
 use crate::chance::answer_chance;
-use crate::delivery::deliver;
+use crate::delivery::{deliver, status_of};
 use crate::explaining::{explanation, too_long_note};
 use crate::json::answer_object;
 use crate::layouts::answer_layout;
@@ -27,6 +28,7 @@ use sc_class::Root;
 use sc_explain_text::{find, left_out, list};
 use sc_format::format_text;
 use sc_frontend::{Rejection, check_text, print_text};
+use sc_language_server::{Ending, serve_editor};
 use sc_model::Status;
 use sc_search::Watch;
 use sc_source::files::{Files, read_source};
@@ -144,6 +146,8 @@ impl<'a> From<AllocError> for Fault<'a> {
 /// there how far it is, and so does a run of a second or more, and answers are explained there unless an argument says
 /// otherwise. Turns that are to be reported as they are made are reported there.
 ///
+/// If the arguments ask for it, an editor is answered on `out`, whose messages are read from standard input.
+///
 /// With any status but 2 and 5 all of the answer is written. With these a beginning of it is, and nothing if there is
 /// none.
 pub fn serve<
@@ -156,8 +160,13 @@ pub fn serve<
     ensures { let words = map S.text arguments.now in
         IsServed words (F.bytes_of files.now) (O.contents out.old) (O.contents out.new) result }
 {
+    let alloc = rt.alloc();
+    let asked = read_arguments(alloc, arguments, is_terminal);
+    if let Ok(Invocation::LanguageServer) = &asked {
+        return answer_editor(alloc, files, out, err);
+    }
     let mut progress = Progress::new(rt, err, is_terminal);
-    let response = respond(rt, arguments, files, &mut progress, is_terminal);
+    let response = respond(rt, alloc, arguments, asked, files, &mut progress);
     progress.clear();
     match response {
         Ok(answer) => deliver(&answer, files, out, err),
@@ -187,18 +196,37 @@ fn status_after(fault: &Fault<'_>, is_written: bool) -> u8
     }
 }
 
-/// The answer to the arguments: what they ask for, or help if they ask for that.
-fn respond<'a, R: Threads + Wait + Clock + Sync + AllocGlobal, S: AsStr, F: Files, W: Watch + Tell>(
+/// Answers an editor, and returns the status that the program ends with.
+#[inline(never)]
+fn answer_editor<F: Files, O: Write, E: Write>(
+    alloc: Global,
+    files: &F,
+    out: &mut O,
+    err: &mut E,
+) -> u8 {
+    match files.reader("-") {
+        Ok(mut input) => match serve_editor(alloc, files, &mut input, out) {
+            Ending::Down => status_of(Exit::Done),
+            Ending::Cut => status_of(Exit::Refused),
+            Ending::CannotWrite => end_with(&Fault::CannotWrite, err),
+        },
+        Err(error) => end_with(&Fault::CannotRead("-", FileFault::Unreadable(error)), err),
+    }
+}
+
+/// The answer to the arguments, of which this was read: what they ask for, or help if they ask for that.
+fn respond<'a, R: Threads + Wait + Clock + Sync, S: AsStr, F: Files, W: Watch + Tell>(
     rt: &R,
+    alloc: Global,
     arguments: &'a [S],
+    asked: Result<Invocation<'a>, UsageFault>,
     files: &F,
     watch: &mut W,
-    explains: bool,
 ) -> Result<Answer<'a>, Fault<'a>>
+    requires { IfOk asked (IsAskedFor (map S.text arguments.now)) }
     ensures { IfOk result (IsResponse (map S.text arguments.now) (F.bytes_of files.now)) }
 {
-    let alloc = rt.alloc();
-    match read_arguments(alloc, arguments, explains) {
+    match asked {
         Ok(invocation) => answer_to(rt, alloc, &invocation, files, watch),
         Err(fault) => answer_unasked(alloc, arguments, fault),
     }
@@ -273,6 +301,7 @@ fn answer_unformatted<'a, R: Threads + Wait + Clock + Sync, F: Files, W: Watch +
             answer_layout(alloc, *is_written, files, names.as_slice())
         }
         Invocation::Explain(word) => explain(alloc, *word),
+        Invocation::LanguageServer => Err(Fault::Usage(UsageFault::NoCommand)),
     }
 }
 
@@ -288,7 +317,9 @@ fn format_asked(invocation: &Invocation<'_>) -> Format
         Invocation::Replay(options, _) => options.format,
         Invocation::Search(options, _) => options.format,
         Invocation::Test(options, _) => shape_of(options.format),
-        Invocation::Layout(..) | Invocation::Explain(_) => Format::Text,
+        Invocation::Layout(..) | Invocation::Explain(_) | Invocation::LanguageServer => {
+            Format::Text
+        }
     }
 }
 

@@ -39,7 +39,8 @@ pub fn check_target<'a, F: Files>(
             check_record(alloc, files, options.record, names.as_slice())
         }
         Invocation::OnFiles(..) | Invocation::CheckAll(..) | Invocation::Layout(..) => Ok(()),
-        Invocation::Test(..) | Invocation::Replay(..) | Invocation::Explain(_) => Ok(()),
+        Invocation::Test(..) | Invocation::Replay(..) => Ok(()),
+        Invocation::Explain(_) | Invocation::LanguageServer => Ok(()),
     }
 }
 
