@@ -7,6 +7,7 @@
 ;;; Commentary:
 
 ;; Colours, indentation, comments, `compile' and the menu of classes for the files of `scoop'.
+;; With eglot, `M-x eglot' starts the language server.
 
 ;;; Code:
 
@@ -210,6 +211,19 @@ It is a pair of its word and the indentation of its line."
 
 ;;;###autoload
 (add-to-list 'auto-mode-alist '("\\.e\\'" . scoop-mode))
+
+(defun scoop-server (&optional _interactive)
+  "How eglot starts the language server.
+It is given the files of the system, if `scoop-files' names them."
+  (append (list scoop-program "lsp")
+          (when scoop-files
+            (list :initializationOptions
+                  (list :files (vconcat (mapcan (lambda (it) (mapcar #'expand-file-name (file-expand-wildcards it)))
+                                                (split-string scoop-files))))))))
+
+(defvar eglot-server-programs)
+(with-eval-after-load 'eglot
+  (add-to-list 'eglot-server-programs '(scoop-mode . scoop-server)))
 
 (provide 'scoop-mode)
 ;;; scoop-mode.el ends here
