@@ -1,5 +1,5 @@
 -- From a text to its system.
-use Rattle.std.proofs.Common.{◌≡◌, ℕ, ◌<◌, ◌≤◌, ◌^◌, List, [], ◌∷◌, ◌⊎◌, inl, inr, Result, Ok, Err, IfErr, IfOk, IsErrAnd, MatchResult, length, refl, ap, sym, ◌∙◌, subst, arith}
+use Rattle.std.proofs.Common.{◌≡◌, ℕ, ◌<◌, ◌≤◌, ◌^◌, List, [], ◌∷◌, ◌⊎◌, inl, inr, Result, Ok, Err, IfErr, IfOk, IsErrAnd, MatchResult, length, map, Some, refl, ap, sym, ◌∙◌, subst, arith}
 use Rattle.sc_text.specs.Kind.{Kind, kinds_of}
 use Rattle.sc_text.specs.declared.token.Token.{Token}
 use Rattle.sc_text.specs.Spelling.{Spells, lexemes_of, lexeme_of, max_source_bytes}
@@ -31,7 +31,13 @@ use Rattle.sc_frontend.specs.declared.rejection.Rejection.{Rejection}
 use Rattle.sc_frontend.specs.declared.rejection.Rejection.TheVariants as rejection
 use Rattle.sc_frontend.specs.Rejection.{of_code, of_tokens, of_classes, of_system}
 use Rattle.sc_parse.specs.Places.{IsPlaced}
-use Rattle.sc_frontend.specs.Texts.{kinds, IsSpelled, IsRead, IsSound, IsAtFault, IsRefusedFor, IsRunnable, IsNotRunFor, IsUnreadable, IsUnexamined, HasClassFault}
+use Rattle.sc_class.specs.Faults.FaultList.{AreClassFaults, BeginsWithFirst}
+use Rattle.sc_class.proofs.ListingLemmas.{not_empty}
+use Rattle.sc_rules.specs.declared.fault.Fault.{Fault}
+use Rattle.sc_faults.specs.FaultLists.{IsFaultList}
+use Rattle.sc_frontend.specs.Refusals.{by_classes, by_rule}
+use Rattle.sc_frontend.specs.declared.refused.Refused.{Refused}
+use Rattle.sc_frontend.specs.Texts.{AreAllOf, kinds, IsSpelled, IsRead, IsSound, IsAtFault, IsRefusedFor, IsRunnable, IsNotRunFor, IsUnreadable}
 
 -- the kinds of tokens, with their places or without
 pub kinds-lexemes_of : (ts : List Token) → kinds (lexemes_of ts) ≡ kinds_of ts
@@ -122,36 +128,19 @@ class-fault s root f (inr (no_root e)) = no_root e
 class-fault s root f (inr (limit y)) = limit y
 class-fault s root f (inr (left_out y)) = left_out y
 
--- what can't be read isn't examined
-pub unreadable-unexamined : (text : List ℕ) (root : Root) (e : Rejection) → IsUnreadable text e → IsUnexamined text root e
-unreadable-unexamined text root (rejection.Text fault) is = is
-unreadable-unexamined text root (rejection.Grammar fault) is = is
-unreadable-unexamined text root (rejection.Classes fault) is = absurd is
-unreadable-unexamined text root (rejection.Rules fault) is = absurd is
-unreadable-unexamined text root rejection.CodeTooLong is = absurd is
-unreadable-unexamined text root rejection.OutOfMemory is = is
+-- refusals for the class faults of a system whose tables are refused
+pub of-classes : (s : System) (root : Root) (f : ClassFault) (faults : List ClassFault) (refused : List Refused) → (f ≡ classes.OutOfMemory → ⊥) →
+    (f ≡ classes.OutOfMemory) ⊎ Fails s root f → AreClassFaults s root faults → BeginsWithFirst s root faults →
+    map Some refused ≡ map by_classes faults → AreAllOf s root refused
+of-classes s root f faults refused not (inl e) listed first told = absurd (not e)
+of-classes s root f faults refused not (inr y) listed first told =
+    inl (record { faults = faults; some = not_empty s root faults listed f y; listed = listed; first = first; told = told })
 
--- what has a class fault isn't examined
-pub faulty-unexamined : (text : List ℕ) (root : Root) (s : System) → IsRead text s → (e : Rejection) → HasClassFault s root e →
-    IsUnexamined text root e
-faulty-unexamined text root s is (rejection.Text fault) at = absurd at
-faulty-unexamined text root s is (rejection.Grammar fault) at = absurd at
-faulty-unexamined text root s is (rejection.Classes fault) at = record { system = s; read = is; fault = at }
-faulty-unexamined text root s is (rejection.Rules fault) at = absurd at
-faulty-unexamined text root s is rejection.CodeTooLong at = absurd at
-faulty-unexamined text root s is rejection.OutOfMemory at = tt
-
--- a class fault, as a rejection of a text that isn't examined
-pub class-unexamined : (s : System) (root : Root) (f : ClassFault) → (f ≡ classes.OutOfMemory) ⊎ Fails s root f → HasClassFault s root (of_classes f)
-class-unexamined s root f (inl e) = subst (λ (f : ClassFault). HasClassFault s root (of_classes f)) (sym e) tt
-class-unexamined s root f (inr (duplicate_class y)) = duplicate_class y
-class-unexamined s root f (inr (unknown_parent y)) = unknown_parent y
-class-unexamined s root f (inr (cycle y)) = cycle y
-class-unexamined s root f (inr (duplicate_feature e y)) = duplicate_feature e y
-class-unexamined s root f (inr (bad_redefinition e y)) = bad_redefinition e y
-class-unexamined s root f (inr (no_root e)) = no_root e
-class-unexamined s root f (inr (limit y)) = limit y
-class-unexamined s root f (inr (left_out y)) = left_out y
+-- refusals for the faults by the rules of a system that has tables
+pub of-rules : (s t : System) (root : Root) (faults : List Fault) (refused : List Refused) → IsFaultless s root → t ≡ s → IsFaultList t faults →
+    refused ≡ map by_rule faults → AreAllOf s root refused
+of-rules s t root faults refused faultless of_it listed told =
+    inr (record { faultless = faultless; faults = faults; listed = subst (λ (s : System). IsFaultList s faults) of_it listed; told = told })
 
 -- a tree that a text spells is spelled by the tokens that are found
 pub tree-found : (text : List ℕ) (ts : List Token) (tree : System) (is : IsSpelled text tree) → lexemes_of ts ≡ is.tokens →

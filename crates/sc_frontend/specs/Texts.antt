@@ -1,5 +1,5 @@
 -- What is made of a source text: when it is taken, and what is true of one that is refused.
-use Rattle.std.specs.Prelude.{ℕ, ◌≡◌, ◌≤◌, ◌<◌, ◌^◌, List, map, length}
+use Rattle.std.specs.Prelude.{ℕ, ◌≡◌, ◌≤◌, ◌<◌, ◌^◌, ◌⊎◌, List, Some, map, length}
 use Rattle.sc_text.specs.Kind.{Kind}
 use Rattle.sc_text.specs.Spelling.{Lexeme, Spells, IsRefused, max_source_bytes}
 use Rattle.sc_tree.specs.Plain.{System}
@@ -13,6 +13,8 @@ use Rattle.sc_text.specs.declared.token.Span.{Span}
 use Rattle.sc_class.specs.ClassNames.{Root}
 use Rattle.sc_class.specs.Faults.ClassRules as class_rules
 use Rattle.sc_class.specs.Faults.ClassRules.{IsFaultless}
+use Rattle.sc_class.specs.Faults.FaultList.{AreClassFaults, BeginsWithFirst}
+use Rattle.sc_class.specs.declared.fault.ClassFault.{ClassFault}
 use Rattle.sc_rules.specs.declared.rule.Rule.{Rule}
 use Rattle.sc_rules.specs.declared.fault.Fault.{Fault}
 use Rattle.sc_rules.specs.SystemRules.{SystemFails, WellFormed}
@@ -20,6 +22,8 @@ use Rattle.sc_faults.specs.FaultLists.{IsFaultList}
 use Rattle.sc_code.specs.declared.program.Image.{Image}
 use Rattle.sc_code.specs.Programs.{IsProgramOf, code_length}
 use Rattle.sc_code.specs.RequestRoom.{FitsRequests}
+use Rattle.sc_frontend.specs.Refusals.{by_classes, by_rule}
+use Rattle.sc_frontend.specs.declared.refused.Refused.{Refused}
 use Rattle.sc_frontend.specs.declared.rejection.Rejection.{Rejection}
 use Rattle.sc_frontend.specs.declared.rejection.Rejection.TheVariants as rejection
 
@@ -139,34 +143,31 @@ IsNotRunFor text root rejection.OutOfMemory = Unit {0}
 
 -- ---- all faults
 
--- The class fault is in the system, or memory ran out.
-abbrev pub HasClassFault : System → Root → Rejection → Type 0
-HasClassFault system root (rejection.Classes fault) = class_rules.Fails system root fault
-HasClassFault system root rejection.OutOfMemory = Unit {0}
-HasClassFault system root (rejection.Rules fault) = ⊥
-HasClassFault system root rejection.CodeTooLong = ⊥
-HasClassFault system root (rejection.Text fault) = ⊥
-HasClassFault system root (rejection.Grammar fault) = ⊥
+-- Something is at fault in the classes of the system, and the refusals are those for its class faults. None of these
+-- comes before the first.
+pub record AreOfClasses (system : System) (root : Root) (refused : List Refused) : Type 0 where
+  pub faults : List ClassFault
+  pub some : 0 < length faults
+  pub listed : AreClassFaults system root faults
+  pub first : BeginsWithFirst system root faults
+  pub told : map Some refused ≡ map by_classes faults
 
--- The text isn't examined, since it spells no system or one with a class fault, or memory ran out.
-abbrev pub IsUnexamined : List ℕ → Root → Rejection → Type 0
-IsUnexamined text root (rejection.Text fault) = IsRefused text fault
-IsUnexamined text root (rejection.Grammar fault) = IsNoSystem text fault
-IsUnexamined text root (rejection.Classes fault) = HasFault text root (rejection.Classes fault)
-IsUnexamined text root rejection.OutOfMemory = Unit {0}
-IsUnexamined text root (rejection.Rules fault) = ⊥
-IsUnexamined text root rejection.CodeTooLong = ⊥
-
--- No class fault is in the system, and these are its faults.
-pub record IsWholeList (system : System) (root : Root) (faults : List Fault) : Type 0 where
+-- No class fault is in the system, and the refusals are those for its faults by the rules.
+pub record AreByRules (system : System) (root : Root) (refused : List Refused) : Type 0 where
   pub faultless : IsFaultless system root
+  pub faults : List Fault
   pub listed : IsFaultList system faults
+  pub told : refused ≡ map by_rule faults
 
--- The text spells a system without class faults, and these are its faults.
-pub record IsExamined (text : List ℕ) (root : Root) (faults : List Fault) : Type 0 where
+-- These are all refusals of the system: for its classes, or by the rules if it has no class fault.
+abbrev pub AreAllOf : System → Root → List Refused → Type 0
+AreAllOf system root refused = AreOfClasses system root refused ⊎ AreByRules system root refused
+
+-- The text spells a system, and these are all refusals of it.
+pub record IsExamined (text : List ℕ) (root : Root) (refused : List Refused) : Type 0 where
   pub system : System
   pub read : IsRead text system
-  pub whole : IsWholeList system root faults
+  pub whole : AreAllOf system root refused
 
 -- ---- programs
 

@@ -1,6 +1,6 @@
 //! What is made of a source text: its check, its program and its canonical text.
 
-ghost use Rattle.std.specs.Prelude.{◌≡◌, List, ℕ, IfErr, IfOk, IsOk, MatchResult, OnOk};
+ghost use Rattle.std.specs.Prelude.{◌≡◌, List, ℕ, IfErr, IfOk, IsOk, MatchResult, OnOk, Some, map};
 ghost use Rattle.sc_tree.specs.Bare.{bare_system};
 ghost use Rattle.sc_tree.specs.Plain as plain;
 ghost use Rattle.sc_tree.specs.View.{system_of};
@@ -9,11 +9,13 @@ ghost use Rattle.sc_class.specs.View.{root_of};
 ghost use Rattle.sc_class.specs.SystemIn.{root_in, system_in};
 ghost use Rattle.sc_check.specs.CheckedTables.{tables_of};
 ghost use Rattle.sc_lower.specs.Lowerings.{image_of};
-ghost use Rattle.sc_frontend.specs.Texts.{HasClassFault, IsAccepted, IsAtFault, IsExamined, IsLoaded, IsNotRunFor, IsPrinted, IsRead, IsRefusedFor, IsRunnable, IsSound, IsSpelled, IsUnexamined, IsUnreadable, IsWholeList, MustBeAccepted, MustBeRun};
+ghost use Rattle.sc_frontend.specs.Refusals as refusals;
+ghost use Rattle.sc_frontend.specs.Texts.{AreAllOf, IsAccepted, IsAtFault, IsExamined, IsLoaded, IsNotRunFor, IsPrinted, IsRead, IsRefusedFor, IsRunnable, IsSound, IsSpelled, IsUnreadable, MustBeAccepted, MustBeRun};
 
+use crate::refused::{Refused, by_classes, by_rule};
 use crate::rejection::Rejection;
 use sc_check::{Checked, check};
-use sc_class::{Root, tables};
+use sc_class::{ClassFault, Root, class_faults, tables};
 use sc_code::Program;
 use sc_faults::all_faults;
 use sc_lower::lower;
@@ -21,7 +23,7 @@ use sc_parse::{let_go, parse};
 use sc_rules::Fault;
 use sc_text::lex;
 use sc_tree::{System, print_system};
-use std::alloc::Global;
+use std::alloc::{AllocError, Global};
 
 /// Checks the system of a source text.
 pub fn check_text(alloc: Global, text: &str, root: &Root) -> Result<(), Rejection>
@@ -35,16 +37,15 @@ pub fn check_text(alloc: Global, text: &str, root: &Root) -> Result<(), Rejectio
     answer
 }
 
-/// Checks each part of the system of a source text on its own: the faults of all of them, if nothing is at fault in its
-/// classes.
-pub fn check_parts(alloc: Global, text: &str, root: &Root) -> Result<Vec<Fault>, Rejection>
-    ensures listed { IfOk result (λ faults. IsExamined text.now (root_of root.now) faults.items) }
-    ensures refused { IfErr result (IsUnexamined text.now (root_of root.now)) }
+/// Checks each part of the system of a source text on its own: all reasons for which it is refused.
+pub fn check_parts(alloc: Global, text: &str, root: &Root) -> Result<Vec<Refused>, Rejection>
+    ensures listed { IfOk result (λ refused. IsExamined text.now (root_of root.now) refused.items) }
+    ensures refused { IfErr result (IsUnreadable text.now) }
 {
     let system = read(alloc, text)?;
     let answer = list_faults(alloc, &system, root);
     let_go(system);
-    answer
+    Ok(answer?)
 }
 
 /// Checks the system of a source text: its program.
@@ -102,13 +103,49 @@ fn check_system(alloc: Global, system: &System, root: &Root) -> Result<(), Rejec
     }
 }
 
-/// All faults of the system, if nothing is at fault in its classes.
-fn list_faults(alloc: Global, system: &System, root: &Root) -> Result<Vec<Fault>, Rejection>
-    ensures listed { IfOk result (λ faults. IsWholeList (system_of system.now) (root_of root.now) faults.items) }
-    ensures fault { IfErr result (HasClassFault (system_of system.now) (root_of root.now)) }
+/// All reasons for which the system is refused: its class faults, or its faults by the rules if nothing is at fault in its
+/// classes.
+fn list_faults(alloc: Global, system: &System, root: &Root) -> Result<Vec<Refused>, AllocError>
+    ensures { IfOk result (λ refused. AreAllOf (system_of system.now) (root_of root.now) refused.items) }
 {
-    let classes = tables(alloc, system, root)?;
-    Ok(all_faults(alloc, &classes)?)
+    match tables(alloc, system, root) {
+        Ok(classes) => {
+            let faults = all_faults(alloc, &classes)?;
+            refused_by_rules(alloc, faults.as_slice())
+        }
+        Err(fault) => match fault {
+            ClassFault::OutOfMemory => Err(AllocError),
+            _ => {
+                let faults = class_faults(alloc, system, root)?;
+                refused_by_classes(alloc, faults.as_slice())
+            }
+        },
+    }
+}
+
+/// The refusals for these class faults, in their order.
+fn refused_by_classes(alloc: Global, faults: &[ClassFault]) -> Result<Vec<Refused>, AllocError>
+    ensures { IfOk result (λ refused. map Some refused.items ≡ map refusals.by_classes faults.now) }
+{
+    let mut refused = Vec::new(alloc);
+    for fault in faults {
+        let Some(one) = by_classes(*fault) else {
+            return Err(AllocError);
+        };
+        refused.push(one)?;
+    }
+    Ok(refused)
+}
+
+/// The refusals for these faults by the rules, in their order.
+fn refused_by_rules(alloc: Global, faults: &[Fault]) -> Result<Vec<Refused>, AllocError>
+    ensures { IfOk result (λ refused. refused.items ≡ map refusals.by_rule faults.now) }
+{
+    let mut refused = Vec::new(alloc);
+    for fault in faults {
+        refused.push(by_rule(*fault))?;
+    }
+    Ok(refused)
 }
 
 /// The program of the system, of whatever text it is.
