@@ -1,4 +1,4 @@
-//! What is said of one refusal, or of each of several faults.
+//! What is said of one refusal, or of each of several.
 
 use crate::class_helps::{push_left_out, push_near_class};
 use crate::declared::{other_class, other_entity};
@@ -12,7 +12,8 @@ use sc_class::{ClassFault, Root, Tables, tables};
 use sc_explain_text::{
     Lines, Related, explain_character, explain_grammar, let_go, system_of, word_at,
 };
-use sc_rules::{Fault, RefusalCode, Rule};
+use sc_frontend::Refused;
+use sc_rules::{RefusalCode, Rule};
 use sc_text::Span;
 use sc_tree::{Class, System};
 use std::alloc::{AllocError, Global};
@@ -24,8 +25,8 @@ pub struct Diagnosis {
     pub related: Option<Related>,
 }
 
-/// What is said of the refusal for this reason, of this part of a text that is run from this root: a sentence, and a line that
-/// begins with `help: ` where something helps.
+/// What is said of this refusal of a text that is run from this root: a sentence, and a line that begins with `help: ` where
+/// something helps.
 ///
 /// # Errors
 ///
@@ -34,23 +35,16 @@ pub fn diagnose(
     alloc: Global,
     text: &str,
     root: &Root,
-    code: RefusalCode,
-    span: Option<Span>,
+    refused: Refused,
 ) -> Result<Diagnosis, AllocError> {
-    let mut lines = Lines::new(alloc);
-    let refusal = Refusal {
-        text,
-        code,
-        span: span.unwrap_or(NOWHERE),
-    };
-    let related = refusal.tell(alloc, &mut lines, root);
-    Ok(Diagnosis {
-        lines: lines.finish()?,
-        related,
-    })
+    let mut told = diagnose_all(alloc, text, root, &[refused])?;
+    match told.pop() {
+        Some(diagnosis) => Ok(diagnosis),
+        None => Err(AllocError),
+    }
 }
 
-/// What is said of each of these faults of a text that is run from this root, in their order. The text is read once.
+/// What is said of each of these refusals of a text that is run from this root, in their order. The text is read once.
 ///
 /// # Errors
 ///
@@ -59,52 +53,58 @@ pub fn diagnose_all(
     alloc: Global,
     text: &str,
     root: &Root,
-    faults: &[Fault],
+    refused: &[Refused],
 ) -> Result<Vec<Diagnosis>, AllocError> {
     match system_of(alloc, text)? {
         Some(system) => {
-            let told = diagnose_in(alloc, text, root, &system, faults);
+            let told = diagnose_in(alloc, text, root, &system, refused);
             let_go(system);
             told
         }
-        None => diagnose_each(alloc, text, &[], None, faults),
+        None => diagnose_each(alloc, text, root, &[], None, refused),
     }
 }
 
-/// What is said of each of these faults of a text that spells this system.
+/// What is said of each of these refusals of a text that spells this system.
 fn diagnose_in(
     alloc: Global,
     text: &str,
     root: &Root,
     system: &System,
-    faults: &[Fault],
+    refused: &[Refused],
 ) -> Result<Vec<Diagnosis>, AllocError> {
     let classes = &system.classes;
     match tables(alloc, system, root) {
-        Ok(tables) => diagnose_each(alloc, text, classes, Some(&tables), faults),
+        Ok(tables) => diagnose_each(alloc, text, root, classes, Some(&tables), refused),
         Err(ClassFault::OutOfMemory) => Err(AllocError),
-        Err(_) => diagnose_each(alloc, text, classes, None, faults),
+        Err(_) => diagnose_each(alloc, text, root, classes, None, refused),
     }
 }
 
-/// What is said of each of these faults of a text that has these classes, with these tables if the classes have no fault.
+/// What is said of each of these refusals of a text that has these classes, with these tables if the classes have no fault.
 fn diagnose_each(
     alloc: Global,
     text: &str,
+    root: &Root,
     classes: &[Class],
     tables: Option<&Tables<'_>>,
-    faults: &[Fault],
+    refused: &[Refused],
 ) -> Result<Vec<Diagnosis>, AllocError> {
-    let fresh = Fresh::of(text);
+    let known = Known {
+        root,
+        classes,
+        tables,
+        fresh: Fresh::of(text),
+    };
     let mut told = Vec::new(alloc);
-    for fault in faults {
-        let mut lines = Lines::new(alloc);
+    for one in refused {
         let refusal = Refusal {
             text,
-            code: RefusalCode::Rule(fault.rule),
-            span: fault.span,
+            code: one.code,
+            span: one.span.unwrap_or(NOWHERE),
         };
-        let related = refusal.tell_of_rule(alloc, &mut lines, classes, tables, fresh, fault.rule);
+        let mut lines = Lines::new(alloc);
+        let related = refusal.tell(alloc, &mut lines, known);
         let lines = lines.finish()?;
         told.push(Diagnosis { lines, related })?;
     }
@@ -113,6 +113,19 @@ fn diagnose_each(
 
 /// The part that is at fault where none is.
 const NOWHERE: Span = Span { start: 0, end: 0 };
+
+/// What is known of a text.
+#[derive(Clone, Copy)]
+struct Known<'k> {
+    /// What it is run from.
+    root: &'k Root,
+    /// The classes of its system.
+    classes: &'k [Class],
+    /// The tables of its system, if nothing is at fault in its classes.
+    tables: Option<&'k Tables<'k>>,
+    /// Names that aren't known in it.
+    fresh: Fresh<'k>,
+}
 
 /// The refusal of a text, and the part that is at fault.
 #[derive(Clone, Copy)]
@@ -123,77 +136,25 @@ struct Refusal<'s> {
 }
 
 impl<'s> Refusal<'s> {
-    /// Adds what is said of it if the text is run from this root. Another place, if one goes with the fault.
-    fn tell(&self, alloc: Global, lines: &mut Lines, root: &Root) -> Option<Related> {
+    /// Adds what is said of it. Another place, if one goes with the fault.
+    fn tell(&self, alloc: Global, lines: &mut Lines, known: Known<'s>) -> Option<Related> {
+        let classes = known.classes;
         match self.code {
             RefusalCode::BadCharacter => {
                 explain_character(lines, self.text, self.span);
                 None
             }
             RefusalCode::NotInGrammar => explain_grammar(alloc, lines, self.text, self.span),
-            _ => self.tell_of_text(alloc, lines, root),
-        }
-    }
-
-    /// Adds what can be said if the text may spell a system.
-    fn tell_of_text(&self, alloc: Global, lines: &mut Lines, root: &Root) -> Option<Related> {
-        match system_of(alloc, self.text) {
-            Ok(None) => {
-                self.push_sentence(lines);
-                None
-            }
-            Ok(Some(system)) => {
-                let related = self.tell_of_system(alloc, lines, &system, root);
-                let_go(system);
-                related
-            }
-            Err(_) => {
-                lines.lack();
-                None
-            }
-        }
-    }
-
-    /// Adds what can be said if the text spells this system. Another place, if one goes with the fault.
-    fn tell_of_system(
-        &self,
-        alloc: Global,
-        lines: &mut Lines,
-        system: &System,
-        root: &Root,
-    ) -> Option<Related> {
-        match self.code {
             RefusalCode::NoRoot => {
-                explain_root(lines, self.text, &system.classes, root);
+                explain_root(lines, self.text, classes, known.root);
                 None
             }
-            RefusalCode::Rule(rule) => self.tell_by_tables(alloc, lines, system, root, rule),
+            RefusalCode::Rule(rule) => self.tell_of_rule(alloc, lines, known, rule),
             code => {
                 self.push_sentence(lines);
-                self.push_class_helps(lines, system, code);
-                self.other_declaration(system)
+                self.push_class_helps(lines, known, code);
+                self.other_declaration(classes)
             }
-        }
-    }
-
-    /// Adds what the system tells of the part at which a rule fails.
-    fn tell_by_tables(
-        &self,
-        alloc: Global,
-        lines: &mut Lines,
-        system: &System,
-        root: &Root,
-        rule: Rule,
-    ) -> Option<Related> {
-        let classes = &system.classes;
-        let fresh = Fresh::of(self.text);
-        match tables(alloc, system, root) {
-            Ok(tables) => self.tell_of_rule(alloc, lines, classes, Some(&tables), fresh, rule),
-            Err(ClassFault::OutOfMemory) => {
-                lines.lack();
-                None
-            }
-            Err(_) => self.tell_of_rule(alloc, lines, classes, None, fresh, rule),
         }
     }
 
@@ -203,20 +164,18 @@ impl<'s> Refusal<'s> {
         &self,
         alloc: Global,
         lines: &mut Lines,
-        classes: &[Class],
-        tables: Option<&Tables<'_>>,
-        fresh: Fresh<'s>,
+        known: Known<'s>,
         rule: Rule,
     ) -> Option<Related> {
         let Refusal { text, span, .. } = *self;
         let name = word_at(text, span);
         let is_unknown = matches!(rule, Rule::UnknownName);
         let is_print = is_unknown && name.eq_ignore_ascii_case("print");
-        let related = match tables {
+        let related = match known.tables {
             Some(tables) if !is_print => {
                 let search = Search {
                     rule,
-                    spot: Spot::of(text, span, fresh),
+                    spot: Spot::of(text, span, known.fresh),
                     found: Found::Nothing,
                 };
                 search.push_told(alloc, lines, tables)
@@ -226,33 +185,40 @@ impl<'s> Refusal<'s> {
         if lines.is_empty() {
             self.push_sentence(lines);
             if is_unknown {
-                push_near_class(lines, text, classes, name)
+                push_near_class(lines, text, known.classes, name)
             }
         }
         related
     }
 
-    /// Adds what helps in these classes.
-    fn push_class_helps(&self, lines: &mut Lines, system: &System, code: RefusalCode) {
+    /// Adds what helps where the classes are at fault.
+    fn push_class_helps(&self, lines: &mut Lines, known: Known<'s>, code: RefusalCode) {
         let Refusal { text, span, .. } = *self;
+        let Known { classes, fresh, .. } = known;
         match code {
             RefusalCode::UnknownParent => {
-                push_near_class(lines, text, &system.classes, word_at(text, span))
+                push_near_class(lines, text, classes, word_at(text, span))
             }
-            RefusalCode::DuplicateFeature => push_other_name(lines, text, &system.classes, span),
-            RefusalCode::BadRedefinition => push_unfit(lines, &system.classes, span),
-            RefusalCode::LeftOut => push_left_out(lines, text, &system.classes, span),
+            RefusalCode::DuplicateFeature => push_other_name(
+                lines,
+                text,
+                classes,
+                span,
+                fresh.first,
+            ),
+            RefusalCode::BadRedefinition => push_unfit(lines, classes, span),
+            RefusalCode::LeftOut => push_left_out(lines, text, classes, span),
             _ => {}
         }
     }
 
     /// The other declaration of the name at fault, if that is what is at fault.
-    fn other_declaration(&self, system: &System) -> Option<Related> {
+    fn other_declaration(&self, classes: &[Class]) -> Option<Related> {
         let name = word_at(self.text, self.span);
         let other = match self.code {
-            RefusalCode::DuplicateClass => other_class(&system.classes, name, self.span),
+            RefusalCode::DuplicateClass => other_class(classes, name, self.span),
             RefusalCode::DuplicateFeature | RefusalCode::BadRedefinition => {
-                other_entity(&system.classes, name, self.span)
+                other_entity(classes, name, self.span)
             }
             _ => None,
         };

@@ -24,7 +24,7 @@ impl<'s> Fresh<'s> {
 }
 
 /// The first of the names above that the text doesn't contain, after `but` others.
-pub fn fresh_name(text: &str, but: usize) -> &'static str {
+fn fresh_name(text: &str, but: usize) -> &'static str {
     let mut left = but;
     for name in NAMES {
         if !has_word(text.as_bytes(), name.as_bytes()) {

@@ -1,5 +1,5 @@
 //! The explanation of one refusal beside its line: a sentence on this very fault with the part of the text at fault,
-//! what helps, and the place that belongs to it. See [`diagnose`], and [`diagnose_all`] for many faults of one text.
+//! what helps, and the place that belongs to it. See [`diagnose`], and [`diagnose_all`] for many refusals of one text.
 //!
 //! If the classes of a system are at fault, that is the other declaration of a name (`declared`), a class that was
 //! meant and what is written in place of what is left out (`class_helps`), a `redefine` that is missing and what a

@@ -3,14 +3,13 @@
 use crate::declared::{
     class_around, declared_in, feature_around, feature_named, inherits, parent_of, routine_of,
 };
-use crate::fresh::fresh_name;
 use sc_explain_text::{Lines, word_at};
 use sc_text::Span;
 use sc_tree::{Class, Feature, Name};
 
 /// Adds how a feature is declared that has the name of one of an ancestor or an heir, if the one at fault does, or else
-/// which name it may have.
-pub fn push_other_name(lines: &mut Lines, text: &str, classes: &[Class], span: Span) {
+/// that it may have this name, which is known nowhere in the text.
+pub fn push_other_name(lines: &mut Lines, text: &str, classes: &[Class], span: Span, fresh: &str) {
     if let Some((_, class)) = class_around(classes, span)
         && let Some(feature) = feature_around(class, span)
         && feature.name.span == span
@@ -30,7 +29,7 @@ pub fn push_other_name(lines: &mut Lines, text: &str, classes: &[Class], span: S
     }
     lines.fill_name(
         "help: choose another name, as `~`: each stands for one thing in a routine and its class\n",
-        fresh_name(text, 0),
+        fresh,
     )
 }
 
