@@ -4,14 +4,13 @@ ghost use Rattle.std.specs.Prelude.{◌≡◌, ◌++◌, ◌<◌, ◌≤◌, [],
 ghost use Rattle.sc_class.specs.View.{root_of};
 ghost use Rattle.sc_language_server.specs.Findings as spec;
 
-use crate::refused::Refused;
 use crate::systems::{Joined, Part, Place};
 use sc_class::Root;
 use sc_explain_refusal::{Diagnosis, Related, diagnose, diagnose_all};
 use sc_explain_text::{let_go, system_of};
-use sc_frontend::{Rejection, check_parts};
+use sc_frontend::{Refused, Rejection, check_parts};
 use sc_parse::parse;
-use sc_rules::{Fault, RefusalCode};
+use sc_rules::RefusalCode;
 use sc_text::{LexFault, Span, lex};
 use sc_warnings::{Warning, warnings_of};
 use std::alloc::{AllocError, Global};
@@ -47,30 +46,30 @@ pub fn findings_in(alloc: Global, joined: &Joined, root: &Root) -> Result<Vec<Fi
 {
     let mut findings = Vec::new(alloc);
     match check_parts(alloc, joined.text.as_str(), root) {
-        Ok(faults) => push_faults(alloc, &mut findings, joined, root, faults.as_slice())?,
+        Ok(refused) => push_all(alloc, &mut findings, joined, root, refused.as_slice())?,
         Err(rejection) => push_rejection(alloc, &mut findings, joined, root, &rejection)?,
     }
     push_warnings(alloc, &mut findings, joined)?;
     Ok(findings)
 }
 
-/// Adds each fault, with what is said of it.
-fn push_faults(
+/// Adds each refusal, with what is said of it.
+fn push_all(
     alloc: Global,
     findings: &mut Vec<Finding>,
     joined: &Joined,
     root: &Root,
-    faults: &[Fault],
+    refused: &[Refused],
 ) -> Result<(), AllocError>
-    ensures { OnOk result (spec.codes_of findings.new.items ≡ spec.codes_of findings.old.items ++ map spec.code_of faults.now) }
+    ensures { OnOk result (spec.codes_of findings.new.items ≡ spec.codes_of findings.old.items ++ map spec.code_of refused.now) }
 {
-    let mut told = diagnose_all(alloc, joined.text.as_str(), root, faults)?.into_iter();
-    for fault in faults {
+    let mut told = diagnose_all(alloc, joined.text.as_str(), root, refused)?.into_iter();
+    for one in refused {
         let diagnosis = told.next().unwrap_or(Diagnosis {
             lines: Vec::new(alloc),
             related: None,
         });
-        push_refused(findings, joined, Refused::by_rule(*fault), diagnosis)?
+        push_refused(findings, joined, *one, diagnosis)?
     }
     Ok(())
 }
@@ -94,8 +93,7 @@ fn push_rejection(
     let Some(refused) = Refused::by(rejection) else {
         return Err(AllocError);
     };
-    let Refused { code, span } = refused;
-    let diagnosis = diagnose(alloc, joined.text.as_str(), root, code, span)?;
+    let diagnosis = diagnose(alloc, joined.text.as_str(), root, refused)?;
     push_refused(findings, joined, refused, diagnosis)
 }
 
@@ -132,14 +130,15 @@ fn push_part(
     part: &Part,
     rejection: &Rejection,
 ) -> Result<(), AllocError> {
-    let Some(Refused { code, span }) = Refused::by(rejection) else {
+    let Some(refused) = Refused::by(rejection) else {
         return Err(AllocError);
     };
-    let mut diagnosis = diagnose(alloc, part.document.text(), root, code, span)?;
+    let mut diagnosis = diagnose(alloc, part.document.text(), root, refused)?;
     if let Some(Related { what, span }) = diagnosis.related {
         let span = moved_on(span, part.start);
         diagnosis.related = Some(Related { what, span });
     }
+    let Refused { code, span } = refused;
     let span = match span {
         Some(span) => Some(moved_on(span, part.start)),
         None => None,

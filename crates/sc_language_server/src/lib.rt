@@ -17,7 +17,6 @@ mod layout;
 mod opening;
 mod outline;
 mod parameters;
-mod refused;
 mod requests;
 mod server;
 mod serving;

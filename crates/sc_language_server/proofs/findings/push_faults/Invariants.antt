@@ -1,8 +1,0 @@
-use Rattle.std.proofs.Common.{◌≡◌, ◌++◌, map, take}
-use Rattle.sc_language_server.specs.Findings as spec
-use Rattle.sc_language_server.proofs.findings.push_faults.Given as goal
-
-abbrev pub invariant-loop-fault : goal.invariant-loop-fault
-invariant-loop-fault l = record {
-  codes : spec.codes_of l.findings.items ≡ spec.codes_of l.fn.findings.items ++ map spec.code_of (take l.fault-index l.faults);
-}
