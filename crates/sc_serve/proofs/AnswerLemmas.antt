@@ -15,29 +15,30 @@ use Rattle.sc_frontend.specs.Texts.{IsLoaded, IsNotRunFor}
 use Rattle.sc_serve.specs.declared.serve.Answer.{Answer}
 use Rattle.sc_serve.specs.declared.serve.Fault.{Fault}
 use Rattle.sc_serve.specs.declared.serve.Fault.TheVariants as fault
+use Rattle.sc_frontend.specs.Refusals.{refused_by}
+use Rattle.sc_frontend.specs.declared.refused.Refused.{Refused}
 use Rattle.sc_frontend.specs.declared.rejection.Rejection.{Rejection}
 use Rattle.sc_frontend.specs.declared.rejection.Rejection.TheVariants as rejection
 use Rattle.sc_arguments.specs.declared.arguments.Command.{Command}
 use Rattle.sc_arguments.specs.declared.arguments.RunOptions.{RunOptions}
 use Rattle.sc_class.specs.View.{root_of}
 use Rattle.sc_serve.specs.Answer.{IsAnswerOn, IsAnswerTo, IsBadRecord, IsOfFile, IsRanOf, IsRecordUnread, IsRefusalOf, IsRejectedFor, IsReplayOf, IsReplayOn, IsReplayTo, IsReplayed, IsRunOfSource, IsRunOn, IsSourceOf, IsUnansweredOn, IsUnplayed, IsUnplayedRecord, IsUnread, IsUnrun, IsUnrunOn, TellsBadRecord, TellsTooLong, line_of, out_of_memory, too_long}
-use Rattle.sc_serve.specs.Refusal.{Told, refusal_line, told}
+use Rattle.sc_serve.specs.Refusal.{refused_line}
 use Rattle.sc_source.proofs.JoiningLemmas.{long-source}
-use Rattle.sc_source.specs.Source.{File, joined, place_at}
+use Rattle.sc_source.specs.Source.{File, joined}
 use Rattle.sc_source.specs.Joining.{AreTold, FailsForGood, IsJoinFault, no_memory}
 use Rattle.sc_source.specs.declared.reading.FileFault.{FileFault}
 use Rattle.sc_source.specs.declared.reading.FileFault.TheVariants as of_file
 use Rattle.sc_source.specs.declared.source.JoinFault.{JoinFault}
 
 -- the line of a rejection that has a code
-pub line-told : (source : List File) (why : Rejection) (t : Told) → told why ≡ Some t →
-    line_of source why ≡ Some (refusal_line t.code t.name (place_at source t.span))
-line-told source (rejection.Text f) t e = ap (option_map (λ t. refusal_line t.code t.name (place_at source t.span))) e
-line-told source (rejection.Grammar f) t e = ap (option_map (λ t. refusal_line t.code t.name (place_at source t.span))) e
-line-told source (rejection.Classes f) t e = ap (option_map (λ t. refusal_line t.code t.name (place_at source t.span))) e
-line-told source (rejection.Rules f) t e = ap (option_map (λ t. refusal_line t.code t.name (place_at source t.span))) e
-line-told source rejection.CodeTooLong t e = cc
-line-told source rejection.OutOfMemory t e = cc
+pub line-told : (source : List File) (why : Rejection) (r : Refused) → refused_by why ≡ Some r → line_of source why ≡ Some (refused_line source r)
+line-told source (rejection.Text f) r e = ap (option_map (refused_line source)) e
+line-told source (rejection.Grammar f) r e = ap (option_map (refused_line source)) e
+line-told source (rejection.Classes f) r e = ap (option_map (refused_line source)) e
+line-told source (rejection.Rules f) r e = ap (option_map (refused_line source)) e
+line-told source rejection.CodeTooLong r e = cc
+line-told source rejection.OutOfMemory r e = cc
 
 -- that memory ran out is why there is no answer
 pub unanswered : (names : List (List ℕ)) (held : List (Option (List ℕ))) (f : Fault) → f ≡ out_of_memory → IsUnansweredOn names held f

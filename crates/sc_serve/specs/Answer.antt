@@ -34,10 +34,11 @@ use Rattle.sc_driver.specs.declared.auditing.AuditFault.TheVariants as auditing
 use Rattle.sc_driver.specs.Audits.{IsAudited, TellsWhy}
 use Rattle.sc_class.specs.ClassNames.{Root}
 use Rattle.sc_class.specs.View.{root_of}
+use Rattle.sc_frontend.specs.Refusals.{refused_by}
 use Rattle.sc_frontend.specs.declared.rejection.Rejection.{Rejection}
 use Rattle.sc_frontend.specs.declared.rejection.Rejection.TheVariants as rejection
-use Rattle.sc_serve.specs.Refusal.{refusal_line, told, too_long_line}
-use Rattle.sc_source.specs.Source.{File, joined, line_feed, names_of, place_at}
+use Rattle.sc_serve.specs.Refusal.{refused_line, too_long_line}
+use Rattle.sc_source.specs.Source.{File, joined, line_feed, names_of}
 use Rattle.sc_source.specs.Joining.{AreJoined, AreTold, FailsForGood, IsForGood, IsJoinFault, no_memory, source_text}
 use Rattle.sc_source.specs.declared.reading.FileFault.{FileFault}
 use Rattle.sc_source.specs.declared.reading.FileFault.TheVariants as of_file
@@ -86,7 +87,7 @@ IsRejectedFor command.Format text why = IsUnreadable text why
 -- the line that reports the rejection, with its place in the files, if it is a refusal
 abbrev pub line_of : List File → Rejection → Option (List ℕ)
 line_of source rejection.CodeTooLong = Some too_long_line
-line_of source why = option_map (λ t. refusal_line t.code t.name (place_at source t.span)) (told why)
+line_of source why = option_map (refused_line source) (refused_by why)
 
 -- The answer is a refusal: the line that reports the rejection, and the exit `Refused`.
 pub record IsRefusalOf (source : List File) (why : Rejection) (output : List ℕ) (exit : Exit) : Type 0 where

@@ -5,13 +5,14 @@ ghost use Rattle.sc_arguments.specs.declared.arguments.format.Format.TheVariants
 ghost use Rattle.sc_class.specs.View.{root_of};
 ghost use Rattle.sc_serve.specs.AllFaults.{IsAllOf, IsAllOn};
 
-use crate::fault_list::{Beside, array_of_long, list_exit, list_text, write_beside};
-use crate::serve::{Answer, Fault, answer_rejected, answer_unread};
+use crate::fault_list::{Beside, list_exit, list_text, rejection_array, write_beside};
+use crate::serve::{Answer, Fault, answer_explained, answer_unread, root_if};
 use sc_arguments::CheckOptions;
-use sc_frontend::check_parts;
+use sc_frontend::{Rejection, check_parts};
 use sc_places::Places;
 use sc_source::files::{Files, read_source};
 use sc_source::source::Source;
+use sc_text::LexFault;
 use std::alloc::Global;
 
 /// Checks each part of the system of the named files on its own.
@@ -31,7 +32,8 @@ pub fn answer_all_faults<'a, F: Files>(
     match read_source(alloc, files, names) {
         Ok(source) => answer_parts(alloc, options, &source),
         Err(fault) => {
-            let array = array_of_long(alloc, options)?;
+            let long = Rejection::Text(LexFault::SourceTooLong);
+            let array = rejection_array(alloc, options, &Source::new(alloc), &long)?;
             let mut answer = answer_unread(alloc, names, fault, options.is_explained)?;
             answer.object = array;
             Ok(answer)
@@ -50,21 +52,22 @@ fn answer_parts<'a>(
     ensures record { IfOk result (λ answer. answer.record ≡ None) }
     ensures object { options.now.format ≡ Text → IfOk result (λ answer. answer.object ≡ None) }
 {
-    let found = check_parts(alloc, source.text(), &options.root);
-    let places = Places::of(alloc, source)?;
-    let Beside { note, array } = write_beside(alloc, options, &places, &found)?;
-    match found {
-        Ok(faults) => Ok(Answer {
-            text: list_text(alloc, &places, faults.as_slice())?,
-            object: array,
-            exit: list_exit(faults.as_slice()),
-            note,
-            record: None,
-        }),
+    let refused = match check_parts(alloc, source.text(), &options.root) {
+        Ok(refused) => refused,
         Err(rejection) => {
-            let mut answer = answer_rejected(alloc, source, &rejection, note)?;
-            answer.object = array;
-            Ok(answer)
+            let explained = root_if(options.is_explained, &options.root);
+            let mut answer = answer_explained(alloc, source, &rejection, explained)?;
+            answer.object = rejection_array(alloc, options, source, &rejection)?;
+            return Ok(answer);
         }
-    }
+    };
+    let places = Places::of(alloc, source)?;
+    let Beside { note, array } = write_beside(alloc, options, &places, refused.as_slice())?;
+    Ok(Answer {
+        text: list_text(alloc, &places, refused.as_slice())?,
+        object: array,
+        exit: list_exit(refused.as_slice()),
+        note,
+        record: None,
+    })
 }

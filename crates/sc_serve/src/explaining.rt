@@ -1,12 +1,11 @@
 //! What is added to a refusal on standard error: its line of the text, a sentence, and where more is said.
 
-use crate::refusal::{Refusal, rules_refusal};
+use crate::refusal::line_in;
 use sc_class::Root;
 use sc_explain_refusal::{Diagnosis, Related, diagnose, diagnose_all};
 use sc_explain_text::Lines;
-use sc_frontend::Rejection;
+use sc_frontend::{Refused, Rejection};
 use sc_places::Places;
-use sc_rules::Fault;
 use sc_source::excerpt;
 use sc_source::source::{Place, Source};
 use sc_text::Span;
@@ -30,21 +29,18 @@ pub fn explanation(
     lines.finish()
 }
 
-/// What is added to the lines that list what was found in a source text: for a system with a root the explanation of each
-/// fault after its line, or of the rejection; then the warnings.
+/// What is added to the lines that list the refusals of a source text: for a system with a root the explanation of each after
+/// its line; then the warnings.
 pub fn listing_notes(
     alloc: Global,
     places: &Places<'_>,
     explained: Option<&Root>,
-    found: &Result<Vec<Fault>, Rejection>,
+    refused: &[Refused],
     warnings: &[Warning],
 ) -> Result<Vec<u8>, AllocError> {
     let mut lines = Lines::new(alloc);
     if let Some(root) = explained {
-        match found {
-            Ok(faults) => push_faults(alloc, &mut lines, places, root, faults.as_slice()),
-            Err(rejection) => push_rejection(alloc, &mut lines, places, root, rejection),
-        }
+        push_all(alloc, &mut lines, places, root, refused)
     }
     for warning in warnings {
         push_warning(alloc, &mut lines, places, *warning, explained.is_some())
@@ -52,38 +48,37 @@ pub fn listing_notes(
     lines.finish()
 }
 
-/// Adds the explanation of each fault after its line.
-fn push_faults(
+/// Adds the explanation of each refusal after its line.
+fn push_all(
     alloc: Global,
     lines: &mut Lines,
     places: &Places<'_>,
     root: &Root,
-    faults: &[Fault],
+    refused: &[Refused],
 ) {
-    match diagnose_all(alloc, places.source().text(), root, faults) {
+    match diagnose_all(alloc, places.source().text(), root, refused) {
         Ok(told) => {
-            for (fault, diagnosis) in faults.iter().zip(told.iter()) {
-                push_fault(alloc, lines, places, *fault, diagnosis)
+            for (one, diagnosis) in refused.iter().zip(told.iter()) {
+                push_listed(alloc, lines, places, *one, diagnosis)
             }
         }
         Err(_) => lines.lack(),
     }
 }
 
-/// Adds the line of a fault, and its explanation.
-fn push_fault(
+/// Adds the line of a refusal, and its explanation.
+fn push_listed(
     alloc: Global,
     lines: &mut Lines,
     places: &Places<'_>,
-    fault: Fault,
+    refused: Refused,
     diagnosis: &Diagnosis,
 ) {
-    let refusal = rules_refusal(fault);
-    match refusal.line_in(alloc, places) {
+    match line_in(alloc, refused, places) {
         Ok(line) => lines.push(line.as_str()),
         Err(_) => lines.lack(),
     }
-    push_explanation(alloc, lines, places, refusal, diagnosis)
+    push_explanation(alloc, lines, places, refused, diagnosis)
 }
 
 /// Adds the line of a warning, and if it is explained the line of the text.
@@ -114,27 +109,15 @@ fn push_rejection(
     root: &Root,
     rejection: &Rejection,
 ) {
-    match Refusal::of(rejection) {
-        Some(refusal) => push_refusal(alloc, lines, places, root, refusal),
+    match Refused::by(rejection) {
+        Some(refused) => match diagnose(alloc, places.source().text(), root, refused) {
+            Ok(diagnosis) => push_explanation(alloc, lines, places, refused, &diagnosis),
+            Err(_) => lines.lack(),
+        },
         None if matches!(rejection, Rejection::CodeTooLong) => {
             lines.push("`scoop explain CodeTooLong` says more\n")
         }
         None => {}
-    }
-}
-
-/// Adds the explanation of a refusal that has a code.
-fn push_refusal(
-    alloc: Global,
-    lines: &mut Lines,
-    places: &Places<'_>,
-    root: &Root,
-    refusal: Refusal,
-) {
-    let text = places.source().text();
-    match diagnose(alloc, text, root, refusal.code, refusal.span) {
-        Ok(diagnosis) => push_explanation(alloc, lines, places, refusal, &diagnosis),
-        Err(_) => lines.lack(),
     }
 }
 
@@ -143,17 +126,17 @@ fn push_explanation(
     alloc: Global,
     lines: &mut Lines,
     places: &Places<'_>,
-    refusal: Refusal,
+    refused: Refused,
     diagnosis: &Diagnosis,
 ) {
-    if let Some(span) = refusal.span {
+    if let Some(span) = refused.span {
         push_excerpt(alloc, lines, places, span)
     }
     lines.push_bytes(diagnosis.lines.as_slice());
     if let Some(related) = diagnosis.related {
         push_related(alloc, lines, places, related)
     }
-    lines.fill_name("`scoop explain ~` says more\n", refusal.code.code())
+    lines.fill_name("`scoop explain ~` says more\n", refused.code.code())
 }
 
 /// Adds the line of a part of the source text, with carets.

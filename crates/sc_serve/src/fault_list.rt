@@ -1,21 +1,20 @@
-//! The faults of the parts of a system as lines, and what goes with them.
+//! The refusals of a system as lines, and what goes with them.
 
 ghost use Rattle.std.specs.Prelude.{◌≡◌, ◌++◌, IfOk, None, OnOk};
 ghost use Rattle.std.specs.List.{flat_map};
 ghost use Rattle.sc_arguments.specs.declared.arguments.format.Format.TheVariants.{Text};
 ghost use Rattle.sc_serve.specs.AllFaults as spec;
+ghost use Rattle.sc_serve.specs.Refusal.{refused_line};
 
 use crate::explaining::listing_notes;
 use crate::json::faults_array;
-use crate::refusal::rules_refusal;
+use crate::refusal::line_in;
 use crate::serve::{Exit, root_if};
 use crate::warned::warnings_of_text;
 use sc_arguments::{CheckOptions, Format};
-use sc_frontend::Rejection;
+use sc_frontend::{Refused, Rejection};
 use sc_places::Places;
-use sc_rules::Fault;
 use sc_source::source::Source;
-use sc_text::LexFault;
 use std::alloc::{AllocError, Global};
 
 /// What goes with the lines of an answer: what is added on standard error, and the array that is written in place of the lines
@@ -26,89 +25,99 @@ pub struct Beside {
     pub array: Option<Vec<u8>>,
 }
 
-/// What goes with the lines on what was found in a source text: its faults, or why it isn't taken.
+/// What goes with the lines on these refusals of a source text.
 #[inline(never)]
 pub fn write_beside(
     alloc: Global,
     options: &CheckOptions,
     places: &Places<'_>,
-    found: &Result<Vec<Fault>, Rejection>,
+    refused: &[Refused],
 ) -> Result<Beside, AllocError>
     ensures { options.now.format ≡ Text → IfOk result (λ beside. beside.array ≡ None) }
 {
     let explained = root_if(options.is_explained, &options.root);
     let warnings = warnings_of_text(alloc, places.source().text())?;
-    let note = listing_notes(alloc, places, explained, found, warnings.as_slice())?;
+    let note = listing_notes(alloc, places, explained, refused, warnings.as_slice())?;
     let array = match options.format {
         Format::Text => None,
         Format::Json => {
             let root = &options.root;
-            Some(faults_array(alloc, places, root, found, warnings.as_slice())?)
+            Some(faults_array(alloc, places, root, refused, warnings.as_slice())?)
         }
     };
     Ok(Beside { note, array })
 }
 
-/// The array that says that a source text is too long, if JSON is asked for.
-pub fn array_of_long(alloc: Global, options: &CheckOptions) -> Result<Option<Vec<u8>>, AllocError>
+/// The array that says why a source text is rejected, if JSON is asked for.
+pub fn rejection_array(
+    alloc: Global,
+    options: &CheckOptions,
+    source: &Source,
+    rejection: &Rejection,
+) -> Result<Option<Vec<u8>>, AllocError>
     ensures { options.now.format ≡ Text → IfOk result (λ array. array ≡ None) }
 {
-    let found: Result<Vec<Fault>, Rejection> = Err(Rejection::Text(LexFault::SourceTooLong));
     match options.format {
         Format::Text => Ok(None),
         Format::Json => {
-            let source = Source::new(alloc);
-            let places = Places::of(alloc, &source)?;
-            let array = faults_array(alloc, &places, &options.root, &found, &[])?;
+            let Some(refused) = Refused::by(rejection) else {
+                return Ok(None);
+            };
+            let places = Places::of(alloc, source)?;
+            let array = faults_array(alloc, &places, &options.root, &[refused], &[])?;
             Ok(Some(array))
         }
     }
 }
 
-/// What the program ends with if these faults are listed.
-pub fn list_exit(faults: &[Fault]) -> Exit
-    ensures { result ≡ spec.list_exit faults.now }
+/// What the program ends with if these refusals are listed.
+pub fn list_exit(refused: &[Refused]) -> Exit
+    ensures { result ≡ spec.list_exit refused.now }
 {
-    match faults {
+    match refused {
         [] => Exit::Done,
         [_, ..] => Exit::Refused,
     }
 }
 
-/// A line for each fault, or `ok` if there is none.
+/// A line for each refusal, or `ok` if there is none.
 pub fn list_text(
     alloc: Global,
     places: &Places<'_>,
-    faults: &[Fault],
+    refused: &[Refused],
 ) -> Result<Vec<u8>, AllocError>
-    ensures { IfOk result (λ text. text.items ≡ spec.list_text places.now faults.now) }
+    ensures { IfOk result (λ text. text.items ≡ spec.list_text places.now refused.now) }
 {
-    match faults {
+    match refused {
         [] => Vec::from_slice(alloc, b"ok\n"),
-        [_, ..] => fault_lines(alloc, places, faults),
+        [_, ..] => refused_lines(alloc, places, refused),
     }
 }
 
-/// A line for each fault.
-fn fault_lines(alloc: Global, places: &Places<'_>, faults: &[Fault]) -> Result<Vec<u8>, AllocError>
-    ensures { IfOk result (λ lines. lines.items ≡ flat_map (spec.fault_line places.now) faults.now) }
+/// A line for each refusal.
+fn refused_lines(
+    alloc: Global,
+    places: &Places<'_>,
+    refused: &[Refused],
+) -> Result<Vec<u8>, AllocError>
+    ensures { IfOk result (λ lines. lines.items ≡ flat_map (refused_line places.now) refused.now) }
 {
     let mut lines = Vec::new(alloc);
-    for fault in faults {
-        push_fault(alloc, places, *fault, &mut lines)?;
+    for one in refused {
+        push_line(alloc, places, *one, &mut lines)?;
     }
     Ok(lines)
 }
 
-/// Adds the line that reports a fault.
-fn push_fault(
+/// Adds the line that reports a refusal.
+fn push_line(
     alloc: Global,
     places: &Places<'_>,
-    fault: Fault,
+    refused: Refused,
     lines: &mut Vec<u8>,
 ) -> Result<(), AllocError>
-    ensures { OnOk result (lines.new.items ≡ lines.old.items ++ spec.fault_line places.now fault) }
+    ensures { OnOk result (lines.new.items ≡ lines.old.items ++ refused_line places.now refused) }
 {
-    let line = rules_refusal(fault).line_in(alloc, places)?;
+    let line = line_in(alloc, refused, places)?;
     lines.extend_from_slice(line.as_bytes())
 }

@@ -15,7 +15,7 @@ use crate::explaining::{explanation, too_long_note};
 use crate::json::answer_object;
 use crate::layouts::answer_layout;
 use crate::progress::{Progress, Tell};
-use crate::refusal::Refusal;
+use crate::refusal::line_of;
 use crate::replaying::answer_replay;
 use crate::running::answer_run;
 use crate::saying::say;
@@ -27,7 +27,7 @@ use sc_audit::RecordLine;
 use sc_class::Root;
 use sc_explain_text::{find, left_out, list};
 use sc_format::format_text;
-use sc_frontend::{Rejection, check_text, print_text};
+use sc_frontend::{Refused, Rejection, check_text, print_text};
 use sc_language_server::{Ending, serve_editor};
 use sc_model::Status;
 use sc_search::Watch;
@@ -445,7 +445,7 @@ pub fn answer_unread<'a>(
 }
 
 /// The answer if nothing is made of the source text, with what is added on standard error.
-pub(crate) fn answer_rejected<'a>(
+fn answer_rejected<'a>(
     alloc: Global,
     source: &Source,
     rejection: &Rejection,
@@ -456,9 +456,9 @@ pub(crate) fn answer_rejected<'a>(
     ensures object { IfOk result (λ answer. answer.object ≡ None) }
     ensures untold { IfErr result (λ fault. fault ≡ spec.out_of_memory) }
 {
-    match Refusal::of(rejection) {
-        Some(refusal) => {
-            let line = refusal.line(alloc, source)?.into_bytes();
+    match Refused::by(rejection) {
+        Some(refused) => {
+            let line = line_of(alloc, refused, source)?.into_bytes();
             Ok(Answer::noted(line, Exit::Refused, note))
         }
         None => match rejection {

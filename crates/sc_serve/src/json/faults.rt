@@ -1,13 +1,11 @@
 //! What was found in a source text, as an array of JSON on a line.
 
 use crate::json::quoting::push_quoted;
-use crate::refusal::{Refusal, rules_refusal};
 use sc_class::Root;
-use sc_explain_refusal::{Diagnosis, Related, diagnose, diagnose_all};
+use sc_explain_refusal::{Diagnosis, Related, diagnose_all};
 use sc_explain_text::{Lines, is_slip, word_at};
-use sc_frontend::Rejection;
+use sc_frontend::Refused;
 use sc_places::Places;
-use sc_rules::Fault;
 use sc_source::source::Place;
 use sc_text::Span;
 use sc_warnings::Warning;
@@ -35,17 +33,17 @@ pub fn faults_array(
     alloc: Global,
     places: &Places<'_>,
     root: &Root,
-    found: &Result<Vec<Fault>, Rejection>,
+    refused: &[Refused],
     warnings: &[Warning],
 ) -> Result<Vec<u8>, AllocError> {
     let mut lines = Lines::new(alloc);
-    match found {
-        Ok(faults) => push_faults(alloc, &mut lines, places, root, faults),
-        Err(rejection) => {
-            if let Some(refusal) = Refusal::of(rejection) {
-                push_refusal(alloc, &mut lines, places, root, refusal)
+    match diagnose_all(alloc, places.source().text(), root, refused) {
+        Ok(told) => {
+            for (one, diagnosis) in refused.iter().zip(told.iter()) {
+                push_diagnosis(alloc, &mut lines, places, *one, diagnosis)
             }
         }
+        Err(_) => lines.lack(),
     }
     for warning in warnings {
         push_finding(alloc, &mut lines, places, finding_of(*warning))
@@ -53,24 +51,6 @@ pub fn faults_array(
     let end = if lines.is_empty() { "[]\n" } else { "]\n" };
     lines.push(end);
     lines.finish()
-}
-
-/// Adds each fault, with what is said of it.
-fn push_faults(
-    alloc: Global,
-    lines: &mut Lines,
-    places: &Places<'_>,
-    root: &Root,
-    faults: &[Fault],
-) {
-    match diagnose_all(alloc, places.source().text(), root, faults) {
-        Ok(told) => {
-            for (fault, diagnosis) in faults.iter().zip(told.iter()) {
-                push_diagnosis(alloc, lines, places, rules_refusal(*fault), diagnosis)
-            }
-        }
-        Err(_) => lines.lack(),
-    }
 }
 
 /// What is said of a warning.
@@ -87,30 +67,15 @@ fn finding_of(warning: Warning) -> Finding<'static> {
     }
 }
 
-/// Adds a refusal, with what is said of it.
-fn push_refusal(
-    alloc: Global,
-    lines: &mut Lines,
-    places: &Places<'_>,
-    root: &Root,
-    refusal: Refusal,
-) {
-    let text = places.source().text();
-    match diagnose(alloc, text, root, refusal.code, refusal.span) {
-        Ok(diagnosis) => push_diagnosis(alloc, lines, places, refusal, &diagnosis),
-        Err(_) => lines.lack(),
-    }
-}
-
 /// Adds a refusal of which this is said.
 fn push_diagnosis(
     alloc: Global,
     lines: &mut Lines,
     places: &Places<'_>,
-    refusal: Refusal,
+    refused: Refused,
     diagnosis: &Diagnosis,
 ) {
-    let Refusal { code, span } = refusal;
+    let Refused { code, span } = refused;
     let said = str::from_utf8(diagnosis.lines.as_slice()).unwrap_or("");
     let (message, help) = match said.split_once("\nhelp: ") {
         Some(parts) => parts,
