@@ -16,9 +16,10 @@ Says whether a system is well formed.
 
 Writes `ok`, or one line with the first rule that is broken and where:
 `refused CODE Name FILE:LINE:COLUMN`. With `--all` the check goes on: there is
-such a line for each place at which a rule is broken. If the text isn't grammatical,
-or its classes are at fault, there is one line still. On standard error `--all` warns
-of what is allowed and is hardly meant: `warning: MESSAGE FILE:LINE:COLUMN`.";
+such a line for each fault of the classes or, if they have none, for each place at
+which a rule is broken. If the text isn't grammatical, there is one line still. On
+standard error `--all` warns of what is allowed and is hardly meant:
+`warning: MESSAGE FILE:LINE:COLUMN`.";
 
 const CHECK_AFTER_HELP: &str = "\
 Limits:
