@@ -2,7 +2,7 @@
 
 use crate::limit::{Limit, push_limit};
 use crate::moments::push_moments;
-use crate::replay::Replay;
+use crate::replay::{Idle, Replay};
 use crate::telling::push_waits;
 use sc_audit::RecordLine;
 use sc_code::Program;
@@ -66,8 +66,21 @@ fn push_note(lines: &mut Lines, played: Played<'_>, replay: &mut Replay<'_>) {
     if let Err(_) = replay.advance(played.lines, usize::MAX) {
         lines.lack()
     }
+    push_idle(lines, replay.idle);
     let ended = replay.scene();
     push_moments(&ended, lines, played);
     push_limit(&ended, lines, played);
     push_waits(&ended, lines)
+}
+
+/// Adds how many turns of the record changed nothing, if any did. Its line 1 is its title.
+fn push_idle(lines: &mut Lines, idle: Idle) {
+    let template = match idle.turns {
+        0 => return,
+        1 => "~ turn of the record changes nothing, on its line ",
+        _ => "~ turns of the record change nothing, the first on its line ",
+    };
+    lines.fill_number(template, idle.turns);
+    let line = (idle.line as u64).saturating_add(2);
+    lines.fill_number("~: it may be a record of another text\n", line)
 }

@@ -19,6 +19,15 @@ pub struct Replay<'r> {
     /// The line of its record that is played, and how many turns of it are made.
     line: usize,
     made: u32,
+    /// The turns that changed nothing.
+    pub idle: Idle,
+}
+
+/// Turns of a record that change nothing: how many, and the line of the first of them, from 0.
+#[derive(Clone, Copy)]
+pub struct Idle {
+    pub turns: u64,
+    pub line: usize,
 }
 
 impl<'r> Replay<'r> {
@@ -40,6 +49,7 @@ impl<'r> Replay<'r> {
                 world,
                 line: 0,
                 made: 0,
+                idle: Idle { turns: 0, line: 0 },
             }),
             Err(error) => Err(error),
         }
@@ -73,7 +83,10 @@ impl<'r> Replay<'r> {
                 }
                 match self.world.turn(line.handler) {
                     Ok(Turned::Moved) => {}
-                    Ok(Turned::Nothing) => break,
+                    Ok(Turned::Nothing) => {
+                        self.leave_out(line.turns.saturating_sub(self.made));
+                        break;
+                    }
                     Err(error) => return Err(error),
                 }
                 self.made = self.made.saturating_add(1);
@@ -82,5 +95,13 @@ impl<'r> Replay<'r> {
             self.made = 0;
         }
         Ok(())
+    }
+
+    /// Counts turns of the line that is played, since the handler has nothing to do any more.
+    fn leave_out(&mut self, turns: u32) {
+        if self.idle.turns == 0 {
+            self.idle.line = self.line
+        }
+        self.idle.turns = self.idle.turns.saturating_add(turns as u64)
     }
 }
