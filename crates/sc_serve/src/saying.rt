@@ -37,7 +37,9 @@ pub fn say<E: Write>(fault: &Fault<'_>, err: &mut E) -> bool {
 fn template_of(fault: &Fault<'_>) -> &'static str {
     match fault {
         Fault::Usage(UsageFault::NoCommand) => "no command\n",
-        Fault::Usage(UsageFault::BadRoot) => "bad root\n",
+        Fault::Usage(UsageFault::BadRoot) => {
+            "bad root\na root is a class and a procedure of it, as in --root APPLICATION.make\n"
+        }
         Fault::Usage(UsageFault::TracedWorkers) => {
             "a run by several workers can't be traced: leave out --workers or --trace\n"
         }
