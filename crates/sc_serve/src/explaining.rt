@@ -134,9 +134,26 @@ fn push_explanation(
     }
     lines.push_bytes(diagnosis.lines.as_slice());
     if let Some(related) = diagnosis.related {
-        push_related(alloc, lines, places, related)
+        push_related(alloc, lines, places, related);
+        if is_again(places, refused, related.span) {
+            lines.push("help: the file is given twice\n")
+        }
     }
     lines.fill_name("`scoop explain ~` says more\n", refused.code.code())
+}
+
+/// Whether what is refused is the same part of a file as another one: then the text has that file twice.
+fn is_again(places: &Places<'_>, refused: Refused, other: Span) -> bool {
+    let Some(span) = refused.span else {
+        return false;
+    };
+    let place = places.place_of(span.start as usize);
+    match (place, places.place_of(other.start as usize)) {
+        (Some(one), Some(other)) => {
+            one.file == other.file && one.line == other.line && one.column == other.column
+        }
+        _ => false,
+    }
 }
 
 /// Adds the line of a part of the source text, with carets.

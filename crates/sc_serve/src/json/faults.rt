@@ -198,12 +198,25 @@ fn push_begin(alloc: Global, lines: &mut Lines, places: &Places<'_>, span: Optio
     }
 }
 
-/// Adds the place after the last byte of a part, or null.
+/// Adds the place after the last character of a part, or null.
 fn push_end(alloc: Global, lines: &mut Lines, places: &Places<'_>, span: Option<Span>) {
     match span {
-        Some(span) => push_place(alloc, lines, places, span.end as usize),
+        Some(span) => {
+            let end = whole_end(places.source().text(), span.end as usize);
+            push_place(alloc, lines, places, end)
+        }
         None => lines.push("null"),
     }
+}
+
+/// The first place from this one on that cuts no character of the text.
+fn whole_end(text: &str, end: usize) -> usize {
+    for place in end..end.saturating_add(4) {
+        if text.get(place..).is_some() {
+            return place;
+        }
+    }
+    end
 }
 
 /// Adds the place of a byte of the source text: its offset in its file, from 0, its column, which counts bytes, its file and
