@@ -67,6 +67,7 @@ complete -c scoop -n '__scoop_is replay' -l help -d 'Print help (see a summary w
 complete -c scoop -n '__scoop_is replay' -F
 complete -c scoop -n '__scoop_is search' -l for -x -a 'stuck fails refused any' -d 'What ends the search'
 complete -c scoop -n '__scoop_is search' -l states -x -d 'The most states that are kept, 1 to 10000000'
+complete -c scoop -n '__scoop_is search' -l memory -x -d 'The most memory that states take, in MB, 1 to 1000000'
 complete -c scoop -n '__scoop_is search' -l record -r -F -d 'Writes the record of the order that is found to this file'
 complete -c scoop -n '__scoop_is search' -l outcomes -d 'Lists each outcome: the report of an order that ends so'
 complete -c scoop -n '__scoop_is search' -l explain -d 'Shows where a refusal stands, or says who waits for whom, why one fails or why the search gave up, on standard error; the default where that is a terminal'
@@ -80,6 +81,7 @@ complete -c scoop -n '__scoop_is test' -l workers -x -d 'How many threads play t
 complete -c scoop -n '__scoop_is test' -l turns -x -d 'The most turns that are played, 1 to 10000000'
 complete -c scoop -n '__scoop_is test' -l search -d 'Plays each test in every order of turns'
 complete -c scoop -n '__scoop_is test' -l states -x -d 'The most states that are kept, 1 to 10000000'
+complete -c scoop -n '__scoop_is test' -l memory -x -d 'The most memory that states take, in MB, 1 to 1000000'
 complete -c scoop -n '__scoop_is test' -l record -x -a '(__fish_complete_directories)' -d 'Writes a record of each test that fails to FOLDER/CLASS.TEST.record, for `scoop replay`'
 complete -c scoop -n '__scoop_is test' -l explain -d 'Shows where a refusal stands, or says why a test fails; the default'
 complete -c scoop -n '__scoop_is test' -l no-explain -d 'Leaves that out'

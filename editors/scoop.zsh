@@ -66,6 +66,7 @@ _scoop_words() {
     search)
         _arguments '--for=[What ends the search]:WHAT:(stuck fails refused any)' \
             '--states=[The most states that are kept, 1 to 10000000]:N:' \
+            '--memory=[The most memory that states take, in MB, 1 to 1000000]:MB:' \
             '--record=[Writes the record of the order that is found to this file]:PATH:_files' \
             '--outcomes[Lists each outcome: the report of an order that ends so]' \
             '--explain[Shows where a refusal stands, or says who waits for whom, why one fails or why the search gave up, on standard error; the default where that is a terminal]' \
@@ -81,6 +82,7 @@ _scoop_words() {
             '--turns=[The most turns that are played, 1 to 10000000]:N:' \
             '--search[Plays each test in every order of turns]' \
             '--states=[The most states that are kept, 1 to 10000000]:N:' \
+            '--memory=[The most memory that states take, in MB, 1 to 1000000]:MB:' \
             '--record=[Writes a record of each test that fails to FOLDER/CLASS.TEST.record, for `scoop replay`]:FOLDER:_files -/' \
             '--explain[Shows where a refusal stands, or says why a test fails; the default]' \
             '--no-explain[Leaves that out]' \

@@ -105,6 +105,7 @@ pub record AreSearchOptions (words : List (List ℕ)) (options : SearchOptions) 
   pub format : options.format ≡ format_in words
   pub sought : options.sought ≡ sought_named (value_or (codes "--for") (codes "any") words)
   pub states : WritesUpTo 10000000 (value_or (codes "--states") (codes "100000") words) options.states
+  pub memory : WritesUpTo 1000000 (value_or (codes "--memory") (codes "1000") words) options.memory
   pub record_name : option_map (λ name. name.now) options.record ≡ value_of (codes "--record") words
   pub lists_outcomes : options.lists_outcomes ≡ has_option (codes "--outcomes") words
 
@@ -115,6 +116,7 @@ pub record AreTestOptions (words : List (List ℕ)) (options : TestOptions) : Ty
   pub turns : WritesUpTo 10000000 (value_or (codes "--turns") (codes "1000000") words) options.turns
   pub is_searched : options.is_searched ≡ has_option (codes "--search") words
   pub states : WritesUpTo 10000000 (value_or (codes "--states") (codes "100000") words) options.states
+  pub memory : WritesUpTo 1000000 (value_or (codes "--memory") (codes "1000") words) options.memory
   pub folder : option_map (λ name. name.now) options.folder ≡ value_of (codes "--record") words
 
 -- ---- what a command asks for

@@ -13,7 +13,8 @@ has_value word =
     bytes_eq word (codes "--root") || (bytes_eq word (codes "--root-class") || (bytes_eq word (codes "--workers")
     || (bytes_eq word (codes "--turns") || (bytes_eq word (codes "--output-limit") || (bytes_eq word (codes "--record")
     || (bytes_eq word (codes "--format") || (bytes_eq word (codes "--for") || (bytes_eq word (codes "--states")
-    || (bytes_eq word (codes "--seed") || (bytes_eq word (codes "--times") || bytes_eq word (codes "--until")))))))))))
+    || (bytes_eq word (codes "--memory") || (bytes_eq word (codes "--seed") || (bytes_eq word (codes "--times")
+    || bytes_eq word (codes "--until"))))))))))))
 
 -- The word is an option: it begins with `-`. A `-` alone is a file.
 abbrev pub is_option : List ℕ → Bool

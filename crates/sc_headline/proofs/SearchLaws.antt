@@ -32,6 +32,7 @@ use Rattle.sc_search.specs.declared.aims.Aim.TheVariants as aim
 use Rattle.sc_search.specs.Aims.{HasFailed, HasRefused, IsMet}
 use Rattle.sc_search.specs.Closed.{IsClosed}
 use Rattle.sc_search.specs.Found.{turns_of}
+use Rattle.sc_search.specs.declared.limits.Limits.{Limits}
 use Rattle.sc_search.specs.declared.verdict.GivenUp.{GivenUp}
 use Rattle.sc_search.specs.declared.verdict.Reason.{Reason}
 use Rattle.sc_search.specs.declared.verdict.Reason.TheVariants as reason
@@ -267,25 +268,26 @@ whole anew alike near tells movers open_of stay text root program version a stat
 
 -- ---- where a search gives up
 
-module _ (one : OneWorld) (text : List ℕ) (root : Root) (p : Image) (v : Version) (a : Aim) (limit : ℕ) (loaded : IsLoaded text root p) where
+module _ (one : OneWorld) (text : List ℕ) (root : Root) (p : Image) (v : Version) (a : Aim) (limits : Limits) (loaded : IsLoaded text root p) where
   -- as many were met, so as many as may be kept
-  met_limit : (states : ℕ) → limit ≤ states → AreMet p v a states → AreMet p v a limit
+  met_limit : (states : ℕ) → limits.states ≤ states → AreMet p v a states → AreMet p v a limits.states
   met_limit states few met = record { states = met.states; many = omega (arith, few, met.many); unmet = met.unmet }
 
-  played_limit : (turns : ℕ) → turns_a_state * limit ≤ turns → ArePlayed p v turns → ArePlayed p v (turns_a_state * limit)
+  played_limit : (turns : ℕ) → turns_a_state * limits.states ≤ turns → ArePlayed p v turns → ArePlayed p v (turns_a_state * limits.states)
   played_limit turns few played = record { orders = played.orders; each = played.each; many = omega (arith, few, played.many) }
 
   -- turns lead to one world
-  by_reason : (g : GivenUp) (r : Reason) (states turns : ℕ) → IsUsedUp p v a limit r states turns → IsAtLimit p v a limit g
+  by_reason : (g : GivenUp) (r : Reason) (states turns : ℕ) → IsUsedUp p v a limits r states turns g.bytes → IsAtLimit p v a limits g
   by_reason g reason.States states turns up = inl (met_limit states up.0 up.1)
   by_reason g reason.Turns states turns up = inr (inl (played_limit turns up.0 up.1))
+  by_reason g reason.Bytes states turns up = inr (inr (inl up.0))
   by_reason g reason.Memory states turns up = absurd up
   by_reason g reason.Worlds states turns two =
       absurd (two.differ (one text root p v two.order two.one two.other loaded two.leads_to_one two.leads_to_other))
 
-  at_limit : (g : GivenUp) → GivesUp p v a limit g → IsAtLimit p v a limit g
+  at_limit : (g : GivenUp) → GivesUp p v a limits g → IsAtLimit p v a limits g
   at_limit g (inl up) = by_reason g g.reason g.states g.turns up
-  at_limit g (inr memory) = inr (inr memory)
+  at_limit g (inr memory) = inr (inr (inr memory))
 
 pub gives_up : OneWorld → SearchesGiveUpAtLimits
-gives_up one text root p v a limit g loaded up = at_limit one text root p v a limit loaded g up
+gives_up one text root p v a limits g loaded up = at_limit one text root p v a limits loaded g up

@@ -16,6 +16,7 @@ use Rattle.sc_world.specs.Kept.{PlainKept}
 use Rattle.sc_frontend.specs.Texts.{IsLoaded, IsRead, IsSound}
 use Rattle.sc_search.specs.declared.aims.Aim.{Aim}
 use Rattle.sc_search.specs.declared.aims.Aim.TheVariants as aim
+use Rattle.sc_search.specs.declared.limits.Limits.{Limits}
 use Rattle.sc_search.specs.declared.verdict.GivenUp.{GivenUp}
 use Rattle.sc_search.specs.Aims.{AreStuck, HasFailed, SomeRefuses}
 use Rattle.sc_search.specs.Closed.{IsClosed}
@@ -93,13 +94,14 @@ WholeSearchesFindAll =
 
 -- ---- where a search gives up
 
--- As many states as may be kept were met, or as many turns as that allows were played, or memory ran out.
-abbrev pub IsAtLimit : Image → Version → Aim → ℕ → GivenUp → Type 0
-IsAtLimit p v a limit g =
-    AreMet p v a limit ⊎ ArePlayed p v (turns_a_state * limit) ⊎ LacksMemory g
+-- As many states as may be kept were met, or as many turns as that allows were played, or what is kept takes more bytes
+-- than it may, or memory ran out.
+abbrev pub IsAtLimit : Image → Version → Aim → Limits → GivenUp → Type 0
+IsAtLimit p v a l g =
+    AreMet p v a l.states ⊎ ArePlayed p v (turns_a_state * l.states) ⊎ (l.bytes < g.bytes) ⊎ LacksMemory g
 
 -- A search of a text's program gives up only if that is so.
 abbrev pub SearchesGiveUpAtLimits : Type 0
 SearchesGiveUpAtLimits =
-    (text : List ℕ) (root : Root) (program : Image) (version : Version) (a : Aim) (limit : ℕ) (g : GivenUp) →
-    IsLoaded text root program → GivesUp program version a limit g → IsAtLimit program version a limit g
+    (text : List ℕ) (root : Root) (program : Image) (version : Version) (a : Aim) (limits : Limits) (g : GivenUp) →
+    IsLoaded text root program → GivesUp program version a limits g → IsAtLimit program version a limits g

@@ -166,7 +166,8 @@ pub fn whole_searches_find_all()
 }
 
 /// For every source text that is accepted: where a search of its program gives up, it has met as many states as it may keep, or has
-/// played as many turns as go with them, or memory ran out. No order has led it to two worlds.
+/// played as many turns as go with them, or what it keeps takes more bytes than it may, or memory ran out. No order has led it to two
+/// worlds.
 pub fn searches_give_up_at_limits()
     ensures { SearchesGiveUpAtLimits }
 {

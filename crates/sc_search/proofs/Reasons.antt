@@ -14,6 +14,7 @@ use Rattle.sc_world.specs.Turning.{Runs}
 use Rattle.sc_world.specs.Worlds.{PlainWorld, opened}
 use Rattle.sc_search.specs.declared.aims.Aim.{Aim}
 use Rattle.sc_search.specs.declared.aims.Aim.TheVariants as aim
+use Rattle.sc_search.specs.declared.limits.Limits.{Limits}
 use Rattle.sc_search.specs.declared.progress.Stop.{Stop}
 use Rattle.sc_search.specs.declared.progress.Stop.TheVariants as stop
 use Rattle.sc_search.specs.declared.verdict.Finding.{Finding}
@@ -159,11 +160,11 @@ module _ (p : Image) (v : Version) (a : Aim) where
   -- ---- why it stops
 
   -- as many states are met as may be
-  pub full : (ks : List PlainKept) (os : List (List ℕ)) (ts : List (List Status)) (turns limit : ℕ) (g : GivenUp) →
-      AreReached p v a ks os ts turns → limit ≤ length ks →
-      g.reason ≡ reason.States → g.states ≡ length ks → PassGivesUp p v a limit g
-  full ks os ts turns limit g so many why states =
-      subst (λ (r : Reason). IsUsedUp p v a limit r g.states g.turns) (sym why) (
+  pub full : (ks : List PlainKept) (os : List (List ℕ)) (ts : List (List Status)) (turns : ℕ) (limits : Limits) (g : GivenUp) →
+      AreReached p v a ks os ts turns → limits.states ≤ length ks →
+      g.reason ≡ reason.States → g.states ≡ length ks → PassGivesUp p v a limits g
+  full ks os ts turns limits g so many why states =
+      subst (λ (r : Reason). IsUsedUp p v a limits r g.states g.turns g.bytes) (sym why) (
         omega (arith, many, states),
         record {
           states = ks;
@@ -174,18 +175,34 @@ module _ (p : Image) (v : Version) (a : Aim) where
         },
       )
 
+  -- what is kept of these states takes more than it may
+  pub past : (ks : List PlainKept) (os : List (List ℕ)) (ts : List (List Status)) (turns : ℕ) (limits : Limits) (g : GivenUp) →
+      AreReached p v a ks os ts turns → limits.bytes < g.bytes →
+      g.reason ≡ reason.Bytes → g.states ≡ length ks → PassGivesUp p v a limits g
+  past ks os ts turns limits g so many why states =
+      subst (λ (r : Reason). IsUsedUp p v a limits r g.states g.turns g.bytes) (sym why) (
+        many,
+        record {
+          states = ks;
+          many = omega (arith, states);
+          unmet = λ i k at.
+              let r = so.each i k at in
+              record { world = r.world; stands_in = record { handlers = r.order; runs = r.runs; kept = r.kept_is }; unmet = r.unmet };
+        },
+      )
+
   -- as many turns are played as may be
-  pub played_out : (turns limit : ℕ) (g : GivenUp) → ArePlayed p v turns → turns_a_state * limit ≤ turns → g.reason ≡ reason.Turns →
-      g.turns ≡ turns → PassGivesUp p v a limit g
-  played_out turns limit g played many why same =
-      subst (λ (r : Reason). IsUsedUp p v a limit r g.states g.turns) (sym why) (
+  pub played_out : (turns : ℕ) (limits : Limits) (g : GivenUp) → ArePlayed p v turns → turns_a_state * limits.states ≤ turns → g.reason ≡ reason.Turns →
+      g.turns ≡ turns → PassGivesUp p v a limits g
+  played_out turns limits g played many why same =
+      subst (λ (r : Reason). IsUsedUp p v a limits r g.states g.turns g.bytes) (sym why) (
         omega (arith, many, same),
         record { orders = played.orders; each = played.each; many = omega (arith, played.many, same) },
       )
 
   -- an order leads to two worlds
-  pub two_worlds : (limit : ℕ) (g : GivenUp) → g.reason ≡ reason.Worlds → AreTwo p v → PassGivesUp p v a limit g
-  two_worlds limit g why two = subst (λ (r : Reason). IsUsedUp p v a limit r g.states g.turns) (sym why) two
+  pub two_worlds : (limits : Limits) (g : GivenUp) → g.reason ≡ reason.Worlds → AreTwo p v → PassGivesUp p v a limits g
+  two_worlds limits g why two = subst (λ (r : Reason). IsUsedUp p v a limits r g.states g.turns g.bytes) (sym why) two
 
   -- turns lead to a world in a state, and to one that isn't
   pub lost : (ks : List PlainKept) (number : ℕ) (path : List ℕ) (w : PlainWorld) → IsLedTo p v ks number path → Runs path (opened p v) w →
@@ -225,76 +242,76 @@ module _ (p : Image) (v : Version) (a : Aim) where
   -- ---- what it says then
 
   -- a pass gave up
-  pub says_cut : (limit : ℕ) (b : Bool) (g : GivenUp) → PassGivesUp p v a limit g → SaysWhy p v a limit b finding.Undecided (Some g)
-  says_cut limit b g up = inl up
+  pub says_cut : (limits : Limits) (b : Bool) (g : GivenUp) → PassGivesUp p v a limits g → SaysWhy p v a limits b finding.Undecided (Some g)
+  says_cut limits b g up = inl up
 
-  pub says_ordered : (limit : ℕ) (b : Bool) (f : Finding) → IsOrdered f → SaysWhy p v a limit b f None
-  says_ordered limit b finding.Nothing never = absurd never
-  says_ordered limit b (finding.Stuck order) is = refl
-  says_ordered limit b (finding.Fails order) is = refl
-  says_ordered limit b (finding.Refused order) is = refl
-  says_ordered limit b finding.Undecided never = absurd never
+  pub says_ordered : (limits : Limits) (b : Bool) (f : Finding) → IsOrdered f → SaysWhy p v a limits b f None
+  says_ordered limits b finding.Nothing never = absurd never
+  says_ordered limits b (finding.Stuck order) is = refl
+  says_ordered limits b (finding.Fails order) is = refl
+  says_ordered limits b (finding.Refused order) is = refl
+  says_ordered limits b finding.Undecided never = absurd never
 
   -- nothing is found, and the search is whole
-  pub says_none : (limit : ℕ) (b : Bool) (f : Finding) (why : Option GivenUp) → f ≡ finding.Nothing → b ≡ true → why ≡ None → SaysWhy p v a limit b f why
-  says_none limit b f why nothing whole none =
-      subst (λ (g : Finding). SaysWhy p v a limit b g why) (sym nothing) (subst (λ (c : Bool). SaysWhy p v a limit c finding.Nothing why) (sym whole) none)
+  pub says_none : (limits : Limits) (b : Bool) (f : Finding) (why : Option GivenUp) → f ≡ finding.Nothing → b ≡ true → why ≡ None → SaysWhy p v a limits b f why
+  says_none limits b f why nothing whole none =
+      subst (λ (g : Finding). SaysWhy p v a limits b g why) (sym nothing) (subst (λ (c : Bool). SaysWhy p v a limits c finding.Nothing why) (sym whole) none)
 
   -- a search that isn't whole says what one says that may be whole
-  pub says_part : (limit : ℕ) (b : Bool) (f : Finding) (why : Option GivenUp) → (b ≡ true → ⊥) → SaysWhy p v a limit false f why → SaysWhy p v a limit b f why
-  says_part limit true f why part is = absurd (part refl)
-  says_part limit false f why part is = is
+  pub says_part : (limits : Limits) (b : Bool) (f : Finding) (why : Option GivenUp) → (b ≡ true → ⊥) → SaysWhy p v a limits false f why → SaysWhy p v a limits b f why
+  says_part limits true f why part is = absurd (part refl)
+  says_part limits false f why part is = is
 
-  pub undecided_why : (limit : ℕ) (b : Bool) (f : Finding) (why : Option GivenUp) → is_undecided f ≡ true → SaysWhy p v a limit b f why →
-      HasReason p v a limit why
-  undecided_why limit b finding.Nothing why e is = cc
-  undecided_why limit b (finding.Stuck order) why e is = cc
-  undecided_why limit b (finding.Fails order) why e is = cc
-  undecided_why limit b (finding.Refused order) why e is = cc
-  undecided_why limit b finding.Undecided why e is = is
+  pub undecided_why : (limits : Limits) (b : Bool) (f : Finding) (why : Option GivenUp) → is_undecided f ≡ true → SaysWhy p v a limits b f why →
+      HasReason p v a limits why
+  undecided_why limits b finding.Nothing why e is = cc
+  undecided_why limits b (finding.Stuck order) why e is = cc
+  undecided_why limits b (finding.Fails order) why e is = cc
+  undecided_why limits b (finding.Refused order) why e is = cc
+  undecided_why limits b finding.Undecided why e is = is
 
   -- turns led to what is looked for, and don't lead there again
-  pub says_worlds : (limit : ℕ) (turns : List ℕ) (g : GivenUp) → g.reason ≡ reason.Worlds → MissesAfter p v a turns → MeetsAfter p v a turns →
-      SaysWhy p v a limit false finding.Undecided (Some g)
-  says_worlds limit turns g why n m = inl (two_worlds limit g why (differs turns m n))
+  pub says_worlds : (limits : Limits) (turns : List ℕ) (g : GivenUp) → g.reason ≡ reason.Worlds → MissesAfter p v a turns → MeetsAfter p v a turns →
+      SaysWhy p v a limits false finding.Undecided (Some g)
+  says_worlds limits turns g why n m = inl (two_worlds limits g why (differs turns m n))
 
   -- one that has given up says why another one did, and one that hasn't says nothing
-  pub says_other : (limit : ℕ) (b : Bool) (f : Finding) (why said : Option GivenUp) → HasReason p v a limit why → (has_given_up b f ≡ true → said ≡ why) →
-      (has_given_up b f ≡ false → said ≡ None) → SaysWhy p v a limit b f said
-  says_other limit b f why said is up none = by (has_given_up b f) refl
+  pub says_other : (limits : Limits) (b : Bool) (f : Finding) (why said : Option GivenUp) → HasReason p v a limits why → (has_given_up b f ≡ true → said ≡ why) →
+      (has_given_up b f ≡ false → said ≡ None) → SaysWhy p v a limits b f said
+  says_other limits b f why said is up none = by (has_given_up b f) refl
     where
-      by : (c : Bool) → has_given_up b f ≡ c → IsWhy p v a limit (has_given_up b f) said
+      by : (c : Bool) → has_given_up b f ≡ c → IsWhy p v a limits (has_given_up b f) said
       by true e =
-          subst (λ (d : Bool). IsWhy p v a limit d said) (sym e) (subst (λ (w : Option GivenUp). HasReason p v a limit w) (sym (up e)) is)
-      by false e = subst (λ (d : Bool). IsWhy p v a limit d said) (sym e) (none e)
+          subst (λ (d : Bool). IsWhy p v a limits d said) (sym e) (subst (λ (w : Option GivenUp). HasReason p v a limits w) (sym (up e)) is)
+      by false e = subst (λ (d : Bool). IsWhy p v a limits d said) (sym e) (none e)
 
   -- a search over choices after which none over all turns follows
-  pub has_stopped : (limit : ℕ) (s : Option Stop) → IfSome s (ChoiceStopsFor p v a limit) → goes_on s ≡ false → HasStopped p v a limit s
-  has_stopped limit None is e = cc
-  has_stopped limit (Some (stop.Met turns)) is e = is
-  has_stopped limit (Some (stop.Cut why)) is e = is
-  has_stopped limit (Some stop.Endless) is e = cc
+  pub has_stopped : (limits : Limits) (s : Option Stop) → IfSome s (ChoiceStopsFor p v a limits) → goes_on s ≡ false → HasStopped p v a limits s
+  has_stopped limits None is e = cc
+  has_stopped limits (Some (stop.Met turns)) is e = is
+  has_stopped limits (Some (stop.Cut why)) is e = is
+  has_stopped limits (Some stop.Endless) is e = cc
 
-  pub choice_stops : (limit : ℕ) (s : Option Stop) → IfSome s (StopsFor p v a limit) → IfSome s (ChoiceStopsFor p v a limit)
-  choice_stops limit None is = tt
-  choice_stops limit (Some (stop.Met turns)) is = is
-  choice_stops limit (Some (stop.Cut why)) is = is
-  choice_stops limit (Some stop.Endless) is = absurd is
+  pub choice_stops : (limits : Limits) (s : Option Stop) → IfSome s (StopsFor p v a limits) → IfSome s (ChoiceStopsFor p v a limits)
+  choice_stops limits None is = tt
+  choice_stops limits (Some (stop.Met turns)) is = is
+  choice_stops limits (Some (stop.Cut why)) is = is
+  choice_stops limits (Some stop.Endless) is = absurd is
 
   -- where it has stopped it isn't whole
-  pub not_none : (limit : ℕ) (s : Option Stop) → HasStopped p v a limit s → s ≡ None → ⊥
-  not_none limit None is e = is
-  not_none limit (Some s) is e = cc
+  pub not_none : (limits : Limits) (s : Option Stop) → HasStopped p v a limits s → s ≡ None → ⊥
+  not_none limits None is e = is
+  not_none limits (Some s) is e = cc
 
   -- the verdict of a search over all turns
-  pub whole_says : (limit : ℕ) (s : Option Stop) (d : Verdict) → IfSome s (StopsFor p v a limit) →
+  pub whole_says : (limits : Limits) (s : Option Stop) (d : Verdict) → IfSome s (StopsFor p v a limits) →
       (s ≡ None → (d.finding ≡ finding.Nothing) × (d.is_whole ≡ true) × (d.why ≡ None)) →
-      (HasStopped p v a limit s → SaysWhy p v a limit d.is_whole d.finding d.why) → SaysWhy p v a limit d.is_whole d.finding d.why
-  whole_says limit None d is done why = let n = done refl in says_none limit d.is_whole d.finding d.why n.0 n.1 n.2
-  whole_says limit (Some s) d is done why = why is
+      (HasStopped p v a limits s → SaysWhy p v a limits d.is_whole d.finding d.why) → SaysWhy p v a limits d.is_whole d.finding d.why
+  whole_says limits None d is done why = let n = done refl in says_none limits d.is_whole d.finding d.why n.0 n.1 n.2
+  whole_says limits (Some s) d is done why = why is
 
-  pub whole_verdict : {E : Type 0} (r : Result Verdict E) (s : Option Stop) (limit : ℕ) → IfSome s (StopsFor p v a limit) →
+  pub whole_verdict : {E : Type 0} (r : Result Verdict E) (s : Option Stop) (limits : Limits) → IfSome s (StopsFor p v a limits) →
       (s ≡ None → IfOk r (λ d. (d.finding ≡ finding.Nothing) × (d.is_whole ≡ true) × (d.why ≡ None))) →
-      IfOk r (λ d. (l : ℕ) → HasStopped p v a l s → SaysWhy p v a l d.is_whole d.finding d.why) → IfOk r (λ d. SaysWhy p v a limit d.is_whole d.finding d.why)
-  whole_verdict (Ok d) s limit is done why = whole_says limit s d is done (why limit)
-  whole_verdict (Err e) s limit is done why = tt
+      IfOk r (λ d. (l : Limits) → HasStopped p v a l s → SaysWhy p v a l d.is_whole d.finding d.why) → IfOk r (λ d. SaysWhy p v a limits d.is_whole d.finding d.why)
+  whole_verdict (Ok d) s limits is done why = whole_says limits s d is done (why limits)
+  whole_verdict (Err e) s limits is done why = tt

@@ -9,6 +9,7 @@ pub mod Numbering
 pub mod Tuples
 pub mod Steps
 pub mod Views
+pub mod Memory
 pub mod Stored
 pub mod Stops
 pub mod Verdicts

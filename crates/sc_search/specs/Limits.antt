@@ -1,11 +1,12 @@
 -- When a search gives up.
-use Rattle.std.specs.Prelude.{◌≡◌, ◌⊎◌, ◌≤◌, ◌*◌, ℕ, Bool, true, false, List, Option, Some, None, if◌then◌else◌, length, slice_get, sum_by}
+use Rattle.std.specs.Prelude.{◌≡◌, ◌⊎◌, ◌≤◌, ◌<◌, ◌*◌, ℕ, Bool, true, false, List, Option, Some, None, if◌then◌else◌, length, slice_get, sum_by}
 use Rattle.sc_lockpass.specs.declared.version.Version.{Version}
 use Rattle.sc_code.specs.declared.program.Image.{Image}
 use Rattle.sc_world.specs.Kept.{PlainKept}
 use Rattle.sc_world.specs.Turning.{Runs}
 use Rattle.sc_world.specs.Worlds.{PlainWorld, opened}
 use Rattle.sc_search.specs.declared.aims.Aim.{Aim}
+use Rattle.sc_search.specs.declared.limits.Limits.{Limits}
 use Rattle.sc_search.specs.declared.replay.Subject.{Subject}
 use Rattle.sc_search.specs.declared.verdict.Finding.{Finding}
 use Rattle.sc_search.specs.declared.verdict.Finding.TheVariants as finding
@@ -13,6 +14,7 @@ use Rattle.sc_search.specs.declared.verdict.GivenUp.{GivenUp}
 use Rattle.sc_search.specs.declared.verdict.Pass.TheVariants as pass
 use Rattle.sc_search.specs.declared.verdict.Reason.{Reason}
 use Rattle.sc_search.specs.declared.verdict.Reason.TheVariants as reason
+use Rattle.sc_search.specs.declared.verdict.Verdict.{Verdict}
 use Rattle.sc_search.specs.Closed.{IsUnmet}
 
 -- At least this number of states were met. Turns lead to each of them, and none of them shows what is looked for.
@@ -45,18 +47,19 @@ pub record AreTwo (p : Image) (v : Version) : Type 0 where
 abbrev pub turns_a_state : ℕ
 turns_a_state = 2000
 
--- What the limit on states allows is used up after so many states and turns, for this reason: as many states as may be
--- kept were met, or as many turns as that allows were played. Or an order led to two worlds, which those of accepted
--- texts don't.
-abbrev pub IsUsedUp : Image → Version → Aim → ℕ → Reason → ℕ → ℕ → Type 0
-IsUsedUp p v a limit reason.States states turns = (limit ≤ states) × AreMet p v a states
-IsUsedUp p v a limit reason.Turns states turns = (turns_a_state * limit ≤ turns) × ArePlayed p v turns
-IsUsedUp p v a limit reason.Memory states turns = ⊥
-IsUsedUp p v a limit reason.Worlds states turns = AreTwo p v
+-- What the limits allow is used up after so many states and turns, with so many bytes, for this reason: as many states
+-- as may be kept were met, or as many turns as that allows were played, or what is kept of states takes more bytes than
+-- it may. Or an order led to two worlds, which those of accepted texts don't.
+abbrev pub IsUsedUp : Image → Version → Aim → Limits → Reason → ℕ → ℕ → ℕ → Type 0
+IsUsedUp p v a l reason.States states turns bytes = (l.states ≤ states) × AreMet p v a states
+IsUsedUp p v a l reason.Turns states turns bytes = (turns_a_state * l.states ≤ turns) × ArePlayed p v turns
+IsUsedUp p v a l reason.Bytes states turns bytes = (l.bytes < bytes) × AreMet p v a states
+IsUsedUp p v a l reason.Memory states turns bytes = ⊥
+IsUsedUp p v a l reason.Worlds states turns bytes = AreTwo p v
 
--- A pass gives up so with this limit on states.
-abbrev pub PassGivesUp : Image → Version → Aim → ℕ → GivenUp → Type 0
-PassGivesUp p v a limit g = IsUsedUp p v a limit g.reason g.states g.turns
+-- A pass gives up so with these limits.
+abbrev pub PassGivesUp : Image → Version → Aim → Limits → GivenUp → Type 0
+PassGivesUp p v a limits g = IsUsedUp p v a limits g.reason g.states g.turns g.bytes
 
 -- Memory ran out in the second pass. No more is said of that.
 pub record LacksMemory (g : GivenUp) : Type 0 where
@@ -64,8 +67,8 @@ pub record LacksMemory (g : GivenUp) : Type 0 where
   pub late : g.pass ≡ pass.AllTurns
 
 -- A search gives up if a pass does, or if memory ran out.
-abbrev pub GivesUp : Image → Version → Aim → ℕ → GivenUp → Type 0
-GivesUp p v a limit g = PassGivesUp p v a limit g ⊎ LacksMemory g
+abbrev pub GivesUp : Image → Version → Aim → Limits → GivenUp → Type 0
+GivesUp p v a limits g = PassGivesUp p v a limits g ⊎ LacksMemory g
 
 -- A search has given up if it is undecided, or has found nothing and isn't whole.
 abbrev pub has_given_up : Bool → Finding → Bool
@@ -76,19 +79,34 @@ has_given_up is_whole (finding.Refused order) = false
 has_given_up is_whole finding.Undecided = true
 
 -- There is a reason for giving up, and it is true.
-abbrev pub HasReason : Image → Version → Aim → ℕ → Option GivenUp → Type 0
-HasReason p v a limit None = ⊥
-HasReason p v a limit (Some g) = GivesUp p v a limit g
+abbrev pub HasReason : Image → Version → Aim → Limits → Option GivenUp → Type 0
+HasReason p v a limits None = ⊥
+HasReason p v a limits (Some g) = GivesUp p v a limits g
 
 -- That is so if the search has given up, and there is none else.
-abbrev pub IsWhy : Image → Version → Aim → ℕ → Bool → Option GivenUp → Type 0
-IsWhy p v a limit true why = HasReason p v a limit why
-IsWhy p v a limit false why = why ≡ None
+abbrev pub IsWhy : Image → Version → Aim → Limits → Bool → Option GivenUp → Type 0
+IsWhy p v a limits true why = HasReason p v a limits why
+IsWhy p v a limits false why = why ≡ None
 
 -- A verdict says why the search gave up, if it has this finding and is whole or isn't.
-abbrev pub SaysWhy : Image → Version → Aim → ℕ → Bool → Finding → Option GivenUp → Type 0
-SaysWhy p v a limit is_whole found why = IsWhy p v a limit (has_given_up is_whole found) why
+abbrev pub SaysWhy : Image → Version → Aim → Limits → Bool → Finding → Option GivenUp → Type 0
+SaysWhy p v a limits is_whole found why = IsWhy p v a limits (has_given_up is_whole found) why
 
 -- the reason, for what is searched
-abbrev pub SaysWhyFor : Subject → ℕ → Bool → Finding → Option GivenUp → Type 0
-SaysWhyFor s limit is_whole found why = SaysWhy s.program.now.image s.version s.aim limit is_whole found why
+abbrev pub SaysWhyFor : Subject → Limits → Bool → Finding → Option GivenUp → Type 0
+SaysWhyFor s limits is_whole found why = SaysWhy s.program.now.image s.version s.aim limits is_whole found why
+
+-- ---- the memory that is taken
+
+-- how many bytes are counted for each state at least
+abbrev pub bytes_a_state : ℕ
+bytes_a_state = 64
+
+-- What was kept takes no more bytes than it may, and each state is counted.
+pub record IsWithin (l : Limits) (d : Verdict) : Type 0 where
+  pub few : d.bytes ≤ l.bytes
+  pub counted : bytes_a_state * d.states ≤ d.bytes
+
+-- That is so if every order was played.
+abbrev pub StaysWithin : Limits → Verdict → Type 0
+StaysWithin l d = d.is_whole ≡ true → IsWithin l d

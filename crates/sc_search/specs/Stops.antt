@@ -10,6 +10,7 @@ use Rattle.sc_world.specs.Reports.{statuses}
 use Rattle.sc_world.specs.Turning.{Runs}
 use Rattle.sc_world.specs.Worlds.{PlainWorld, opened}
 use Rattle.sc_search.specs.declared.aims.Aim.{Aim}
+use Rattle.sc_search.specs.declared.limits.Limits.{Limits}
 use Rattle.sc_search.specs.declared.movers.Rest.{Rest}
 use Rattle.sc_search.specs.declared.movers.Rest.TheVariants as rest
 use Rattle.sc_search.specs.declared.progress.Progress.{Progress}
@@ -65,27 +66,27 @@ pub record MissesAfter (p : Image) (v : Version) (a : Aim) (turns : List ℕ) : 
   pub unmet : IsMet a world → ⊥
 
 -- a search over all turns
-abbrev pub StopsFor : Image → Version → Aim → ℕ → Stop → Type 0
-StopsFor p v a limit (stop.Met turns) = MeetsAfter p v a turns.items
-StopsFor p v a limit (stop.Cut why) = PassGivesUp p v a limit why
-StopsFor p v a limit stop.Endless = ⊥
+abbrev pub StopsFor : Image → Version → Aim → Limits → Stop → Type 0
+StopsFor p v a limits (stop.Met turns) = MeetsAfter p v a turns.items
+StopsFor p v a limits (stop.Cut why) = PassGivesUp p v a limits why
+StopsFor p v a limits stop.Endless = ⊥
 
 -- a search over choices
-abbrev pub ChoiceStopsFor : Image → Version → Aim → ℕ → Stop → Type 0
-ChoiceStopsFor p v a limit (stop.Met turns) = MeetsAfter p v a turns.items
-ChoiceStopsFor p v a limit (stop.Cut why) = PassGivesUp p v a limit why
-ChoiceStopsFor p v a limit stop.Endless = Unit {0}
+abbrev pub ChoiceStopsFor : Image → Version → Aim → Limits → Stop → Type 0
+ChoiceStopsFor p v a limits (stop.Met turns) = MeetsAfter p v a turns.items
+ChoiceStopsFor p v a limits (stop.Cut why) = PassGivesUp p v a limits why
+ChoiceStopsFor p v a limits stop.Endless = Unit {0}
 
 -- It has stopped, for such a reason.
-abbrev pub HasStopped : Image → Version → Aim → ℕ → Option Stop → Type 0
-HasStopped p v a limit None = ⊥
-HasStopped p v a limit (Some s) = StopsFor p v a limit s
+abbrev pub HasStopped : Image → Version → Aim → Limits → Option Stop → Type 0
+HasStopped p v a limits None = ⊥
+HasStopped p v a limits (Some s) = StopsFor p v a limits s
 
--- If it has stopped so at a limit, what is found says why.
+-- If it has stopped so at limits, what is found says why.
 abbrev pub SaysWhyAt : Subject → Option Stop → Bool → Finding → Option GivenUp → Type 0
 SaysWhyAt s stopped is_whole found why =
-    (limit : ℕ) → HasStopped s.program.now.image s.version s.aim limit stopped →
-    SaysWhyFor s limit is_whole found why
+    (limits : Limits) → HasStopped s.program.now.image s.version s.aim limits stopped →
+    SaysWhyFor s limits is_whole found why
 
 -- A search over all turns follows one over choices that has played all, or in which movers went on and on.
 abbrev pub goes_on : Option Stop → Bool

@@ -5,6 +5,7 @@ ghost use Rattle.sc_search.specs.Stored.{IsFrom};
 ghost use Rattle.sc_search.specs.Views.{states_of};
 
 use crate::judging::{Kind, is_at};
+use crate::limits::Limits;
 use crate::movers::{Rest, play_movers};
 use crate::progress::{Progress, Stop, Way};
 use crate::replay::Subject;
@@ -12,30 +13,33 @@ use crate::watch::Watch;
 use sc_lockpass::HandlerNumber;
 use std::alloc::AllocError;
 
-/// Plays choices in every order, and movers after each, as long as at most this number of states are kept. Returns
-/// why it stopped before all was played.
+/// Plays choices in every order, and movers after each, as long as what is kept is within the limits. Returns why it
+/// stopped before all was played.
 ///
 /// # Errors
 /// Memory ran out.
 pub(crate) fn play_choices<'p, W: Watch>(
     subject: Subject<'p>,
     progress: &mut Progress<'p>,
-    limit: u32,
+    limits: Limits,
     watch: &mut W,
 ) -> Result<Option<Stop>, AllocError>
     requires none { states_of progress.old ≡ [] }
     requires reached { HasReached subject.program.now.image subject.version subject.aim progress.old }
     ensures reached { IfOk result (λ stop. IfNone stop (HasReached subject.entry.program.now.image subject.entry.version subject.entry.aim progress.new)) }
-    ensures stops { IfOk result (λ stop. IfSome stop (ChoiceStopsFor subject.entry.program.now.image subject.entry.version subject.entry.aim limit)) }
+    ensures stops { IfOk result (λ stop. IfSome stop (ChoiceStopsFor subject.entry.program.now.image subject.entry.version subject.entry.aim limits)) }
 {
-    if let Some(stop) = follow(subject, progress, None, Vec::new(subject.alloc), limit)? {
+    if let Some(stop) = follow(subject, progress, None, Vec::new(subject.alloc), limits)? {
         return Ok(Some(stop));
     }
-    for number in 0..limit {
+    for number in 0..limits.states {
         if number >= progress.store.len() {
             break;
         }
-        if let Some(stop) = choose(subject, progress, number, limit)? {
+        if let Some(stop) = choose(subject, progress, number, limits)? {
+            return Ok(Some(stop));
+        }
+        if let Some(stop) = progress.stop_past(subject, limits) {
             return Ok(Some(stop));
         }
         progress.show(number, watch);
@@ -48,12 +52,12 @@ fn choose<'p>(
     subject: Subject<'p>,
     progress: &mut Progress<'p>,
     number: u32,
-    limit: u32,
+    limits: Limits,
 ) -> Result<Option<Stop>, AllocError>
     requires there { number < length (states_of progress.old) }
     requires reached { HasReached subject.program.now.image subject.version subject.aim progress.old }
     ensures reached { IfOk result (λ stop. IfNone stop (HasReached subject.entry.program.now.image subject.entry.version subject.entry.aim progress.new)) }
-    ensures stops { IfOk result (λ stop. IfSome stop (ChoiceStopsFor subject.entry.program.now.image subject.entry.version subject.entry.aim limit)) }
+    ensures stops { IfOk result (λ stop. IfSome stop (ChoiceStopsFor subject.entry.program.now.image subject.entry.version subject.entry.aim limits)) }
     ensures more { IfOk result (λ stop. IfNone stop (length (states_of progress.old) ≤ length (states_of progress.new))) }
 {
     for handler in 0..progress.store.statuses(number).len() {
@@ -62,7 +66,7 @@ fn choose<'p>(
         }
         let mut turns = Vec::new(subject.alloc);
         turns.push(handler as HandlerNumber)?;
-        if let Some(stop) = follow(subject, progress, Some(number), turns, limit)? {
+        if let Some(stop) = follow(subject, progress, Some(number), turns, limits)? {
             return Ok(Some(stop));
         }
     }
@@ -75,12 +79,12 @@ fn follow<'p>(
     progress: &mut Progress<'p>,
     parent: Option<u32>,
     mut turns: Vec<HandlerNumber>,
-    limit: u32,
+    limits: Limits,
 ) -> Result<Option<Stop>, AllocError>
     requires from { IsFrom (states_of progress.old) parent }
     requires reached { HasReached subject.program.now.image subject.version subject.aim progress.old }
     ensures reached { IfOk result (λ stop. IfNone stop (HasReached subject.entry.program.now.image subject.entry.version subject.entry.aim progress.new)) }
-    ensures stops { IfOk result (λ stop. IfSome stop (ChoiceStopsFor subject.entry.program.now.image subject.entry.version subject.entry.aim limit)) }
+    ensures stops { IfOk result (λ stop. IfSome stop (ChoiceStopsFor subject.entry.program.now.image subject.entry.version subject.entry.aim limits)) }
     ensures more { IfOk result (λ stop. IfNone stop (length (states_of progress.old) ≤ length (states_of progress.new))) }
 {
     let rest = play_movers(subject, progress, parent, &mut turns)?;
@@ -91,6 +95,6 @@ fn follow<'p>(
     match rest {
         Rest::Met => Ok(Some(Stop::Met(progress.order_of(way)?))),
         Rest::Endless => Ok(Some(Stop::Endless)),
-        Rest::Reached => progress.keep(subject, way, limit),
+        Rest::Reached => progress.keep(subject, way, limits),
     }
 }

@@ -11,7 +11,9 @@ mod ends;
 mod joining;
 mod judging;
 mod length;
+mod limits;
 mod lines;
+mod memory;
 mod movers;
 mod progress;
 mod replay;
@@ -22,6 +24,7 @@ mod waiting;
 mod watch;
 
 pub use aims::Aim;
+pub use limits::Limits;
 pub use searching::search;
 pub use verdict::{End, Finding, GivenUp, Length, Order, Pass, Reason, Verdict};
 pub use watch::{Stage, Watch};

@@ -1,5 +1,5 @@
 //! How far a search has come.
-ghost use Rattle.std.specs.Prelude.{◌≡◌, ◌<◌, [], ℕ, Some, IfNone, IfOk, IfSome, OnOk, get_or, length, slice_get};
+ghost use Rattle.std.specs.Prelude.{◌≡◌, ◌≤◌, ◌<◌, [], ℕ, Some, IfNone, IfOk, IfSome, OnOk, get_or, length, slice_get};
 ghost use Rattle.sc_world.specs.Views.{world_in};
 ghost use Rattle.sc_world.specs.Kept.{kept};
 ghost use Rattle.sc_world.specs.Turning.{IsTurn};
@@ -11,6 +11,8 @@ ghost use Rattle.sc_search.specs.Steps.{AddsEdge, Keeps};
 use crate::ends::{FoundEnd, push_outcome};
 use crate::joining::go_on;
 use crate::judging::{Kind, is_met, some_is};
+use crate::limits::Limits;
+use crate::memory::bytes_since;
 use crate::replay::Subject;
 use crate::store::Store;
 use crate::verdict::{GivenUp, Pass, Reason};
@@ -27,6 +29,16 @@ use std::alloc::AllocError;
 
 /// How many turns may be played for each state that may be kept.
 const TURNS_A_STATE: u64 = 2_000;
+
+/// How many bytes are counted for each state, each edge between two, each number of a tuple, and each turn to a state from the one
+/// before it.
+const BYTES_A_STATE: u64 = 64;
+
+const BYTES_AN_EDGE: u64 = 24;
+
+const BYTES_A_NUMBER: u64 = 10;
+
+const BYTES_A_TURN: u64 = 4;
 
 /// Why a search stops before all is played.
 #[derive(Drop)]
@@ -51,6 +63,8 @@ pub(crate) struct Progress<'p> {
     pub(crate) outcomes: Vec<FoundEnd>,
     /// How many turns were played.
     turns: u64,
+    /// How many bytes the regions and parts take that are kept.
+    held: u64,
 }
 
 /// Turns on the way from a state.
@@ -64,6 +78,7 @@ pub(crate) struct Way<'w> {
 impl<'p> Progress<'p> {
     ghost use Rattle.sc_search.specs.Stored.{IsAlikeAfter, IsFrom, IsTupleOf, order_after};
     ghost use Rattle.sc_search.specs.Joined.{GoesOnUpTo};
+    ghost use Rattle.sc_search.specs.Memory.{bytes_of};
     ghost use Rattle.sc_search.specs.Stops.{HasReached, Moves, StopsFor};
     ghost use Rattle.sc_search.specs.Views.{met_of, nothing_met, orders_of, states_of, tuples_in};
 
@@ -85,6 +100,7 @@ impl<'p> Progress<'p> {
             edges: Vec::new(subject.alloc),
             outcomes: Vec::new(subject.alloc),
             turns: 0,
+            held: 0,
         })
     }
 
@@ -104,6 +120,7 @@ impl<'p> Progress<'p> {
         watch.sees(Stage {
             pass: self.pass,
             states,
+            bytes: self.bytes(),
             depth: self.depth(number),
         })
     }
@@ -124,13 +141,40 @@ impl<'p> Progress<'p> {
         ensures reason { result.reason ≡ reason }
         ensures states { result.states ≡ length (states_of self.now) }
         ensures turns { result.turns ≡ self.now.turns }
+        ensures bytes { result.bytes ≡ bytes_of self.now }
     {
         GivenUp {
             pass: self.pass,
             reason,
             states: self.store.len(),
             turns: self.turns,
+            bytes: self.bytes(),
         }
+    }
+
+    /// How many bytes what is kept takes.
+    pub(crate) fn bytes(&self) -> u64
+        ensures { result ≡ bytes_of self.now }
+    {
+        let states = BYTES_A_STATE * self.store.len() as u64;
+        let numbers = BYTES_A_NUMBER * self.store.number_count() as u64;
+        let steps = BYTES_A_TURN * self.store.step_count() as u64;
+        let edges = BYTES_AN_EDGE.saturating_mul(self.edges.len() as u64);
+        (states + numbers + steps)
+            .saturating_add(edges)
+            .saturating_add(self.held)
+    }
+
+    /// That the search gives up, if what is kept takes more bytes than it may.
+    pub(crate) fn stop_past(&self, subject: Subject<'p>, limits: Limits) -> Option<Stop>
+        requires { HasReached subject.program.now.image subject.version subject.aim self.now }
+        ensures within { IfNone result (bytes_of self.now ≤ limits.bytes) }
+        ensures stops { IfSome result (StopsFor subject.entry.program.now.image subject.entry.version subject.entry.aim limits) }
+    {
+        if self.bytes() <= limits.bytes {
+            return None;
+        }
+        Some(Stop::Cut(self.give_up(Reason::Bytes)))
     }
 
     /// Brings the world into the state with the number.
@@ -265,7 +309,7 @@ impl<'p> Progress<'p> {
         &mut self,
         subject: Subject<'p>,
         way: Way<'_>,
-        limit: u32,
+        limits: Limits,
     ) -> Result<Option<Stop>, AllocError>
         requires from { IsFrom (states_of self.old) way.parent }
         requires leads { IsAlikeAfter subject.program.now.image subject.version
@@ -274,7 +318,7 @@ impl<'p> Progress<'p> {
         ensures keeps { IfOk result (λ stop. IfNone stop
             (Keeps subject.entry.aim (world_in self.old.world) way.entry.parent (met_of self.old) (met_of self.new))) }
         ensures reached { IfOk result (λ stop. IfNone stop (HasReached subject.entry.program.now.image subject.entry.version subject.entry.aim self.new)) }
-        ensures stops { IfOk result (λ stop. IfSome stop (StopsFor subject.entry.program.now.image subject.entry.version subject.entry.aim limit)) }
+        ensures stops { IfOk result (λ stop. IfSome stop (StopsFor subject.entry.program.now.image subject.entry.version subject.entry.aim limits)) }
     {
         kept_alike_read_alike();
         openings_are_of_their_program();
@@ -290,7 +334,7 @@ impl<'p> Progress<'p> {
                 self.push_edge(way, number)?;
                 Ok(None)
             }
-            None => self.keep_new(subject, way, &statuses, limit),
+            None => self.keep_new(subject, way, &statuses, limits),
         }
     }
 
@@ -320,7 +364,10 @@ impl<'p> Progress<'p> {
         ensures reached { OnOk result (HasReached subject.entry.program.now.image subject.entry.version subject.entry.aim self.new) }
         ensures kept { OnOk result (IsTupleOf self.new.store self.new.tuple.items (world_in self.new.world)) }
     {
+        let before = self.store.sizes();
         self.store.number(subject, &self.world, &mut self.tuple)?;
+        let more = bytes_since(before, &self.store, &self.tuple, self.world.core());
+        self.held = self.held.saturating_add(more);
         Ok(())
     }
 
@@ -333,7 +380,7 @@ impl<'p> Progress<'p> {
         subject: Subject<'p>,
         way: Way<'_>,
         statuses: &[Status],
-        limit: u32,
+        limits: Limits,
     ) -> Result<Option<Stop>, AllocError>
         requires from { IsFrom (states_of self.old) way.parent }
         requires leads { IsAlikeAfter subject.program.now.image subject.version
@@ -346,16 +393,16 @@ impl<'p> Progress<'p> {
         ensures keeps { IfOk result (λ stop. IfNone stop
             (Keeps subject.entry.aim (world_in self.old.world) way.entry.parent (met_of self.old) (met_of self.new))) }
         ensures reached { IfOk result (λ stop. IfNone stop (HasReached subject.entry.program.now.image subject.entry.version subject.entry.aim self.new)) }
-        ensures stops { IfOk result (λ stop. IfSome stop (StopsFor subject.entry.program.now.image subject.entry.version subject.entry.aim limit)) }
+        ensures stops { IfOk result (λ stop. IfSome stop (StopsFor subject.entry.program.now.image subject.entry.version subject.entry.aim limits)) }
     {
         kept_alike_read_alike();
         openings_are_of_their_program();
         runs_stay_of_their_program();
         let number = self.store.len();
-        if number >= limit {
+        if number >= limits.states {
             return Ok(Some(Stop::Cut(self.give_up(Reason::States))));
         }
-        if self.turns >= TURNS_A_STATE * limit as u64 {
+        if self.turns >= TURNS_A_STATE * limits.states as u64 {
             return Ok(Some(Stop::Cut(self.give_up(Reason::Turns))));
         }
         self.push_end(subject, way, statuses)?;

@@ -4,6 +4,7 @@ ghost use Rattle.sc_world.specs.Kept.{kept_of};
 ghost use Rattle.sc_world.specs.Turning.{Runs};
 ghost use Rattle.sc_world.specs.Views.{world_of};
 ghost use Rattle.sc_world.specs.Worlds.{opened};
+ghost use Rattle.sc_search.specs.declared.limits.Limits.{Limits};
 ghost use Rattle.sc_search.specs.Aims.{IsMet};
 ghost use Rattle.sc_search.specs.Found.{IsFirst, IsFound, RunsUnmet, turns_of};
 ghost use Rattle.sc_search.specs.Limits.{SaysWhyFor};
@@ -80,7 +81,7 @@ pub(crate) fn stuck_after<'p>(
     requires seeks { seeks_stuck subject.aim ≡ true }
     ensures found { IfOk result (λ shown. IsFound subject.entry.program.now.image subject.entry.version shown.finding) }
     ensures first { IfOk result (λ shown. IsFirst subject.entry.program.now.image subject.entry.version subject.entry.aim shown.finding) }
-    ensures why { IfOk result (λ shown. (limit : ℕ) → SaysWhyFor subject.entry limit false shown.finding shown.why) }
+    ensures why { IfOk result (λ shown. (limits : Limits) → SaysWhyFor subject.entry limits false shown.finding shown.why) }
 {
     let worlds = progress.give_up(Reason::Worlds);
     let turns = progress.store.order(number)?;

@@ -1,9 +1,10 @@
 //! The search.
-ghost use Rattle.std.specs.Prelude.{◌≡◌, ℕ, IfOk, None, false, length, min, true};
+ghost use Rattle.std.specs.Prelude.{◌≡◌, ◌≤◌, IfOk, None, false, length, min, true};
 ghost use Rattle.sc_search.specs.Closed.{IsClosedFor};
 ghost use Rattle.sc_search.specs.Ends.{AreEnds};
 ghost use Rattle.sc_search.specs.Found.{IsFirst, IsFound};
-ghost use Rattle.sc_search.specs.Limits.{LacksMemory, SaysWhy, SaysWhyFor, has_given_up};
+ghost use Rattle.sc_search.specs.Limits.{LacksMemory, SaysWhy, SaysWhyFor, StaysWithin, has_given_up};
+ghost use Rattle.sc_search.specs.Memory.{bytes_of};
 ghost use Rattle.sc_search.specs.Steps.{IsExplored};
 ghost use Rattle.sc_search.specs.Stops.{HasReached, MeetsAfter, SaysWhyAt, goes_on, is_undecided};
 ghost use Rattle.sc_search.specs.Verdicts.{IsShown};
@@ -16,6 +17,7 @@ use crate::closing::play_all;
 use crate::ends::ends_after;
 use crate::judging::seeks_stuck;
 use crate::length::length_of;
+use crate::limits::Limits;
 use crate::progress::{Progress, Stop};
 use crate::replay::{Shown, Subject, finding_after, stuck_after};
 use crate::verdict::{Finding, GivenUp, Length, Pass, Reason, Verdict};
@@ -29,7 +31,8 @@ use std::alloc::{AllocError, Global};
 const MOST_JOINED: u32 = 1_000;
 
 /// Looks for an order of turns of a program, with the version's limit on handlers, that meets the aim. It gives up if
-/// it would have to keep more than this number of states, or has played 2,000 turns for each of them.
+/// it would have to keep more states than the limits allow, or has played 2,000 turns for each of them, or if what it
+/// keeps of them takes more bytes.
 ///
 /// First, orders that differ only in turns that touch nothing of others are played once. If nothing is found so, all
 /// are played. A turn that asks nothing of others, or releases what is its handler's own, then follows the one before it at once.
@@ -42,14 +45,15 @@ pub fn search<W: Watch>(
     program: &Program,
     version: Version,
     aim: Aim,
-    states: u32,
+    limits: Limits,
     watch: &mut W,
 ) -> Result<Verdict, AllocError>
     ensures found { IfOk result (λ verdict. IsFound program.now.image version verdict.finding) }
     ensures first { IfOk result (λ verdict. IsFirst program.now.image version aim verdict.finding) }
     ensures ends { IfOk result (λ verdict. AreEnds program.now.image version verdict.ends.items) }
     ensures whole { IfOk result (IsShown program.now.image version aim) }
-    ensures why { IfOk result (λ verdict. SaysWhy program.now.image version aim states verdict.is_whole verdict.finding verdict.why) }
+    ensures why { IfOk result (λ verdict. SaysWhy program.now.image version aim limits verdict.is_whole verdict.finding verdict.why) }
+    ensures memory { IfOk result (StaysWithin limits) }
 {
     let subject = Subject {
         alloc,
@@ -58,7 +62,7 @@ pub fn search<W: Watch>(
         aim,
     };
     let mut progress = Progress::new(subject, Pass::Choices)?;
-    let stop = play_choices(subject, &mut progress, states, watch)?;
+    let stop = play_choices(subject, &mut progress, limits, watch)?;
     let may_go_on = goes_on(&stop);
     let mut found = verdict_of(subject, progress, stop, false)?;
     if !may_go_on {
@@ -67,8 +71,9 @@ pub fn search<W: Watch>(
     let mut far = Far {
         states: 0,
         turns: 0,
+        bytes: 0,
     };
-    let whole = match search_all(subject, states, watch, &mut far) {
+    let whole = match search_all(subject, limits, watch, &mut far) {
         Ok(whole) => whole,
         Err(_) => {
             found.why = why_of(&found, Some(want_of_memory(far)));
@@ -87,6 +92,7 @@ pub fn search<W: Watch>(
 struct Far {
     states: u32,
     turns: u64,
+    bytes: u64,
 }
 
 /// That the search gives up since memory ran out, when it had come so far.
@@ -98,6 +104,7 @@ fn want_of_memory(far: Far) -> GivenUp
         reason: Reason::Memory,
         states: far.states,
         turns: far.turns,
+        bytes: far.bytes,
     }
 }
 
@@ -130,7 +137,7 @@ fn is_undecided(finding: &Finding) -> bool
 /// turn is tried by itself. It says how far it came, also if memory runs out.
 fn search_all<W: Watch>(
     subject: Subject<'_>,
-    limit: u32,
+    limits: Limits,
     watch: &mut W,
     far: &mut Far,
 ) -> Result<Verdict, AllocError>
@@ -138,13 +145,15 @@ fn search_all<W: Watch>(
     ensures first { IfOk result (λ verdict. IsFirst subject.entry.program.now.image subject.entry.version subject.entry.aim verdict.finding) }
     ensures ends { IfOk result (λ verdict. AreEnds subject.entry.program.now.image subject.entry.version verdict.ends.items) }
     ensures whole { IfOk result (IsShown subject.entry.program.now.image subject.entry.version subject.entry.aim) }
-    ensures why { IfOk result (λ verdict. SaysWhyFor subject.entry limit verdict.is_whole verdict.finding verdict.why) }
+    ensures why { IfOk result (λ verdict. SaysWhyFor subject.entry limits verdict.is_whole verdict.finding verdict.why) }
+    ensures memory { IfOk result (StaysWithin limits) }
 {
     let mut progress = Progress::new(subject, Pass::AllTurns)?;
-    let played = play_all(subject, &mut progress, MOST_JOINED, limit, watch);
+    let played = play_all(subject, &mut progress, MOST_JOINED, limits, watch);
     *far = Far {
         states: progress.store.len(),
         turns: progress.turns(),
+        bytes: progress.bytes(),
     };
     if let Some(stop) = played? {
         return verdict_of(subject, progress, Some(stop), true);
@@ -152,13 +161,13 @@ fn search_all<W: Watch>(
     if all_may_move(subject, &progress)? {
         return verdict_of(subject, progress, None, true);
     }
-    search_singly(subject, limit, watch, far)
+    search_singly(subject, limits, watch, far)
 }
 
 /// The search over all turns, each by itself. It says how far it came, also if memory runs out.
 fn search_singly<W: Watch>(
     subject: Subject<'_>,
-    limit: u32,
+    limits: Limits,
     watch: &mut W,
     far: &mut Far,
 ) -> Result<Verdict, AllocError>
@@ -166,13 +175,15 @@ fn search_singly<W: Watch>(
     ensures first { IfOk result (λ verdict. IsFirst subject.entry.program.now.image subject.entry.version subject.entry.aim verdict.finding) }
     ensures ends { IfOk result (λ verdict. AreEnds subject.entry.program.now.image subject.entry.version verdict.ends.items) }
     ensures whole { IfOk result (IsShown subject.entry.program.now.image subject.entry.version subject.entry.aim) }
-    ensures why { IfOk result (λ verdict. SaysWhyFor subject.entry limit verdict.is_whole verdict.finding verdict.why) }
+    ensures why { IfOk result (λ verdict. SaysWhyFor subject.entry limits verdict.is_whole verdict.finding verdict.why) }
+    ensures memory { IfOk result (StaysWithin limits) }
 {
     let mut progress = Progress::new(subject, Pass::AllTurns)?;
-    let played = play_all(subject, &mut progress, 0, limit, watch);
+    let played = play_all(subject, &mut progress, 0, limits, watch);
     *far = Far {
         states: progress.store.len(),
         turns: progress.turns(),
+        bytes: progress.bytes(),
     };
     if let Some(stop) = played? {
         return verdict_of(subject, progress, Some(stop), true);
@@ -193,7 +204,8 @@ fn closed_verdict<'p>(subject: Subject<'p>, progress: Progress<'p>) -> Result<Ve
     ensures first { IfOk result (λ verdict. IsFirst subject.entry.program.now.image subject.entry.version subject.entry.aim verdict.finding) }
     ensures ends { IfOk result (λ verdict. AreEnds subject.entry.program.now.image subject.entry.version verdict.ends.items) }
     ensures whole { IfOk result (IsShown subject.entry.program.now.image subject.entry.version subject.entry.aim) }
-    ensures why { IfOk result (λ verdict. (limit : ℕ) → SaysWhyFor subject.entry limit verdict.is_whole verdict.finding verdict.why) }
+    ensures why { IfOk result (λ verdict. (limits : Limits) → SaysWhyFor subject.entry limits verdict.is_whole verdict.finding verdict.why) }
+    ensures memory { (limits : Limits) → bytes_of progress.entry ≤ limits.bytes → IfOk result (StaysWithin limits) }
 {
     match first_stuck(subject, &progress)? {
         Some(number) => stuck_verdict(subject, progress, number),
@@ -214,15 +226,17 @@ fn stuck_verdict<'p>(
     ensures first { IfOk result (λ verdict. IsFirst subject.entry.program.now.image subject.entry.version subject.entry.aim verdict.finding) }
     ensures ends { IfOk result (λ verdict. AreEnds subject.entry.program.now.image subject.entry.version verdict.ends.items) }
     ensures whole { IfOk result (λ verdict. verdict.is_whole ≡ false) }
-    ensures why { IfOk result (λ verdict. (limit : ℕ) → SaysWhyFor subject.entry limit verdict.is_whole verdict.finding verdict.why) }
+    ensures why { IfOk result (λ verdict. (limits : Limits) → SaysWhyFor subject.entry limits verdict.is_whole verdict.finding verdict.why) }
 {
     let met = progress.store.len();
+    let bytes = progress.bytes();
     let length = orders_length(subject.alloc, &progress)?;
     let ends = ends_after(subject, &progress.outcomes)?;
     let Shown { finding, why } = stuck_after(subject, progress, number)?;
     Ok(Verdict {
         finding,
         states: met,
+        bytes,
         is_whole: false,
         ends,
         length,
@@ -250,11 +264,13 @@ fn verdict_of(
     ensures first { IfOk result (λ verdict. IsFirst subject.entry.program.now.image subject.entry.version subject.entry.aim verdict.finding) }
     ensures ends { IfOk result (λ verdict. AreEnds subject.entry.program.now.image subject.entry.version verdict.ends.items) }
     ensures states { IfOk result (λ verdict. verdict.states ≡ min (length (states_of progress.entry)) 4294967295) }
+    ensures bytes { IfOk result (λ verdict. verdict.bytes ≡ bytes_of progress.entry) }
     ensures whole { IfOk result (λ verdict. verdict.is_whole ≡ true → (is_all ≡ true) × (stop ≡ None) × (verdict.finding ≡ Finding.Nothing)) }
     ensures done { stop ≡ None → IfOk result (λ verdict. (verdict.finding ≡ Finding.Nothing) × (verdict.is_whole ≡ is_all) × (verdict.why ≡ None)) }
     ensures why { IfOk result (λ verdict. SaysWhyAt subject.entry stop verdict.is_whole verdict.finding verdict.why) }
 {
     let states = progress.store.len();
+    let bytes = progress.bytes();
     let worlds = progress.give_up(Reason::Worlds);
     let is_whole = is_all && stop.is_none();
     let length = match stop {
@@ -266,6 +282,7 @@ fn verdict_of(
     Ok(Verdict {
         finding,
         states,
+        bytes,
         is_whole,
         ends,
         length,
@@ -309,9 +326,9 @@ fn shown_after(
     requires worlds { worlds.reason ≡ Reason.Worlds }
     ensures found { IfOk result (λ shown. IsFound subject.entry.program.now.image subject.entry.version shown.finding) }
     ensures first { IfOk result (λ shown. IsFirst subject.entry.program.now.image subject.entry.version subject.entry.aim shown.finding) }
-    ensures why { IfOk result (λ shown. (limit : ℕ) →
+    ensures why { IfOk result (λ shown. (limits : Limits) →
         MeetsAfter subject.entry.program.now.image subject.entry.version subject.entry.aim turns.now →
-        SaysWhyFor subject.entry limit false shown.finding shown.why) }
+        SaysWhyFor subject.entry limits false shown.finding shown.why) }
 {
     match finding_after(subject, turns)? {
         Some(finding) => Ok(Shown { finding, why: None }),

@@ -5,6 +5,7 @@ ghost use Rattle.sc_lockpass.specs.Versions.{most_handlers};
 ghost use Rattle.sc_world.specs.Views.{world_in};
 ghost use Rattle.sc_request.specs.Parts.{part_at, part_of};
 ghost use Rattle.sc_play.specs.Contents.{contents_at, contents_of};
+ghost use Rattle.sc_states.specs.Views.{numbers_of, steps_of};
 ghost use Rattle.sc_request.specs.Cores.{state_of};
 ghost use Rattle.sc_world.specs.Kept.{IsOf, kept};
 ghost use Rattle.sc_search.specs.Numbering.{AddsNumbers, part_numbers, region_numbers};
@@ -22,6 +23,13 @@ use sc_states::{Rows, States};
 use sc_world::laws::worlds_are_kept_by_numbers;
 use sc_world::{Configuration, Numbers, Tables};
 use std::alloc::{AllocError, Global};
+
+/// How many regions and parts are kept.
+#[derive(Clone, Copy)]
+pub(crate) struct Sizes {
+    pub(crate) regions: u32,
+    pub(crate) parts: u32,
+}
 
 /// What handlers held in the states that a search has met, each once, and the states as numbers of it.
 ///
@@ -61,6 +69,33 @@ impl<'p> Store<'p> {
         ensures { result ≡ length (states_in self.now) }
     {
         self.states.len()
+    }
+
+    /// The regions that are kept.
+    pub(crate) fn regions(&self) -> &[Region<'p>] {
+        self.regions.values()
+    }
+
+    /// How many regions and parts are kept.
+    pub(crate) fn sizes(&self) -> Sizes {
+        Sizes {
+            regions: self.regions.len(),
+            parts: self.parts.len(),
+        }
+    }
+
+    /// How many numbers the tuples of states have.
+    pub(crate) fn number_count(&self) -> u32
+        ensures { result ≡ numbers_of self.now.states }
+    {
+        self.states.number_count()
+    }
+
+    /// How many turns lead to states from those before them.
+    pub(crate) fn step_count(&self) -> u32
+        ensures { result ≡ steps_of self.now.states }
+    {
+        self.states.step_count()
     }
 
     /// The statuses of the handlers in the state with the number.

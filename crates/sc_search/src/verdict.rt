@@ -40,6 +40,8 @@ pub enum Reason {
     States,
     /// As many turns were played as go with the states that may be kept.
     Turns,
+    /// What is kept takes more bytes than it may.
+    Bytes,
     /// Memory ran out in the second pass.
     Memory,
     /// An order led to two worlds, which those of accepted texts don't.
@@ -55,6 +57,8 @@ pub struct GivenUp {
     pub states: u32,
     /// How many turns it had played.
     pub turns: u64,
+    /// How many bytes what it had kept took, as counted last.
+    pub bytes: u64,
 }
 
 /// How orders end: in a state in which no handler has anything to do.
@@ -83,6 +87,8 @@ pub struct Verdict {
     pub finding: Finding,
     /// How many states were kept by the pass that the finding is of.
     pub states: u32,
+    /// How many bytes what that pass kept takes.
+    pub bytes: u64,
     /// Whether every order was played, and none left out.
     pub is_whole: bool,
     /// The ends that were met, each with another report.

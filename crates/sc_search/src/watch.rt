@@ -8,6 +8,8 @@ pub struct Stage {
     pub pass: Pass,
     /// How many states the pass has kept.
     pub states: u32,
+    /// How many bytes what it keeps takes.
+    pub bytes: u64,
     /// How many turns lead to the state whose turns were tried last.
     pub depth: u32,
 }

@@ -1,5 +1,5 @@
 -- What the program answers to a search.
-use Rattle.std.specs.Prelude.{ℕ, ◌≡◌, ◌-◌, ◌^◌, ◌⊎◌, Bool, true, false, List, [], ◌++◌, Option, Some, None, codes, decimal, if◌then◌else◌, length, min}
+use Rattle.std.specs.Prelude.{ℕ, ◌≡◌, ◌-◌, ◌*◌, ◌^◌, ◌⊎◌, Bool, true, false, List, [], ◌++◌, Option, Some, None, codes, decimal, if◌then◌else◌, length, min}
 use Rattle.std.specs.Option.{option_map}
 use Rattle.sc_lockpass.specs.declared.version.Version.TheVariants.{Two}
 use Rattle.sc_audit.specs.declared.line.RecordLine.{RecordLine}
@@ -11,6 +11,7 @@ use Rattle.sc_frontend.specs.Texts.{IsLoaded, IsNotRunFor}
 use Rattle.sc_frontend.specs.declared.rejection.Rejection.{Rejection}
 use Rattle.sc_search.specs.declared.aims.Aim.{Aim}
 use Rattle.sc_search.specs.declared.aims.Aim.TheVariants as aim
+use Rattle.sc_search.specs.declared.limits.Limits.{Limits}
 use Rattle.sc_search.specs.declared.verdict.Finding.{Finding}
 use Rattle.sc_search.specs.declared.verdict.Finding.TheVariants as finding
 use Rattle.sc_search.specs.declared.verdict.GivenUp.{GivenUp}
@@ -22,7 +23,7 @@ use Rattle.sc_search.specs.declared.verdict.Reason.TheVariants as reason
 use Rattle.sc_search.specs.declared.verdict.Verdict.{Verdict}
 use Rattle.sc_search.specs.Ends.{AreEnds}
 use Rattle.sc_search.specs.Found.{IsFirst, IsFound}
-use Rattle.sc_search.specs.Limits.{SaysWhy}
+use Rattle.sc_search.specs.Limits.{SaysWhy, StaysWithin}
 use Rattle.sc_search.specs.Verdicts.{IsShown}
 use Rattle.sc_arguments.specs.declared.arguments.searching.SearchOptions.{SearchOptions}
 use Rattle.sc_arguments.specs.declared.arguments.searching.Sought.{Sought}
@@ -51,6 +52,10 @@ exit_for is_whole (finding.Stuck order) = Unfinished
 exit_for is_whole (finding.Fails order) = Failed
 exit_for is_whole (finding.Refused order) = Failed
 exit_for is_whole finding.Undecided = Undecided
+
+-- the limits of a search that may keep so many states, which may take so many MB
+abbrev pub limits_by : ℕ → ℕ → Limits
+limits_by states megabytes = record { states = states; bytes = 1000000 * megabytes }
 
 -- ---- the lines of a verdict
 
@@ -102,6 +107,7 @@ states_line count = codes "states " ++ (decimal count ++ codes "\n")
 abbrev pub is_memory : Reason → Bool
 is_memory reason.States = false
 is_memory reason.Turns = false
+is_memory reason.Bytes = false
 is_memory reason.Memory = true
 is_memory reason.Worlds = false
 
@@ -138,10 +144,10 @@ found_for name finding.Undecided = None
 
 -- The answer to a search of the program: a verdict on its orders of turns, and the exit for it. An order that was
 -- found leads to what the verdict says, and no beginning of it does. If every order was played, nothing was found and
--- there is nothing to find. If nothing was found and some orders weren't played, or if the search is undecided, one of
--- four things is true. There is a list of as many states as may be kept: turns lead to each, and none of them is what
+-- there is nothing to find, and what was kept took no more memory than it may. If nothing was found and some orders
+-- weren't played, or if the search is undecided, one of five things is true. There is a list of as many states as may be kept: turns lead to each, and none of them is what
 -- was looked for. Or there is a list of orders, each of which can be played from the opening on, with 2,000 turns
--- together for each state that may be kept. Or an order leads to two worlds. Or the answer says that memory ran out. The
+-- together for each state that may be kept. Or what was kept took more memory than it may. Or an order leads to two worlds. Or the answer says that memory ran out. The
 -- states of the list need not differ, and the orders need not either. Each outcome is that of an order that ends. The
 -- order that was found is to be written as a record if a file is named for it.
 pub record IsSearchOf (program : Image) (options : SearchOptions) (output : List ℕ) (exit : Exit)
@@ -151,7 +157,10 @@ pub record IsSearchOf (program : Image) (options : SearchOptions) (output : List
   pub first : IsFirst program Two (aim_of options.sought) verdict.finding
   pub ends : AreEnds program Two verdict.ends.items
   pub whole : IsShown program Two (aim_of options.sought) verdict
-  pub why : SaysWhy program Two (aim_of options.sought) options.states verdict.is_whole verdict.finding verdict.why
+  pub why :
+      let limits = limits_by options.states options.memory in
+      SaysWhy program Two (aim_of options.sought) limits verdict.is_whole verdict.finding verdict.why
+  pub memory : StaysWithin (limits_by options.states options.memory) verdict
   pub told : IsTold options.sought options.lists_outcomes verdict output
   pub status : exit ≡ exit_for verdict.is_whole verdict.finding
   pub kept : kept_of recording ≡ found_for (option_map (λ n. n.now) options.record) verdict.finding

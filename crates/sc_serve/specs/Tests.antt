@@ -20,6 +20,7 @@ use Rattle.sc_plant.specs.Bounded.{IsBoundedRun}
 use Rattle.sc_plant.specs.Left.{world_of}
 use Rattle.sc_driver.specs.Execution.{IsThreadRun}
 use Rattle.sc_search.specs.declared.aims.Aim.TheVariants.{Any}
+use Rattle.sc_search.specs.declared.limits.Limits.{Limits}
 use Rattle.sc_search.specs.declared.verdict.Finding.{Finding}
 use Rattle.sc_search.specs.declared.verdict.Finding.TheVariants as finding
 use Rattle.sc_search.specs.declared.verdict.Length.{Length}
@@ -41,7 +42,7 @@ use Rattle.sc_arguments.specs.declared.arguments.testing.TestFormat.{TestFormat}
 use Rattle.sc_arguments.specs.declared.arguments.testing.TestFormat.TheVariants as tests
 use Rattle.sc_arguments.specs.declared.arguments.testing.TestOptions.{TestOptions}
 use Rattle.sc_serve.specs.Answer.{IsRefusalOf, IsSourceOf, TellsTooLong}
-use Rattle.sc_serve.specs.Search.{lacks_memory, told_turns}
+use Rattle.sc_serve.specs.Search.{lacks_memory, limits_by, told_turns}
 use Rattle.sc_serve.specs.declared.serve.Answer.{Answer}
 use Rattle.sc_serve.specs.declared.serve.Exit.{Exit}
 use Rattle.sc_serve.specs.declared.serve.Exit.TheVariants.{Done, Failed, Undecided}
@@ -111,14 +112,14 @@ pub record IsOutcomeOfRun (program : Image) (turns : ℕ) (how : Outcome) (order
   pub judged : how ≡ outcome_of_run (center_of left.core) left.lines.items
   pub kept : order ≡ order_of_run (center_of left.core) left.lines.items
 
--- The outcome is that of the verdict on all orders of the program's turns, with as many states as may be kept. The search
+-- The outcome is that of the verdict on all orders of the program's turns, within these limits. The search
 -- had memory enough. The order is the one that was found.
-pub record IsOutcomeOfSearch (program : Image) (states : ℕ) (how : Outcome) (order : Option (List RecordLine)) : Type 0 where
+pub record IsOutcomeOfSearch (program : Image) (limits : Limits) (how : Outcome) (order : Option (List RecordLine)) : Type 0 where
   pub verdict : Verdict
   pub found : IsFound program Two verdict.finding
   pub first : IsFirst program Two Any verdict.finding
   pub whole : IsShown program Two Any verdict
-  pub why : SaysWhy program Two Any states verdict.is_whole verdict.finding verdict.why
+  pub why : SaysWhy program Two Any limits verdict.is_whole verdict.finding verdict.why
   pub had_memory : lacks_memory verdict.why ≡ false
   pub judged : how ≡ outcome_of_search verdict.is_whole verdict.length verdict.finding
   pub kept : order ≡ order_of_search verdict.finding
@@ -126,7 +127,8 @@ pub record IsOutcomeOfSearch (program : Image) (states : ℕ) (how : Outcome) (o
 -- The outcome is that of a run, or if every order is to be played that of a search.
 abbrev pub IsOutcomeOf : Bool → Image → TestOptions → Outcome → Option (List RecordLine) → Type 0
 IsOutcomeOf false program options how order = IsOutcomeOfRun program options.turns how order
-IsOutcomeOf true program options how order = IsOutcomeOfSearch program options.states how order
+IsOutcomeOf true program options how order =
+    IsOutcomeOfSearch program (limits_by options.states options.memory) how order
 
 abbrev pub HasOutcome : Image → TestOptions → Outcome → Type 0
 HasOutcome program options how =

@@ -131,6 +131,7 @@ impl<'e, C: Clock, E: Write> Watch for Progress<'e, C, E> {
         let Stage {
             pass,
             states,
+            bytes,
             depth,
         } = stage;
         self.said = Some(states);
@@ -142,6 +143,8 @@ impl<'e, C: Clock, E: Write> Watch for Progress<'e, C, E> {
         if let Some(rate) = self.rate(number, states) {
             let _ = write!(self.err, ", {rate} a second");
         }
+        let megabytes = bytes / 1_000_000;
+        let _ = write!(self.err, ", {megabytes} MB");
         self.show("\x1b[K");
     }
 }

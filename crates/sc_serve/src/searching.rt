@@ -18,7 +18,7 @@ use sc_code::Program;
 use sc_explain_run::{Limit, Played, order_note};
 use sc_frontend::load_text;
 use sc_lockpass::Version;
-use sc_search::{Aim, Finding, Verdict, Watch, search};
+use sc_search::{Aim, Finding, Limits, Verdict, Watch, search};
 use sc_source::files::{Files, read_source};
 use sc_source::source::Source;
 use std::alloc::{AllocError, Global};
@@ -84,7 +84,8 @@ fn search_loaded<'a, W: Watch + Tell>(
     ensures unanswered { IfErr result (λ fault. fault ≡ out_of_memory) }
 {
     let aim = aim_of(options.sought);
-    let verdict = search(alloc, program, Version::Two, aim, options.states, watch)?;
+    let limits = limits_by(options.states, options.memory);
+    let verdict = search(alloc, program, Version::Two, aim, limits, watch)?;
     let millis = watch.millis();
     let VerdictText { text, object, note } = write_verdict(
         alloc, program, options, source, &verdict, millis,
@@ -134,6 +135,16 @@ fn aim_of(sought: Sought) -> Aim
         Sought::Fails => Aim::Fails,
         Sought::Refused => Aim::Refused,
         Sought::Any => Aim::Any,
+    }
+}
+
+/// The limits of a search that may keep so many states, which may take so many MB.
+pub fn limits_by(states: u32, megabytes: u32) -> Limits
+    ensures { result ≡ spec.limits_by states megabytes }
+{
+    Limits {
+        states,
+        bytes: 1_000_000 * megabytes as u64,
     }
 }
 

@@ -6,13 +6,14 @@ ghost use Rattle.sc_lower.specs.Lowerings.{image_of};
 ghost use Rattle.sc_request.specs.Cores.{center_of};
 ghost use Rattle.sc_test_cases.specs.Lines as lines;
 ghost use Rattle.sc_serve.specs.Replaced.{MayBeWritten};
+ghost use Rattle.sc_serve.specs.Search.{limits_by};
 ghost use Rattle.sc_serve.specs.Tests as spec;
 ghost use Rattle.sc_serve.specs.Tests.{HasOutcome, IsOutcomeOf, IsOutcomeOfRun, IsOutcomeOfSearch, lines_in};
 
 use crate::folder::Folder;
 use crate::progress::Tell;
 use crate::running::fault_of;
-use crate::searching::{limit_of, lines_of};
+use crate::searching::{limit_of, limits_by, lines_of};
 use crate::serve::Fault;
 use crate::tracing::Tracing;
 use crate::verdict::{lacks_memory, turns_of};
@@ -179,14 +180,14 @@ fn search_test<W: Watch>(
     watch: &mut W,
 ) -> Result<Trial, AllocError>
     ensures { IfOk result (λ trial.
-        IsOutcomeOfSearch (image_of program.now) options.now.states trial.outcome (lines_in trial.order)) }
+        IsOutcomeOfSearch (image_of program.now) (limits_by options.now.states options.now.memory) trial.outcome (lines_in trial.order)) }
 {
     let verdict = search(
         alloc,
         program,
         Version::Two,
         Aim::Any,
-        options.states,
+        limits_by(options.states, options.memory),
         watch,
     )?;
     if lacks_memory(verdict.why) {

@@ -138,7 +138,7 @@ pub fn lacks_memory(why: Option<GivenUp>) -> bool
     };
     match why.reason {
         Reason::Memory => true,
-        Reason::States | Reason::Turns | Reason::Worlds => false,
+        Reason::States | Reason::Turns | Reason::Bytes | Reason::Worlds => false,
     }
 }
 

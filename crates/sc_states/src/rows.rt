@@ -15,7 +15,7 @@ pub struct Rows<T: Copy> {
 }
 
 impl<T: Copy> Rows<T> {
-    ghost use Rattle.sc_states.specs.RowViews.{HasRoom, rows_of};
+    ghost use Rattle.sc_states.specs.RowViews.{HasRoom, rows_of, total_of};
 
     /// No lists.
     pub fn new(alloc: Global) -> Rows<T>
@@ -32,6 +32,13 @@ impl<T: Copy> Rows<T> {
         ensures { result ≡ length (rows_of self.now) }
     {
         self.ends.len()
+    }
+
+    /// How many values all lists have, at most 4,294,967,295.
+    pub fn total(&self) -> u32
+        ensures { result ≡ total_of self.now }
+    {
+        self.flat.len().min(u32::MAX as usize) as u32
     }
 
     /// The list of the number.

@@ -29,7 +29,7 @@ pub struct States {
 }
 
 impl States {
-    ghost use Rattle.sc_states.specs.Views.{orders_of, tuples_of};
+    ghost use Rattle.sc_states.specs.Views.{numbers_of, orders_of, steps_of, tuples_of};
 
     /// No states.
     ///
@@ -55,6 +55,20 @@ impl States {
         ensures distinct { AreDistinct (tuples_of self.now) }
     {
         self.index.len()
+    }
+
+    /// How many numbers all tuples have.
+    pub fn number_count(&self) -> u32
+        ensures { result ≡ numbers_of self.now }
+    {
+        self.tuples.total()
+    }
+
+    /// How many turns lead to states from those before them.
+    pub fn step_count(&self) -> u32
+        ensures { result ≡ steps_of self.now }
+    {
+        self.steps.total()
     }
 
     /// The tuple of the state with the number.

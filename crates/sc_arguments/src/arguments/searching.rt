@@ -25,6 +25,8 @@ pub struct SearchOptions<'a> {
     pub sought: Sought,
     /// The most states that are kept, from 1 to 10,000,000.
     pub states: u32,
+    /// How much memory states may take, in MB, from 1 to 1,000,000.
+    pub memory: u32,
     /// The name of the file that the record of a found order is written to.
     pub record: Option<&'a str>,
     /// Whether each outcome is to be listed.
@@ -54,6 +56,12 @@ pub const DEFAULT_STATES: &str = "100000";
 /// The most states that a search may keep.
 pub const MOST_STATES: u32 = 10_000_000;
 
+/// In MB.
+pub const DEFAULT_MEMORY: &str = "1000";
+
+/// How much memory the states of a search may take, in MB.
+pub const MOST_MEMORY: u32 = 1_000_000;
+
 const SOUGHT: [&str; 4] = ["stuck", "fails", "refused", "any"];
 
 const SEARCH_ABOUT: &str =
@@ -75,7 +83,7 @@ one of the lines
   stuck after N turns    an order leaves handlers waiting for good
   fails after N turns    a handler fails in an order
   refused after N turns  a handler refuses a request in an order
-  undecided              the states or turns were used up before all was played
+  undecided              the states, turns or memory were used up before all was played
 
 and below it how many outcomes and states there are. A handler is stuck, and waits
 for good, if no order gives it a turn any more, whatever others do. Beside others that
@@ -100,6 +108,8 @@ Exit status:
 
 pub const STATES_HELP: &str = "The most states that are kept, 1 to 10000000";
 
+pub const MEMORY_HELP: &str = "The most memory that states take, in MB, 1 to 1000000";
+
 const FOUND_HELP: &str = "Writes the record of the order that is found to this file";
 
 const OUTCOMES_HELP: &str = "Lists each outcome: the report of an order that ends so";
@@ -108,7 +118,7 @@ const SEARCH_EXPLAIN_HELP: &str =
     "Shows where a refusal stands, or says who waits for whom, why one fails or why the search gave up, on standard error; the default where that is a terminal";
 
 /// What `search` takes.
-const SEARCH_TAKES: [Taken; 9] = [
+const SEARCH_TAKES: [Taken; 10] = [
     Taken {
         name: "--for",
         help: "What ends the search",
@@ -123,6 +133,14 @@ const SEARCH_TAKES: [Taken; 9] = [
         value_names: &["N"],
         parser: ValueParser::Signed(1, 10_000_000),
         default: &[DEFAULT_STATES],
+        ..OPTION
+    },
+    Taken {
+        name: "--memory",
+        help: MEMORY_HELP,
+        value_names: &["MB"],
+        parser: ValueParser::Signed(1, 1_000_000),
+        default: &[DEFAULT_MEMORY],
         ..OPTION
     },
     Taken {
@@ -165,6 +183,7 @@ pub fn read_search<'a, S: AsStr>(
         root: read_root(alloc, words)?,
         sought: read_sought(words),
         states: number_up_to(MOST_STATES, value_or(words, "--states", DEFAULT_STATES))?,
+        memory: number_up_to(MOST_MEMORY, value_or(words, "--memory", DEFAULT_MEMORY))?,
         record: value_of(words, "--record"),
         lists_outcomes: has_option(words, "--outcomes"),
         is_explained,

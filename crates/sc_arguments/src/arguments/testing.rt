@@ -8,7 +8,9 @@ ghost use Rattle.sc_arguments.specs.Words.{value_or};
 use crate::arguments::format::DEFAULT_FORMAT;
 use crate::arguments::numbers::{number_up_to, small_number_up_to};
 use crate::arguments::options::{EXPLAIN, FILES, FLAG, FORMAT, KEPT, NO_EXPLAIN, OPTION, Taken};
-use crate::arguments::searching::{DEFAULT_STATES, MOST_STATES, STATES_HELP};
+use crate::arguments::searching::{
+    DEFAULT_MEMORY, DEFAULT_STATES, MEMORY_HELP, MOST_MEMORY, MOST_STATES, STATES_HELP,
+};
 use crate::arguments::words::{has_option, value_of, value_or};
 use crate::arguments::{
     DEFAULT_TURNS, DEFAULT_WORKERS, Described, MOST_TURNS, MOST_WORKERS, TURNS_HELP, UsageFault,
@@ -30,6 +32,8 @@ pub struct TestOptions<'a> {
     pub is_searched: bool,
     /// The most states that are kept of a test, from 1 to 10,000,000.
     pub states: u32,
+    /// How much memory the states of a test may take, in MB, from 1 to 1,000,000.
+    pub memory: u32,
     /// The name of the folder that the records of tests that fail are written to.
     pub folder: Option<&'a str>,
     /// Whether a refusal is also shown in its line of the text, and it is said why a test fails.
@@ -99,7 +103,7 @@ const TEST_EXPLAIN_HELP: &str =
     "Shows where a refusal stands, or says why a test fails; the default";
 
 /// What `test` takes.
-const TEST_TAKES: [Taken; 10] = [
+const TEST_TAKES: [Taken; 11] = [
     Taken {
         name: "--root-class",
         help: CLASS_HELP,
@@ -133,6 +137,14 @@ const TEST_TAKES: [Taken; 10] = [
         value_names: &["N"],
         parser: ValueParser::Signed(1, 10_000_000),
         default: &[DEFAULT_STATES],
+        ..OPTION
+    },
+    Taken {
+        name: "--memory",
+        help: MEMORY_HELP,
+        value_names: &["MB"],
+        parser: ValueParser::Signed(1, 1_000_000),
+        default: &[DEFAULT_MEMORY],
         ..OPTION
     },
     Taken {
@@ -175,6 +187,7 @@ pub fn read_tests<'a, S: AsStr>(
         turns: number_up_to(MOST_TURNS, value_or(words, "--turns", DEFAULT_TURNS))?,
         is_searched: has_option(words, "--search"),
         states: number_up_to(MOST_STATES, value_or(words, "--states", DEFAULT_STATES))?,
+        memory: number_up_to(MOST_MEMORY, value_or(words, "--memory", DEFAULT_MEMORY))?,
         folder: value_of(words, "--record"),
         is_explained: read_explained(options, true),
         format: read_test_format(words),

@@ -107,6 +107,7 @@ pub fn has_value(word: &str) -> bool
         || word == "--format"
         || word == "--for"
         || word == "--states"
+        || word == "--memory"
         || word == "--seed"
         || word == "--times"
         || word == "--until"

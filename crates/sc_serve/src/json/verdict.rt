@@ -71,13 +71,15 @@ fn push_why(lines: &mut Lines, why: Option<GivenUp>) {
     let Some(why) = why else {
         return lines.push(r#","gave_up":null"#);
     };
-    lines.push(match why.pass {
-        Pass::Choices => r#","gave_up":{"pass":1,"reason":"#,
-        Pass::AllTurns => r#","gave_up":{"pass":2,"reason":"#,
-    });
+    let template = match why.pass {
+        Pass::Choices => r#","gave_up":{"bytes":~,"pass":1,"reason":"#,
+        Pass::AllTurns => r#","gave_up":{"bytes":~,"pass":2,"reason":"#,
+    };
+    lines.fill_number(template, why.bytes);
     lines.push(match why.reason {
         Reason::States => r#""states""#,
         Reason::Turns => r#""turns""#,
+        Reason::Bytes => r#""memory_limit""#,
         Reason::Memory => r#""memory""#,
         Reason::Worlds => r#""worlds""#,
     });

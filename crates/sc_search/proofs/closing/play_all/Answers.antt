@@ -13,6 +13,7 @@ loop-init g c =
       there = omega arith;
       closes = closes_first c.args.subject.program.now.image c.args.subject.version c.args.subject.aim c.args.joined (met_of c.keep_opening.new.progress) opens;
       reached = at_none c.in_ok-stop.field-0 c.in_default.is c.in_ok-stop.ensures.reached;
+      within = at_none c.stop_past.result c.in_default-stop_past.is c.stop_past.ensures.within;
     }
 
 pub loop-preserved : goal.loop-preserved
@@ -26,6 +27,7 @@ loop-preserved g c =
       closes = closes_next c.args.subject.program.now.image c.args.subject.version c.args.subject.aim c.args.joined (met_of c.loop.progress) (met_of c.try_all.new.progress)
           c.loop.number c.loop.invariant.closes tries there;
       reached = at_none c.in_ok-stop-2.field-0 c.in_default-2.is c.in_ok-stop-2.ensures.reached;
+      within = at_none c.stop_past-in-loop.result c.in_default-stop_past-2.is c.stop_past-in-loop.ensures.within;
     }
 
 pub returns-clause-closed : goal.returns-clause-closed

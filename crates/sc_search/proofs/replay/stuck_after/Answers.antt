@@ -39,7 +39,7 @@ returns-clause-first c =
     (c.requires.stuck.waits w (made, unmet_runs a made (opened p v) w c.in_ok-world.ensures.runs) at))
 
 pub returns-then-not-is_same-clause-why : goal.returns-then-not-is_same-clause-why
-returns-then-not-is_same-clause-why c = λ limit.
+returns-then-not-is_same-clause-why c = λ limits.
     let x = c.args.progress in
     let p = c.args.subject.program.now.image in
     let v = c.args.subject.version in
@@ -47,7 +47,7 @@ returns-then-not-is_same-clause-why c = λ limit.
     let w = world_of c.in_ok-world.world in
     let no : c.is_same.result ≡ false = first_of (search rules, grind (arith, common_steps)) in
     let unmet = at_none c.in_ok-finding.field-0 c.in_default.is c.in_ok-finding.ensures.none in
-    inl (two_worlds p v a limit c.give_up-worlds.result c.give_up-worlds.ensures.reason (lost p v a (states_of x) c.args.number c.deref.result.now w
+    inl (two_worlds p v a limits c.give_up-worlds.result c.give_up-worlds.ensures.reason (lost p v a (states_of x) c.args.number c.deref.result.now w
     (led p v a (states_of x) (orders_of x) (statuses_of x) x.turns c.args.number c.deref.result.now c.requires.reached.reached c.requires.stuck.there
     (λ order at. c.deref.ensures.value ∙ c.in_ok-turns.ensures ∙ get_or_from_slice_get (orders_of x) c.args.number order [] at))
     (c.in_ok-world.ensures.all unmet)

@@ -14,17 +14,17 @@ use Rattle.sc_search.proofs.LoadedStates.{keeps_pushed, reached_kept}
 use Rattle.sc_search.proofs.Reasons.{full, played_out}
 use Rattle.sc_search.proofs.progress.Progress.keep_new.Goals as goal
 
-pub returns-then-number-limit-clause-stops : goal.returns-then-number-limit-clause-stops
-returns-then-number-limit-clause-stops c =
+pub returns-then-number-limits-clause-stops : goal.returns-then-number-limits-clause-stops
+returns-then-number-limits-clause-stops c =
     let x = c.args.self.now in
     full c.args.subject.program.now.image c.args.subject.version c.args.subject.aim (states_of x) (orders_of x) (statuses_of x) x.turns
-    c.args.limit c.give_up.result c.requires.reached.reached (omega (arith, c.if-number-limit.true, c.len-number.ensures))
+    c.args.limits c.give_up.result c.requires.reached.reached (omega (arith, c.if-number-limits.true, c.len-number.ensures))
     c.give_up.ensures.reason c.give_up.ensures.states
 
-pub returns-then-self-limit-clause-stops : goal.returns-then-self-limit-clause-stops
-returns-then-self-limit-clause-stops c =
-    played_out c.args.subject.program.now.image c.args.subject.version c.args.subject.aim c.args.self.now.turns c.args.limit c.give_up-then-self-limit.result
-    c.requires.reached.reached.played (omega (arith, c.if-self-limit.true)) c.give_up-then-self-limit.ensures.reason c.give_up-then-self-limit.ensures.turns
+pub returns-then-self-limits-clause-stops : goal.returns-then-self-limits-clause-stops
+returns-then-self-limits-clause-stops c =
+    played_out c.args.subject.program.now.image c.args.subject.version c.args.subject.aim c.args.self.now.turns c.args.limits c.give_up-then-self-limits.result
+    c.requires.reached.reached.played (omega (arith, c.if-self-limits.true)) c.give_up-then-self-limits.ensures.reason c.give_up-then-self-limits.ensures.turns
 
 pub returns-clause-keeps : goal.returns-clause-keeps
 returns-clause-keeps c =
