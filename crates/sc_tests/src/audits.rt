@@ -34,52 +34,7 @@ enum Says {
     Altered,
 }
 
-// ---- one answer
-
-/// What an audit answers, in words.
-fn told(alloc: Global, answer: Answer) -> Result<String, Fail> {
-    match answer {
-        Ok(()) => Ok(String::from_str(alloc, "yes")?),
-        Err(AuditFault::Differs { handler }) => Ok(format!(in alloc; "differs {handler}")?),
-        Err(AuditFault::BadRecord { line }) => Ok(format!(in alloc; "bad {line}")?),
-        Err(AuditFault::OutOfMemory) => Err(Fail::from(AllocError)),
-    }
-}
-
-/// Adds the lines that these words name.
-fn add_lines(lines: &mut Vec<RecordLine>, words: &str) -> Result<(), Fail> {
-    for line in words.split(", ") {
-        let (handler, turns) = line.split_once(' ').ok_or("a line without turns")?;
-        lines.push(RecordLine {
-            handler: handler.parse()?,
-            turns: turns.parse()?,
-        })?;
-    }
-    Ok(())
-}
-
-/// What the audit of a run answers with the record that a text is, or the line at which it is none.
-fn answer_to(
-    alloc: Global,
-    program: &Program,
-    left: &mut Left<'_>,
-    mut text: &[u8],
-) -> Result<Answer, AllocError> {
-    match read_record(alloc, &mut text) {
-        Ok(Record { version, lines }) => {
-            left.version = version;
-            left.lines = lines;
-            Ok(audit(alloc, program, left))
-        }
-        Err(ReadFault::BadRecord { line }) => {
-            let line = u32::try_from(line).unwrap_or(u32::MAX);
-            Ok(Err(AuditFault::BadRecord { line }))
-        }
-        Err(_) => Err(AllocError),
-    }
-}
-
-// ---- many
+// ---- answers
 
 /// How many handlers, and lines, an answer may name.
 const NAMED: usize = 32;
@@ -95,14 +50,6 @@ struct Counts {
 }
 
 impl Counts {
-    fn new() -> Counts {
-        Counts {
-            yes: 0,
-            differs: [0; NAMED],
-            bad: [0; NAMED],
-        }
-    }
-
     fn add(&mut self, answer: Answer) -> Result<(), Fail> {
         let is_counted = match answer {
             Ok(()) => {
@@ -150,68 +97,84 @@ fn tell_each(told: &mut String, answer: &str, counts: &[u32]) -> Result<(), Allo
     Ok(())
 }
 
-/// Adds the answers to a text in which the byte at a place is each other one.
-fn add_altered(
+/// Adds the lines that these words name.
+fn add_lines(lines: &mut Vec<RecordLine>, words: &str) -> Result<(), Fail> {
+    for line in words.split(", ") {
+        let Some((handler, turns)) = line.split_once(' ') else {
+            return Err(Fail::new("a line without turns"));
+        };
+        lines.push(RecordLine {
+            handler: handler.parse()?,
+            turns: turns.parse()?,
+        })?;
+    }
+    Ok(())
+}
+
+/// What the audit of a run answers with the record that a text is, or the line at which it is none.
+fn answer_to(alloc: Global, program: &Program, left: &mut Left<'_>, mut text: &[u8]) -> Answer {
+    match read_record(alloc, &mut text) {
+        Ok(Record { version, lines }) => {
+            left.version = version;
+            left.lines = lines;
+            audit(alloc, program, left)
+        }
+        Err(ReadFault::BadRecord { line }) => {
+            let line = u32::try_from(line).unwrap_or(u32::MAX);
+            Err(AuditFault::BadRecord { line })
+        }
+        Err(_) => Err(AuditFault::OutOfMemory),
+    }
+}
+
+/// Changes the bits of the byte at a place, if there is one.
+fn flip(text: &mut [u8], place: usize, bits: u8) {
+    if let Some(byte) = text.get_mut(place) {
+        *byte ^= bits;
+    }
+}
+
+/// Counts the answers to the texts that are this one but for a byte.
+fn count_altered(
     alloc: Global,
     program: &Program,
     left: &mut Left<'_>,
     counts: &mut Counts,
     text: &mut [u8],
-    place: usize,
 ) -> Result<(), Fail> {
-    let Some(&byte) = text.get(place) else {
-        return Ok(());
-    };
-    for other in 0..=u8::MAX {
-        if other != byte {
-            replace(text, place, other);
-            counts.add(answer_to(alloc, program, left, &*text)?)?;
+    for place in 0..text.len() {
+        for bits in 1..=u8::MAX {
+            flip(text, place, bits);
+            counts.add(answer_to(alloc, program, left, &*text))?;
+            flip(text, place, bits);
         }
     }
-    replace(text, place, byte);
     Ok(())
-}
-
-fn replace(text: &mut [u8], place: usize, byte: u8) {
-    if let Some(at) = text.get_mut(place) {
-        *at = byte;
-    }
-}
-
-/// How many of the texts that are this one but for a byte have each answer.
-fn told_altered(
-    alloc: Global,
-    program: &Program,
-    left: &mut Left<'_>,
-    text: &[u8],
-) -> Result<String, Fail> {
-    let mut counts = Counts::new();
-    let mut altered = Vec::from_slice(alloc, text)?;
-    for place in 0..text.len() {
-        add_altered(alloc, program, left, &mut counts, &mut altered, place)?;
-    }
-    Ok(counts.told(alloc)?)
 }
 
 // ---- rows
 
-/// What is answered to a row.
-fn answered(
+/// Counts what is answered to a row.
+fn count_row(
     alloc: Global,
     program: &Program,
     left: &mut Left<'_>,
+    counts: &mut Counts,
     says: Says,
     words: &str,
-) -> Result<String, Fail> {
+) -> Result<(), Fail> {
     match says {
         Says::Lines(version) => {
             left.version = version;
             left.lines.clear();
             add_lines(&mut left.lines, words)?;
-            told(alloc, audit(alloc, program, left))
+            counts.add(audit(alloc, program, left))
         }
-        Says::Text => told(alloc, answer_to(alloc, program, left, words.as_bytes())?),
-        Says::Altered => told_altered(alloc, program, left, words.as_bytes()),
+        Says::Text => counts.add(answer_to(alloc, program, left, words.as_bytes())),
+        Says::Altered => {
+            let mut text = Vec::from_slice(alloc, words.as_bytes())?;
+            count_altered(alloc, program, left, counts, &mut text)
+        }
     }
 }
 
@@ -230,35 +193,28 @@ fn expect_rows<R: Abort>(
     };
     for row in rows.split(between) {
         let (words, wanted) = halves_of(row)?;
-        let answer = answered(alloc, program, left, says, words)?;
-        expect_text(rt, &answer, wanted, words);
+        let mut counts = Counts {
+            yes: 0,
+            differs: [0; NAMED],
+            bad: [0; NAMED],
+        };
+        count_row(alloc, program, left, &mut counts, says, words)?;
+        expect_text(rt, &counts.told(alloc)?, wanted, words);
     }
     Ok(())
 }
 
-fn expect_each<R: Abort>(
-    rt: &R,
-    alloc: Global,
-    program: &Program,
-    left: &mut Left<'_>,
-    tables: &[(Says, &'static str)],
-) -> Result<(), Fail> {
-    for (says, rows) in tables {
-        expect_rows(rt, alloc, program, left, *says, rows)?;
-    }
-    Ok(())
-}
-
-/// The audit of what a run of the system left answers so to the rows of these tables.
+/// The audit of what a run of the system left answers so to the rows of a table.
 fn expect<R: Abort + AllocGlobal + Threads + Wait + Clock + Sync>(
     rt: &R,
     source: &str,
-    tables: &[(Says, &'static str)],
+    says: Says,
+    rows: &str,
 ) -> Result<(), Fail> {
     let alloc = rt.alloc();
     let program = program_of(alloc, source, "application", "make")?;
     let mut left = left_by_one(rt, alloc, &program)?;
-    expect_each(rt, alloc, &program, &mut left, tables)
+    expect_rows(rt, alloc, &program, &mut left, says, rows)
 }
 
 /// A system whose run is five turns of handler 0.
@@ -271,42 +227,41 @@ invariant n >= 0
 end";
 
 /// Lines of records, and what the audit of that run answers. Further turns change nothing.
-const ROWS: &str = "0 1|differs 0
-0 2|differs 0
-0 3|differs 0
-0 4|differs 0
-0 5|yes
-0 6|yes
-0 7|yes
-0 8|yes
-0 9|yes
-1 5|differs 0
-2 5|differs 0
-3 5|differs 0
-4 5|differs 0
-5 5|differs 0
-6 5|differs 0
-7 5|differs 0
-8 5|differs 0
-9 5|differs 0
-0 2, 511 1, 0 3|yes
-0 0|bad 2
-0 10000001|bad 2
-0 5, 512 1|bad 3
-0 5, 0 9999996|bad 3";
+const ROWS: &str = "0 1|yes: 0, differs 0: 1
+0 2|yes: 0, differs 0: 1
+0 3|yes: 0, differs 0: 1
+0 4|yes: 0, differs 0: 1
+0 5|yes: 1
+0 6|yes: 1
+0 7|yes: 1
+0 8|yes: 1
+0 9|yes: 1
+1 5|yes: 0, differs 0: 1
+2 5|yes: 0, differs 0: 1
+3 5|yes: 0, differs 0: 1
+4 5|yes: 0, differs 0: 1
+5 5|yes: 0, differs 0: 1
+6 5|yes: 0, differs 0: 1
+7 5|yes: 0, differs 0: 1
+8 5|yes: 0, differs 0: 1
+9 5|yes: 0, differs 0: 1
+0 2, 511 1, 0 3|yes: 1
+0 0|yes: 0, bad 2: 1
+0 10000001|yes: 0, bad 2: 1
+0 5, 512 1|yes: 0, bad 3: 1
+0 5, 0 9999996|yes: 0, bad 3: 1";
 
 /// The first rows in the first version.
-const FIRST_ROWS: &str = "0 4|differs 0
-0 5|yes
-0 6|yes
-0 5, 63 1|yes
-0 5, 64 1|bad 3";
+const FIRST_ROWS: &str = "0 4|yes: 0, differs 0: 1
+0 5|yes: 1
+0 6|yes: 1
+0 5, 63 1|yes: 1
+0 5, 64 1|yes: 0, bad 3: 1";
 
 #[test]
 fn other_records(rt: HostRuntime) -> Result<(), Fail> {
-    let second = (Says::Lines(Version::Two), ROWS);
-    let first = (Says::Lines(Version::One), FIRST_ROWS);
-    expect(&rt, FIVE_TURNS, &[second, first])
+    expect(&rt, FIVE_TURNS, Says::Lines(Version::Two), ROWS)?;
+    expect(&rt, FIVE_TURNS, Says::Lines(Version::One), FIRST_ROWS)
 }
 
 /// 6 to 9 turns are as good as 5: the others change nothing. In both versions the first line has one byte that may be
@@ -323,7 +278,7 @@ end 1
 
 #[test]
 fn altered_records_of_the_smallest_run(rt: HostRuntime) -> Result<(), Fail> {
-    expect(&rt, FIVE_TURNS, &[(Says::Altered, FIVE_TURNS_ANSWERS)])
+    expect(&rt, FIVE_TURNS, Says::Altered, FIVE_TURNS_ANSWERS)
 }
 
 /// The record of the run of RELAY on one worker: handlers take turns in the order of their numbers, and each goes on until it
@@ -351,7 +306,7 @@ const RELAY_RECORD: &str = "scoop record 2
 2 1
 0 1
 end 21
-|yes";
+|yes: 1";
 
 /// A record, and how many of the texts that differ from it in one byte have each answer.
 const RELAY_ALTERED: &str = "scoop record 2
@@ -385,8 +340,8 @@ end 21
 
 #[test]
 fn altered_records_of_a_failure_in_a_chain(rt: HostRuntime) -> Result<(), Fail> {
-    let tables = [(Says::Text, RELAY_RECORD), (Says::Altered, RELAY_ALTERED)];
-    expect(&rt, RELAY, &tables)
+    expect(&rt, RELAY, Says::Text, RELAY_RECORD)?;
+    expect(&rt, RELAY, Says::Altered, RELAY_ALTERED)
 }
 
 // ---- other orders of turns that leave the same report
@@ -409,8 +364,8 @@ feature
 end";
 
 /// The cell, handler 1, holds what was set last: an attribute is another.
-const WRITERS_ROWS: &str = "0 9, 1 9, 2 9, 1 9, 3 9, 1 9|yes
-0 9, 1 9, 3 9, 1 9, 2 9, 1 9|differs 1";
+const WRITERS_ROWS: &str = "0 9, 1 9, 2 9, 1 9, 3 9, 1 9|yes: 1
+0 9, 1 9, 3 9, 1 9, 2 9, 1 9|yes: 0, differs 1: 1";
 
 /// Two that draw a number each and keep it in a local, as they wait for what never comes.
 const DRAWERS: &str = "class APPLICATION create make
@@ -435,8 +390,8 @@ end";
 
 /// One waits, the other draws and waits, and the first tries again: a local in a frame is another, of handler 2 first.
 const DRAWERS_ROWS: &str =
-    "0 9, 1 9, 2 9, 1 9, 2 9, 1 9, 2 9, 3 9, 1 9, 3 9, 1 9, 3 9, 2 9, 1 9, 2 9|yes
-0 9, 1 9, 3 9, 1 9, 3 9, 1 9, 3 9, 2 9, 1 9, 2 9, 1 9, 2 9, 3 9, 1 9, 3 9|differs 2";
+    "0 9, 1 9, 2 9, 1 9, 2 9, 1 9, 2 9, 3 9, 1 9, 3 9, 1 9, 3 9, 2 9, 1 9, 2 9|yes: 1
+0 9, 1 9, 3 9, 1 9, 3 9, 1 9, 3 9, 2 9, 1 9, 2 9, 1 9, 2 9, 3 9, 1 9, 3 9|yes: 0, differs 2: 1";
 
 /// Two that draw a number each. One posts its own to a handler that waits for what never comes.
 const POSTER: &str = "class APPLICATION create make
@@ -473,8 +428,8 @@ end";
 /// The one that posts comes first, and then the other, so that who waits tries again; or the other way round. An actual in the
 /// queue of handler 2 is another.
 const POSTER_ROWS: &str =
-    "0 9, 1 9, 2 9, 3 9, 1 9, 3 9, 2 9, 1 9, 2 9, 4 9, 1 9, 4 9, 2 9, 1 9, 2 9|yes
-0 9, 1 9, 2 9, 4 9, 1 9, 4 9, 3 9, 1 9, 3 9, 2 9, 1 9, 2 9|differs 2";
+    "0 9, 1 9, 2 9, 3 9, 1 9, 3 9, 2 9, 1 9, 2 9, 4 9, 1 9, 4 9, 2 9, 1 9, 2 9|yes: 1
+0 9, 1 9, 2 9, 4 9, 1 9, 4 9, 3 9, 1 9, 3 9, 2 9, 1 9, 2 9|yes: 0, differs 2: 1";
 
 /// Two that reserve one handler, and ask it for what never comes.
 const HOLDERS: &str = "class APPLICATION create make
@@ -498,8 +453,8 @@ feature
 end";
 
 /// One asks and waits for the answer, the other to reserve: handler 2 is another's.
-const HOLDERS_ROWS: &str = "0 9, 1 9, 2 9, 3 9, 2 9, 1 9, 2 9, 4 9|yes
-0 9, 1 9, 2 9, 4 9, 2 9, 1 9, 2 9, 3 9|differs 2";
+const HOLDERS_ROWS: &str = "0 9, 1 9, 2 9, 3 9, 2 9, 1 9, 2 9, 4 9|yes: 1
+0 9, 1 9, 2 9, 4 9, 2 9, 1 9, 2 9, 3 9|yes: 0, differs 2: 1";
 
 /// In the run each of these systems is played in the first order, in which the lower number comes first. In the other order each
 /// handler has as many objects, frames, requests and rights, and has printed and refused the same: an audit says yes to both if it
@@ -514,7 +469,7 @@ const ORDERS: [(&str, &str); 4] = [
 #[test]
 fn other_orders_with_the_same_report(rt: HostRuntime) -> Result<(), Fail> {
     for (source, rows) in &ORDERS {
-        expect(&rt, source, &[(Says::Lines(Version::Two), rows)])?;
+        expect(&rt, source, Says::Lines(Version::Two), rows)?;
     }
     Ok(())
 }

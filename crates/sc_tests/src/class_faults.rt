@@ -1,7 +1,7 @@
 //! Lists of class faults: one more at the end of a text, or of another kind, is listed too.
 
 use crate::programs::root_of;
-use crate::rows::{expect_text, halves_of};
+use crate::rows::{expect_text, expect_that, halves_of};
 use sc_class::{ClassFault, class_faults};
 use sc_parse::{let_go, parse};
 use sc_text::lex;
@@ -79,7 +79,7 @@ fn expect_list<R: Abort>(
         expect_text(rt, code, wanted, row);
         expect_text(rt, words_at(text, start, words).unwrap_or(""), words, row);
     }
-    assert!(rt; listed.next().is_none(), "a fault too many");
+    expect_that(rt, listed.next().is_none(), "the list ends with the rows");
     Ok(())
 }
 

@@ -4,6 +4,7 @@ ghost use Rattle.std.specs.Prelude.{[], IfOk};
 ghost use Rattle.sc_formula.specs.Fit.{IsFit};
 ghost use Rattle.sc_formula.specs.Plain.{plain_formula};
 
+use crate::rows::expect_that;
 use sc_formula::{Formula, eval};
 use std::alloc::{AllocError, Global};
 use std::test::Fail;
@@ -22,9 +23,13 @@ fn nested(alloc: Global, depth: u32) -> Result<Formula, AllocError>
 
 #[test]
 fn deep_formulas(rt: HostRuntime) -> Result<(), Fail> {
-    for &(depth, want) in &[(64, true), (3_000, true), (3_001, false)] {
+    for &(depth, want, of) in &[
+        (64, true, "64 levels"),
+        (3_000, true, "3,000 levels"),
+        (3_001, false, "3,001 levels"),
+    ] {
         let formula = nested(rt.alloc(), depth)?;
-        assert_eq!(rt; eval(&formula, &[]), Some(want), "at depth {depth}");
+        expect_that(&rt, eval(&formula, &[]) == Some(want), of);
     }
     Ok(())
 }

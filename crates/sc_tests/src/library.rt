@@ -1,6 +1,7 @@
 //! The calls of the library that the program itself doesn't make: whoever builds on a crate may.
 
 use crate::programs::{program_of, root_of};
+use crate::rows::{expect_number, expect_text, expect_that};
 use sc_check::check;
 use sc_class::{ClassId, tables};
 use sc_lockpass::Version;
@@ -55,44 +56,54 @@ fn clauses_decide(rt: HostRuntime) {
     let entry = entry();
     let waits = ClauseKind::WaitCondition;
     let refuses = ClauseKind::CorrectnessCondition;
-    assert!(&rt;
-        matches!(
-            entry.clause_kind(&[None, Some(1)]),
-            ClauseKind::WaitCondition
-        )
+    let with_reserved = entry.clause_kind(&[None, Some(1)]);
+    let waited_for = matches!(with_reserved, ClauseKind::WaitCondition);
+    expect_that(
+        &rt,
+        waited_for,
+        "a clause on a reserved handler is waited for",
     );
-    assert!(&rt;
-        matches!(
-            entry.clause_kind(&[Some(0), None, Some(2)]),
-            ClauseKind::CorrectnessCondition
-        )
-    );
+    let with_others = entry.clause_kind(&[Some(0), None, Some(2)]);
+    let tested = matches!(with_others, ClauseKind::CorrectnessCondition);
+    expect_that(&rt, tested, "a clause on others is tested at once");
     let all_hold = [clause(waits, true), clause(refuses, true)];
-    assert!(&rt; matches!(Entry::verdict(&all_hold), EntryVerdict::Start));
+    let starts = matches!(Entry::verdict(&all_hold), EntryVerdict::Start);
+    expect_that(&rt, starts, "it starts if all clauses hold");
     let one_waits = [
         clause(refuses, true),
         clause(waits, false),
         clause(refuses, false),
     ];
-    assert!(&rt; matches!(Entry::verdict(&one_waits), EntryVerdict::Wait));
+    let is_first = matches!(Entry::verdict(&one_waits), EntryVerdict::Wait);
+    expect_that(
+        &rt,
+        is_first,
+        "it waits if the first false clause is waited for",
+    );
     let one_refuses = [clause(refuses, false), clause(waits, false)];
-    assert!(&rt; matches!(Entry::verdict(&one_refuses), EntryVerdict::Refuse));
+    let is_first = matches!(Entry::verdict(&one_refuses), EntryVerdict::Refuse);
+    expect_that(
+        &rt,
+        is_first,
+        "it is refused if the first false clause is tested at once",
+    );
 }
 
 /// A session ends with each release but that of an entry that waits.
 #[test]
 fn sessions_end(rt: HostRuntime) {
-    assert!(&rt; Release::Exit.ends_session());
-    assert!(&rt; !Release::FalseWaitCondition.ends_session());
+    expect_that(&rt, Release::Exit.ends_session(), "an exit ends a session");
+    let waits_on = !Release::FalseWaitCondition.ends_session();
+    expect_that(&rt, waits_on, "an entry that waits ends no session");
 }
 
 /// At the opening the first handler holds itself alone.
 #[test]
 fn handlers_hold_themselves(rt: HostRuntime) -> Result<(), Fail> {
     let core = Core::opening(rt.alloc(), 0, 0, Version::Two)?;
-    assert!(&rt; core.held(0, 0));
-    assert!(&rt; !core.held(0, 1));
-    assert!(&rt; !core.held(1, 0));
+    expect_that(&rt, core.held(0, 0), "handler 0 holds itself");
+    expect_that(&rt, !core.held(0, 1), "it doesn't hold another");
+    expect_that(&rt, !core.held(1, 0), "another doesn't hold it");
     Ok(())
 }
 
@@ -102,14 +113,11 @@ fn handlers_hold_themselves(rt: HostRuntime) -> Result<(), Fail> {
 #[test]
 fn code_is_counted(rt: HostRuntime) -> Result<(), Fail> {
     let program = program_of(rt.alloc(), SMALL, "application", "make")?;
-    assert_eq!(&rt; program.instructions(), 9);
-    let depths = [
-        program.depth(0),
-        program.depth(1),
-        program.depth(2),
-        program.depth(3),
-    ];
-    assert_eq!(&rt; depths, [0, 1, 2, 0]);
+    expect_number(&rt, program.instructions() as u64, 9, "instructions");
+    expect_number(&rt, program.depth(0) as u64, 0, "operands of n");
+    expect_number(&rt, program.depth(1) as u64, 1, "operands of make");
+    expect_number(&rt, program.depth(2) as u64, 2, "operands of raise");
+    expect_number(&rt, program.depth(3) as u64, 0, "operands of no feature");
     Ok(())
 }
 
@@ -123,7 +131,12 @@ fn expect_too_long<R: Abort + AllocGlobal>(rt: &R, system: &System) -> Result<()
             let Ok(program) = lower_within(alloc, checked, 9) else {
                 return Err(Fail::from(AllocError));
             };
-            assert_eq!(rt; program.instructions(), 9);
+            expect_number(
+                rt,
+                program.instructions() as u64,
+                9,
+                "instructions within nine",
+            );
             Ok(())
         }
         Err(Lowering::OutOfMemory(_)) => Err(Fail::from(AllocError)),
@@ -144,9 +157,14 @@ fn expect_joined<R: Abort + AllocGlobal>(rt: &R, system: &System) -> Result<(), 
     let alloc = rt.alloc();
     let root = root_of(alloc, "application", "make")?;
     let tables = tables(alloc, system, &root)?;
-    assert_eq!(rt; tables.invariant_of(alloc, ClassId::Declared(0))?.len(), 1);
-    assert_eq!(rt; tables.invariant_of(alloc, ClassId::Declared(1))?.len(), 2);
-    assert_eq!(rt; tables.invariant_of(alloc, ClassId::Any)?.len(), 0);
+    for &(class, wanted, of) in &[
+        (ClassId::Declared(0), 1, "clauses of the parent"),
+        (ClassId::Declared(1), 2, "clauses of the heir"),
+        (ClassId::Any, 0, "clauses of ANY"),
+    ] {
+        let clauses = tables.invariant_of(alloc, class)?;
+        expect_number(rt, clauses.len() as u64, wanted, of);
+    }
     Ok(())
 }
 
@@ -171,7 +189,7 @@ fn system_of(alloc: Global, text: &str) -> Result<System, Fail> {
 fn sources_are_joined(rt: HostRuntime) -> Result<(), Fail> {
     let mut marked: [&[u8]; 2] = [b"\xef\xbb\xbfa", b"b"];
     let text = join_sources(rt.alloc(), &mut marked)?;
-    assert_eq!(&rt; text.as_str(), "a\nb\n");
+    expect_text(&rt, text.as_str(), "a\nb\n", "two files");
     let mut broken: [&[u8]; 2] = [b"a", b"\xff"];
     match join_sources(rt.alloc(), &mut broken) {
         Err(SourceFault::NotUtf8 { file: 1 }) => Ok(()),

@@ -1,7 +1,7 @@
 //! A run by several workers, beside the replay of its record, and handlers that wait for each other in it.
 
 use crate::programs::program_of;
-use crate::rows::{expect_text, text_of};
+use crate::rows::{expect_number, expect_text, expect_that, text_of};
 use sc_audit::{Record, RecordLine};
 use sc_code::Program;
 use sc_driver::{AuditFault, RunReport, audit, replay};
@@ -113,18 +113,13 @@ impl Seen {
     /// that doesn't call it lets none begin. What began has ended.
     fn expect_waited<R: Abort>(&self, rt: &R) {
         let waiting = self.waiting();
-        assert_eq!(rt; self.late.load(Ordering::SeqCst), 0, "waits that ran out");
-        assert_eq!(rt;
-            self.begun.load(Ordering::SeqCst) & waiting,
-            waiting,
-            "handlers that wait"
-        );
-        assert!(rt; self.may_go_on(), "what they wait for");
-        assert_eq!(rt;
-            self.playing.load(Ordering::SeqCst),
-            0,
-            "handlers that have not ended"
-        );
+        let late = self.late.load(Ordering::SeqCst);
+        expect_number(rt, late, 0, "waits that ran out");
+        let waited = self.begun.load(Ordering::SeqCst) & waiting;
+        expect_number(rt, waited, waiting, "handlers that wait");
+        expect_that(rt, self.may_go_on(), "what they wait for has come");
+        let playing = self.playing.load(Ordering::SeqCst);
+        expect_number(rt, playing, 0, "handlers that have not ended");
     }
 }
 
@@ -168,7 +163,7 @@ pub fn left_by_one<'p, R: Abort + Threads + Wait + Clock + Sync>(
         Ok(left) => {
             gate.seen.expect_waited(rt);
             let tasks = gate.seen.tasks.load(Ordering::SeqCst);
-            assert_eq!(rt; tasks, left.lines.len() as u64, "tasks");
+            expect_number(rt, tasks, left.lines.len() as u64, "tasks");
             Ok(left)
         }
         Err(_) => Err(Fail::from(AllocError)),
@@ -207,40 +202,33 @@ fn reported<R: Abort + Threads + Wait + Clock + Sync>(
     match run(rt, alloc, program, workers, LIMIT, gate) {
         Ok(left) => audited(rt, alloc, program, left),
         Err(RunFault::OutOfMemory(Some(mut left))) => {
-            finish_refused_turn(rt, alloc, program, &mut left)?;
+            finish_refused_turn(alloc, program, &mut left)?;
             audited(rt, alloc, program, left)?;
             Err(Fail::from(AllocError))
         }
         Err(RunFault::OutOfMemory(None)) => {
-            assert_eq!(rt; gate.seen.begun.load(Ordering::SeqCst), 0);
+            let begun = gate.seen.begun.load(Ordering::SeqCst);
+            expect_number(rt, begun, 0, "handlers that have begun");
             Err(Fail::from(AllocError))
         }
-        Err(RunFault::LogsDiffer(handler, _)) => panic!(rt; "the logs of handler {handler} differ"),
+        Err(RunFault::LogsDiffer(handler, _)) => Err(Fail::new(format_args!(
+            "the logs of handler {handler} differ"
+        ))),
         Err(_) => Err(Fail::from(AllocError)),
     }
 }
 
-/// Makes the turn that was refused memory, if its beginning is all that tells what is left from where its record leads: an
-/// audit reports its handler.
-fn finish_refused_turn<R: Abort>(
-    rt: &R,
-    alloc: Global,
-    program: &Program,
-    left: &mut Left<'_>,
-) -> Result<(), Fail> {
-    match audit(alloc, program, left) {
-        Err(AuditFault::Differs { handler }) => play_turn(rt, left, handler),
-        _ => Ok(()),
-    }
-}
-
-/// Plays one more turn of a handler, and writes it into the record.
-fn play_turn<R: Abort>(rt: &R, left: &mut Left<'_>, handler: HandlerNumber) -> Result<(), Fail> {
+/// Makes the turn that was refused memory, and writes it into the record, if its beginning is all that tells what is left
+/// from where its record leads: an audit reports its handler.
+fn finish_refused_turn(alloc: Global, program: &Program, left: &mut Left<'_>) -> Result<(), Fail> {
+    let Err(AuditFault::Differs { handler }) = audit(alloc, program, left) else {
+        return Ok(());
+    };
     let Some(job) = left.core.pick_for(handler) else {
-        panic!(rt; "handler {handler} was refused no turn: it has none");
+        return Err(Fail::new(format_args!("no turn of {handler} was refused")));
     };
     let Some(region) = left.regions.get_mut(handler as usize) else {
-        panic!(rt; "there is no handler {handler}");
+        return Err(Fail::new(format_args!("there is no handler {handler}")));
     };
     left.core.make_room()?;
     left.core.pick_at(handler);
@@ -253,27 +241,14 @@ fn play_turn<R: Abort>(rt: &R, left: &mut Left<'_>, handler: HandlerNumber) -> R
     Ok(())
 }
 
-/// The report of what is left, whose audit says yes.
+/// The report of what is left, whose audit says yes. A replay of its record prints it, too.
 fn audited<R: Abort>(
     rt: &R,
     alloc: Global,
     program: &Program,
     left: Left<'_>,
 ) -> Result<String, Fail> {
-    match audit(alloc, program, &left) {
-        Ok(()) => replayed(rt, alloc, program, left),
-        Err(AuditFault::OutOfMemory) => Err(Fail::from(AllocError)),
-        Err(_) => panic!(rt; "the audit of a run doesn't say yes"),
-    }
-}
-
-/// The report of what is left, which a replay of its record prints, too.
-fn replayed<R: Abort>(
-    rt: &R,
-    alloc: Global,
-    program: &Program,
-    left: Left<'_>,
-) -> Result<String, Fail> {
+    audit(alloc, program, &left)?;
     let version = left.version;
     let (report, lines) = left.into_report(alloc)?;
     let report = text_of(report)?;

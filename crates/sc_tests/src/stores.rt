@@ -1,7 +1,7 @@
 //! Stores of a handler: what calls leave of one, step by step.
 
 use crate::programs::program_of;
-use crate::rows::{expect_text, halves_of};
+use crate::rows::{expect_text, halves_of, object_state};
 use sc_code::{ClassNumber, Program};
 use sc_model::Cause;
 use sc_region::{Activation, ObjectNumber, Origin, Reference, Store, Value};
@@ -21,10 +21,6 @@ class SET feature n: INTEGER invariant n /= 0 end
 
 class FREE feature i: INTEGER b: BOOLEAN a: detachable FREE end";
 
-const LOW: ClassNumber = 0;
-
-const RUN: usize = 1;
-
 /// Calls of a store without objects, and what they leave: the failure that it has ended in, if any, and the number of
 /// Current, if there is a frame; of each object whether it is settled, whether it meets its invariant, and its
 /// attributes; and the output.
@@ -34,7 +30,7 @@ const RUN: usize = 1;
 /// nothing ends. An attribute is no routine, and a function of one formal takes one actual.
 const STORES: &str = "|runs
 born LOW|runs; settled meets 0
-born FREE|runs; settled meets 0 False Void
+born FREE|runs; settled meets 0 Boolean(false) Void
 born SET|Invariant; open breaks 0
 born LOW, born SET|Invariant; open meets 0; open breaks 0
 born LOW run|runs on 1; open meets 0
@@ -77,43 +73,26 @@ born LOW run, push 1 ask 3, pop|1 RequestedCreation Runs at 0 [] None false fals
 #[derive(Clone, Copy)]
 enum Step<'t> {
     /// An object of the class is made by a request, and the routine entered on it, if there is one.
-    Born(ClassNumber, Option<usize>),
+    Born(u8, Option<u8>),
     /// A routine makes an object, by this procedure or without one.
-    Make(ClassNumber, Option<usize>),
+    Make(u8, Option<u8>),
     /// The routine is entered on the object of the number, with this actual, if there is one.
-    Push(ObjectNumber, usize, Option<i64>),
+    Push(u8, u8, Option<u8>),
     Pop,
     /// The first attribute of Current gets the value.
-    Set(i64),
+    Set(u8),
     Print(&'t str),
     Fail,
 }
 
-/// The number of a class.
-fn class_named(name: &str) -> Result<ClassNumber, Fail> {
-    match name {
-        "LOW" => Ok(LOW),
-        "SET" => Ok(1),
-        "FREE" => Ok(2),
-        _ => Err(Fail::new("an unknown class")),
-    }
-}
-
-/// The number of a feature of the first class.
-fn feature_named(name: &str) -> Result<usize, Fail> {
-    match name {
-        "n" => Ok(0),
-        "run" => Ok(RUN),
-        "ask" => Ok(2),
-        _ => Err(Fail::new("an unknown feature")),
-    }
-}
-
-/// The number of the feature, if one is named.
-fn feature_if_any(name: Option<&str>) -> Result<Option<usize>, Fail> {
-    match name {
+/// The number that a word stands for, if there is a word: that of a class, that of a feature of the first class, or its own.
+fn number_if_any(word: Option<&str>) -> Result<Option<u8>, Fail> {
+    match word {
         None => Ok(None),
-        Some(name) => Ok(Some(feature_named(name)?)),
+        Some("LOW" | "n") => Ok(Some(0)),
+        Some("SET" | "run") => Ok(Some(1)),
+        Some("FREE" | "ask") => Ok(Some(2)),
+        Some(word) => Ok(Some(word.parse()?)),
     }
 }
 
@@ -121,23 +100,19 @@ fn feature_if_any(name: Option<&str>) -> Result<Option<usize>, Fail> {
 fn step_of(text: &str) -> Result<Step<'_>, Fail> {
     let mut words = text.split(' ');
     let verb = words.next().unwrap_or("");
-    let noun = words.next().unwrap_or("");
-    let routine = words.next();
-    match verb {
-        "born" => Ok(Step::Born(class_named(noun)?, feature_if_any(routine)?)),
-        "make" => Ok(Step::Make(class_named(noun)?, feature_if_any(routine)?)),
-        "push" => {
-            let routine = feature_named(routine.unwrap_or(""))?;
-            let actual = match words.next() {
-                None => None,
-                Some(word) => Some(word.parse()?),
-            };
-            Ok(Step::Push(noun.parse()?, routine, actual))
-        }
-        "pop" => Ok(Step::Pop),
-        "set" => Ok(Step::Set(noun.parse()?)),
-        "print" => Ok(Step::Print(noun)),
-        "fail" => Ok(Step::Fail),
+    if verb == "print" {
+        return Ok(Step::Print(words.next().unwrap_or("")));
+    }
+    let noun = number_if_any(words.next())?;
+    let routine = number_if_any(words.next())?;
+    let actual = number_if_any(words.next())?;
+    match (verb, noun, routine) {
+        ("born", Some(class), _) => Ok(Step::Born(class, routine)),
+        ("make", Some(class), _) => Ok(Step::Make(class, routine)),
+        ("push", Some(number), Some(routine)) => Ok(Step::Push(number, routine, actual)),
+        ("pop", None, _) => Ok(Step::Pop),
+        ("set", Some(value), None) => Ok(Step::Set(value)),
+        ("fail", None, _) => Ok(Step::Fail),
         _ => Err(Fail::new("an unknown call")),
     }
 }
@@ -162,23 +137,25 @@ fn object(number: ObjectNumber, class: ClassNumber) -> Reference {
 
 fn call(store: &mut Store<'_>, step: Step<'_>) -> Result<(), AllocError> {
     match step {
-        Step::Born(class, None) => store.birth(class),
+        Step::Born(class, None) => store.birth(class as ClassNumber),
         Step::Born(class, Some(routine)) => {
-            let target = object(next_number(store), class);
-            store.birth_with(target, routine, &[])
+            let target = object(next_number(store), class as ClassNumber);
+            store.birth_with(target, routine as usize, &[])
         }
-        Step::Make(class, None) => store.make_object(class),
-        Step::Make(class, Some(routine)) => store.make_object_with(0, class, routine, &[]),
+        Step::Make(class, None) => store.make_object(class as ClassNumber),
+        Step::Make(class, Some(routine)) => {
+            store.make_object_with(0, class as ClassNumber, routine as usize, &[])
+        }
         Step::Push(number, routine, actual) => {
-            let current = object(number, store.class_of(number).unwrap_or(LOW));
+            let number = number as ObjectNumber;
+            let current = object(number, store.class_of(number).unwrap_or(0));
+            let routine = routine as usize;
             match actual {
                 None => store.push(current, routine, Origin::Qualified, &[]),
-                Some(actual) => store.push(
-                    current,
-                    routine,
-                    Origin::Qualified,
-                    &[Value::Integer(actual)],
-                ),
+                Some(actual) => {
+                    let actual = Value::Integer(actual as i64);
+                    store.push(current, routine, Origin::Qualified, &[actual])
+                }
             }
         }
         Step::Pop => {
@@ -186,7 +163,7 @@ fn call(store: &mut Store<'_>, step: Step<'_>) -> Result<(), AllocError> {
             Ok(())
         }
         Step::Set(value) => {
-            store.write_current(0, Value::Integer(value));
+            store.write_current(0, Value::Integer(value as i64));
             Ok(())
         }
         Step::Print(text) => store.print(text.as_bytes()),
@@ -202,10 +179,7 @@ fn call(store: &mut Store<'_>, step: Step<'_>) -> Result<(), AllocError> {
 fn tell_value(text: &mut String, value: Value) -> Result<(), AllocError> {
     match value {
         Value::Integer(number) => write!(text, " {number}"),
-        Value::Boolean(true) => write!(text, " True"),
-        Value::Boolean(false) => write!(text, " False"),
-        Value::Void => write!(text, " Void"),
-        Value::Attached(reference) => write!(text, " {reference:?}"),
+        _ => write!(text, " {value:?}"),
     }
 }
 
@@ -214,17 +188,8 @@ fn tell_object(
     store: &Store<'_>,
     number: ObjectNumber,
 ) -> Result<(), AllocError> {
-    let settled = if store.settled(number) {
-        "settled"
-    } else {
-        "open"
-    };
-    let meets = if store.test_invariant(number) {
-        "meets"
-    } else {
-        "breaks"
-    };
-    write!(text, "; {settled} {meets}")?;
+    let state = object_state(store.settled(number), store.test_invariant(number));
+    write!(text, "; {state}")?;
     for slot in 0..4 {
         if let Some(value) = store.read(number, slot) {
             tell_value(text, value)?;

@@ -1,7 +1,7 @@
 //! A handler with its log: what jobs leave of it, and what is noted of them.
 
 use crate::programs::program_of;
-use crate::rows::{expect_text, halves_of};
+use crate::rows::{expect_number, expect_text, halves_of, object_state};
 use arrayvec::ArrayVec;
 use sc_code::Program;
 use sc_lockpass::HandlerNumber;
@@ -120,7 +120,9 @@ fn told(alloc: Global, region: &LoggedRegion<'_>) -> Result<String, Fail> {
     let mut told = String::new(alloc);
     let log = region.log();
     for place in 0..log.len() {
-        let entry = log.get(place).ok_or("no entry")?;
+        let Some(entry) = log.get(place) else {
+            return Err(Fail::new("no entry"));
+        };
         let (handler, turns) = (entry.handler, entry.turns);
         let (job, want) = (job_name(&entry.job), want_name(&entry.want));
         let comma = if place > 0 { ", " } else { "" };
@@ -136,17 +138,17 @@ fn told_object(region: &LoggedRegion<'_>) -> &'static str {
     if region.object_count() == 0 {
         return "no object";
     }
-    match (region.settled(1), region.test_invariant(1)) {
-        (true, true) => "settled meets",
-        (true, false) => "settled breaks",
-        (false, true) => "open meets",
-        (false, false) => "open breaks",
-    }
+    object_state(region.settled(1), region.test_invariant(1))
 }
 
 /// Plays the job. If memory is refused to its first turn, nothing is noted, and it is played once more. If it is
 /// refused to a later one, the job ends before that, and the row is out of memory.
-fn play(rt: &impl Abort, region: &mut LoggedRegion<'_>, job: &Job, limit: u32) -> Result<(), Fail> {
+fn play<R: Abort>(
+    rt: &R,
+    region: &mut LoggedRegion<'_>,
+    job: &Job,
+    limit: u32,
+) -> Result<(), Fail> {
     if limit == 0 {
         return Err(Fail::new("a job without turns"));
     }
@@ -154,7 +156,8 @@ fn play(rt: &impl Abort, region: &mut LoggedRegion<'_>, job: &Job, limit: u32) -
     let outcome = match region.play(job, limit) {
         Ok(outcome) => outcome,
         Err(_) => {
-            assert_eq!(rt; region.log().len(), before);
+            let noted = region.log().len() as u64;
+            expect_number(rt, noted, before as u64, "jobs that are noted");
             region.play(job, limit)?
         }
     };
@@ -181,20 +184,12 @@ fn play_jobs<R: Abort>(
     Ok(())
 }
 
-/// The text on a handler after these jobs.
-fn told_after<R: Abort + AllocGlobal>(
-    rt: &R,
-    program: &Program,
-    steps: &str,
-) -> Result<String, Fail> {
-    let mut region = LoggedRegion::new(rt.alloc(), program, 0);
-    play_jobs(rt, program, &mut region, steps)?;
-    told(rt.alloc(), &region)
-}
-
+/// Compares the text on a handler after the jobs of a row with what the row wants.
 fn expect_log<R: Abort + AllocGlobal>(rt: &R, program: &Program, row: &str) -> Result<(), Fail> {
     let (steps, wanted) = halves_of(row)?;
-    let told = told_after(rt, program, steps)?;
+    let mut region = LoggedRegion::new(rt.alloc(), program, 0);
+    play_jobs(rt, program, &mut region, steps)?;
+    let told = told(rt.alloc(), &region)?;
     expect_text(rt, &told, wanted, steps);
     Ok(())
 }
