@@ -130,11 +130,14 @@ local function reads_a_fault()
   expect('the fault names what is unknown', true, (fault.message or ''):find('conut', 1, true) ~= nil)
 end
 
--- Over a fault it is said what its code means.
+-- Over a fault it is said what its code means, over a name how that is declared.
 local function hovers()
   go_to('conut')
   local answer = ask('textDocument/hover', at_cursor()) or {}
   expect('what the code means', 1, (vim.inspect(answer.contents):find('V1 UnknownName', 1, true) and 1))
+  go_to('cell print')
+  local said = ask('textDocument/hover', at_cursor()) or {}
+  expect('what the name means', 'cell: CELL', (said.contents or {}).value)
   go_to('feature')
   expect('what is said of a place without a fault', nil, ask('textDocument/hover', at_cursor()))
 end
@@ -193,7 +196,39 @@ local function folds()
   expect('a fold of the class', 1, #found)
 end
 
-local steps = { reads_a_fault, hovers, applies_a_help, follows_typing, formats, lists_symbols, folds }
+-- The range of a text on the first line that has it.
+local function range(text)
+  local line, byte = place(text)
+  return { start = { line = line, character = byte }, ['end'] = { line = line, character = byte + #text } }
+end
+
+-- A name is declared in this file or in the other one, and is written in several places.
+local function finds_names()
+  go_to('count := 1')
+  local found = ask('textDocument/definition', at_cursor()) or {}
+  expect('where a name is declared', range('count'), found.range)
+  local parameters = at_cursor()
+  parameters.context = { includeDeclaration = true }
+  expect('places of a name', 4, #(ask('textDocument/references', parameters) or {}))
+  go_to('CELL')
+  found = ask('textDocument/definition', at_cursor()) or {}
+  expect('the file of a class', 'cell.e', vim.fn.fnamemodify(vim.uri_to_fname(found.uri or 'file:///'), ':t'))
+end
+
+-- A name is changed everywhere, in both files, or not at all.
+local function renames()
+  go_to('CELL')
+  local parameters = vim.tbl_extend('force', at_cursor(), { newName = 'BOX' })
+  local edit = ask('textDocument/rename', parameters) or {}
+  expect('files in which a class changes', 2, vim.tbl_count(edit.changes or {}))
+  go_to('count := 1')
+  parameters = vim.tbl_extend('force', at_cursor(), { newName = 'total' })
+  vim.lsp.util.apply_workspace_edit(ask('textDocument/rename', parameters) or {}, 'utf-16')
+  expect('the name is changed', { nil, true }, { (place('count')), place('total := total + 1') ~= nil })
+  expect('diagnostics after a name is changed', 0, #diagnostics(0))
+end
+
+local steps = { reads_a_fault, hovers, applies_a_help, follows_typing, formats, lists_symbols, folds, finds_names, renames }
 
 local function tries_server()
   local scoop = require('scoop')

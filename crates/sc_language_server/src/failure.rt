@@ -15,6 +15,12 @@ pub enum Failure {
     OutOfMemory,
     /// The request came before `initialize`.
     NotInitialized,
+    /// What is to be a new name is none.
+    NotAName,
+    /// With the new name the text would be refused.
+    RenamingRefused,
+    /// With the new name a name would mean something else.
+    MeaningChanged,
 }
 
 impl Failure {
@@ -29,6 +35,12 @@ impl Failure {
                 r#"{"code":-32602,"message":"the parameters don't fit the method"}"#,
             Failure::OutOfMemory => r#"{"code":-32603,"message":"memory ran out"}"#,
             Failure::NotInitialized => r#"{"code":-32002,"message":"initialize comes first"}"#,
+            Failure::NotAName =>
+                r#"{"code":-32803,"message":"the new name is no identifier, or a reserved word"}"#,
+            Failure::RenamingRefused =>
+                r#"{"code":-32803,"message":"with the new name the text would be refused"}"#,
+            Failure::MeaningChanged =>
+                r#"{"code":-32803,"message":"with the new name a name would mean something else"}"#,
         }
     }
 }

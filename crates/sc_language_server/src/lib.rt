@@ -2,11 +2,11 @@
 //!
 //! [`serve_editor`] reads messages and answers them until one says `exit` or the reader ends. Positions are in UTF-16.
 //!
-//! What isn't answered yet, and isn't offered either, is what needs to know what a name means: definitions, references,
-//! renaming, completion and types. Its requests belong into `requests`, each in a file of its own.
+//! What a name means is what `sc_symbols` says.
 #![tactic(auto)]
 
 mod actions;
+mod declarations;
 mod diagnostics;
 mod failure;
 mod findings;
@@ -14,6 +14,8 @@ mod framing;
 mod grouping;
 mod hover;
 mod layout;
+mod name_requests;
+mod naming;
 mod opening;
 mod outline;
 mod parameters;
@@ -22,6 +24,7 @@ mod server;
 mod serving;
 mod systems;
 mod uris;
+mod workspace;
 mod written;
 
 pub use serving::{Ending, serve_editor};

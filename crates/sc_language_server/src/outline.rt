@@ -48,7 +48,7 @@ pub fn push_outline(alloc: Global, lines: &mut Lines, document: &Document, asked
 }
 
 /// The system of a text, and its tokens, if it spells one.
-fn read_outline(alloc: Global, text: &str) -> Result<Option<(System, Vec<Token>)>, AllocError> {
+pub fn read_outline(alloc: Global, text: &str) -> Result<Option<(System, Vec<Token>)>, AllocError> {
     let Some(system) = system_of(alloc, text)? else {
         return Ok(None);
     };

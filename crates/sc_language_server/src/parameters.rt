@@ -62,6 +62,14 @@ pub fn document_in(params: Option<&Value>) -> Option<&str> {
     text_in(member(params, "textDocument"), "uri")
 }
 
+/// Whether the client of a request for references takes the declaration among them.
+pub fn is_declaration_wanted(params: Option<&Value>) -> bool {
+    match member(member(params, "context"), "includeDeclaration") {
+        Some(wanted) => wanted.as_bool().unwrap_or(true),
+        None => true,
+    }
+}
+
 /// Whether the client of a request for actions takes fixes: it names no kinds, or theirs among them.
 pub fn are_fixes_wanted(params: Option<&Value>) -> bool {
     let kinds = elements_in(member(params, "context"), "only");

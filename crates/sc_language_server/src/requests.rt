@@ -4,10 +4,11 @@ use crate::actions::push_actions;
 use crate::failure::Failure;
 use crate::hover::push_hover;
 use crate::layout::push_layout;
+use crate::name_requests::{NameRequest, push_name_answer};
 use crate::outline::{Outline, push_outline};
 use crate::parameters::{are_fixes_wanted, document_in, member, position_in, range_in};
 use crate::systems::{CheckedSystem, Part, Place};
-use sc_documents::{Position, Range, offset_of};
+use sc_documents::{Range, offset_of};
 use sc_explain_text::Lines;
 use serde_json::Value;
 use std::alloc::Global;
@@ -19,6 +20,8 @@ pub enum Request {
     Folds,
     Hover,
     Layout,
+    /// About the name at a position.
+    Name(NameRequest),
     Symbols,
 }
 
@@ -27,10 +30,14 @@ impl Request {
     pub fn named(method: &str) -> Option<Request> {
         match method {
             "textDocument/codeAction" => Some(Request::Actions),
+            "textDocument/definition" => Some(Request::Name(NameRequest::Definition)),
             "textDocument/documentSymbol" => Some(Request::Symbols),
             "textDocument/foldingRange" => Some(Request::Folds),
             "textDocument/formatting" => Some(Request::Layout),
             "textDocument/hover" => Some(Request::Hover),
+            "textDocument/prepareRename" => Some(Request::Name(NameRequest::Renamable)),
+            "textDocument/references" => Some(Request::Name(NameRequest::References)),
+            "textDocument/rename" => Some(Request::Name(NameRequest::Renaming)),
             _ => None,
         }
     }
@@ -72,6 +79,10 @@ fn answer_part(
         Request::Layout => push_layout(alloc, lines, document),
         Request::Symbols => push_outline(alloc, lines, document, Outline::Symbols),
         Request::Folds => push_outline(alloc, lines, document, Outline::Folds),
+        Request::Name(request) => {
+            let place = place_at(index, part, params)?;
+            return push_name_answer(alloc, lines, &system.joined, place, request, params);
+        }
         Request::Actions => {
             let place = place_in(index, part, range_in(member(params, "range")))?;
             if are_fixes_wanted(params) {
@@ -81,8 +92,8 @@ fn answer_part(
             }
         }
         Request::Hover => {
-            let range = point_of(position_in(member(params, "position")));
-            push_hover(alloc, lines, system, place_in(index, part, range)?)
+            let place = place_at(index, part, params)?;
+            return push_hover(alloc, lines, system, place);
         }
     }
     Ok(())
@@ -101,10 +112,11 @@ fn place_in(index: usize, part: &Part, range: Option<Range>) -> Result<Place, Fa
     })
 }
 
-/// The empty range at a position.
-fn point_of(position: Option<Position>) -> Option<Range> {
-    match position {
+/// The place of the position that a request is about, in the document of this number.
+fn place_at(index: usize, part: &Part, params: Option<&Value>) -> Result<Place, Failure> {
+    let range = match position_in(member(params, "position")) {
         Some(start) => Some(Range { start, end: start }),
         None => None,
-    }
+    };
+    place_in(index, part, range)
 }

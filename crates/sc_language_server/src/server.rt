@@ -9,16 +9,18 @@ use crate::parameters::{document_in, elements_in, member, text_in};
 use crate::requests::{Request, answer_request};
 use crate::systems::CheckedSystem;
 use crate::uris::path_of;
+use crate::workspace::push_found;
 use sc_explain_text::Lines;
 use sc_source::files::Files;
 use serde_json::Value;
 use std::alloc::{AllocError, Global};
 
 /// What the server can do.
-const CAPABILITIES: [&str; 3] = [
-    r#"{"capabilities":{"codeActionProvider":{"codeActionKinds":["quickfix"]},"documentFormattingProvider":true,"#,
-    r#""documentSymbolProvider":true,"foldingRangeProvider":true,"hoverProvider":true,"positionEncoding":"utf-16","#,
-    r#""textDocumentSync":{"change":2,"openClose":true}},"serverInfo":{"name":"scoop","version":"0.1.0"}}"#,
+const CAPABILITIES: [&str; 4] = [
+    r#"{"capabilities":{"codeActionProvider":{"codeActionKinds":["quickfix"]},"definitionProvider":true,"#,
+    r#""documentFormattingProvider":true,"documentSymbolProvider":true,"foldingRangeProvider":true,"hoverProvider":true,"#,
+    r#""positionEncoding":"utf-16","referencesProvider":true,"renameProvider":{"prepareProvider":true},"#,
+    r#""textDocumentSync":{"change":2,"openClose":true},"workspaceSymbolProvider":true},"serverInfo":{"name":"scoop","version":"0.1.0"}}"#,
 ];
 
 /// How far a session is.
@@ -101,6 +103,11 @@ impl Server {
         if method == "shutdown" {
             self.phase = Phase::Down;
             lines.push("null");
+            return Ok(());
+        }
+        if method == "workspace/symbol" {
+            let query = text_in(params, "query").unwrap_or("");
+            push_found(alloc, lines, self.systems.as_slice(), query);
             return Ok(());
         }
         match Request::named(method) {

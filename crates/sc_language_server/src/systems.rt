@@ -80,6 +80,23 @@ impl Joined {
         None
     }
 
+    /// The URI of the document of a place.
+    pub fn uri_of(&self, place: Place) -> &str {
+        match self.parts.get(place.part) {
+            Some(part) => part.uri.as_str(),
+            None => "",
+        }
+    }
+
+    /// The offset in the whole text of the beginning of a place.
+    pub fn offset_of(&self, place: Place) -> u32 {
+        let before = match self.parts.get(place.part) {
+            Some(part) => part.start,
+            None => 0,
+        };
+        u32::try_from(before.saturating_add(place.start)).unwrap_or(u32::MAX)
+    }
+
     /// Where a part of the text lies: in the last document that begins no later. That of the whole text is its beginning.
     pub fn place_of(&self, span: Option<Span>) -> Place {
         let Span { start, end } = span.unwrap_or(Span { start: 0, end: 0 });

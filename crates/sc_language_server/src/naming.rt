@@ -1,0 +1,62 @@
+//! What the names of a system mean.
+
+use crate::failure::Failure;
+use crate::systems::{Joined, Place};
+use sc_class::Root;
+use sc_symbols::{Mention, names_in, symbol_at};
+use std::alloc::{AllocError, Global};
+
+/// A class that a system without a root is run from, so that its names mean something.
+const OWN_ROOT: &str = "class SCOOP_EDITOR_ROOT create make feature make do end end\n";
+
+/// A text with its names, and the root of its system. It begins with the text of the system that an editor has.
+#[derive(Drop)]
+pub struct NamedText {
+    pub text: String,
+    pub root: Root,
+    pub mentions: Vec<Mention>,
+}
+
+/// The name at a place of a system, with all names of the text, if what it means is known.
+pub fn name_at(
+    alloc: Global,
+    joined: &Joined,
+    place: Place,
+) -> Result<Option<(NamedText, Mention)>, Failure> {
+    match named_text(alloc, joined) {
+        Ok(Some(named)) => match symbol_at(&named.mentions, joined.offset_of(place)) {
+            Some(mention) => Ok(Some((named, mention))),
+            None => Ok(None),
+        },
+        Ok(None) => Ok(None),
+        Err(_) => Err(Failure::OutOfMemory),
+    }
+}
+
+/// The names of a system, from its root `APPLICATION.make` or, if it has none, from a root of its own. None if it can't be read or
+/// something else is at fault in its classes.
+fn named_text(alloc: Global, joined: &Joined) -> Result<Option<NamedText>, AllocError> {
+    let text = String::from_str(alloc, joined.text.as_str())?;
+    if let Some(named) = named_from(alloc, text, "application")? {
+        return Ok(Some(named));
+    }
+    let mut text = String::from_str(alloc, joined.text.as_str())?;
+    text.push_str(OWN_ROOT)?;
+    named_from(alloc, text, "scoop_editor_root")
+}
+
+/// The names of a system from the procedure `make` of this class.
+fn named_from(alloc: Global, text: String, class: &str) -> Result<Option<NamedText>, AllocError> {
+    let root = Root {
+        class: String::from_str(alloc, class)?,
+        procedure: String::from_str(alloc, "make")?,
+    };
+    match names_in(alloc, text.as_str(), &root)? {
+        Some(mentions) => Ok(Some(NamedText {
+            text,
+            root,
+            mentions,
+        })),
+        None => Ok(None),
+    }
+}

@@ -1,0 +1,7 @@
+pub mod Added
+pub mod Cases
+pub mod Topmost
+pub mod Types
+mod Known
+mod NewNames
+mod Readings

@@ -1,0 +1,10 @@
+use Rattle.std.proofs.Common.{◌≡◌, ◌++◌, map, take}
+use Rattle.std.specs.List.{flat_map}
+use Rattle.sc_tree.specs.View.{name_of}
+use Rattle.sc_class.specs.SystemIn.{system_in}
+use Rattle.sc_symbols.specs.Mentions.{mentions_of_class}
+use Rattle.sc_symbols.proofs.names.add_class_names.Given as goal
+
+abbrev pub invariant-loop-name : goal.invariant-loop-name
+invariant-loop-name l =
+    l.mentions.items ≡ l.initial.mentions.items ++ flat_map (λ x. mentions_of_class (system_in l.tables) (name_of x)) (take l.name-index l.names)
