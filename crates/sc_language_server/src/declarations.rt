@@ -9,6 +9,7 @@ use sc_text::{Span, Terminal, Token, TokenKind};
 use sc_tree::{Declaration, Feature, FeatureKind, Routine, System};
 
 /// A text that is read.
+#[derive(Drop)]
 pub struct ReadText<'t> {
     pub text: &'t str,
     pub tokens: &'t [Token],
