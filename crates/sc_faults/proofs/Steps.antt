@@ -1,5 +1,5 @@
 -- What the walk has added after each of its steps.
-use Rattle.std.proofs.Common.{◌≡◌, ℕ, ◌+◌, ◌<◌, ◌≤◌, List, [], ◌++◌, length, drop, get_or, map, Option, Some, None, Result, Ok, Err, refl, ap, sym, subst, ◌∙◌}
+use Rattle.std.proofs.Common.{◌≡◌, ℕ, ◌+◌, ◌<◌, ◌≤◌, List, [], ◌++◌, length, drop, get_or, map, Option, Some, None, Result, Ok, Err, refl, ap, sym, subst, ◌∙◌, append_assoc}
 use Rattle.std.specs.Prelude.{Bool, true, false, if◌then◌else◌, OnOk}
 use Rattle.std.specs.declared.alloc.AllocError.{AllocError}
 use Rattle.sc_text.specs.declared.token.Span.{Span}
@@ -29,7 +29,7 @@ use Rattle.sc_typing.specs.declared.fault.CheckFault.{CheckFault}
 use Rattle.sc_typing.specs.declared.fault.CheckFault.TheVariants.{Refused}
 use Rattle.sc_typing.specs.Judges.{Faults, Knows, Passes}
 use Rattle.sc_faults.specs.Internal.Adding.{AddsFaults, AddsForm, AddsUnder}
-use Rattle.sc_faults.specs.Internal.Listing.{with_first, faults_at, faults_of, faults_of_each, faults_of_clause, faults_of_instrs, faults_under, faults_of_type, faults_of_types, faults_of_result, faults_of_text, faults_of_kind, faults_of_features, faults_of_creator, faults_of_form, faults_of_invariant, faults_of_class, faults_of_classes}
+use Rattle.sc_faults.specs.Internal.Listing.{with_first, faults_at, faults_of, faults_of_each, faults_of_clause, faults_of_instrs, faults_under, faults_of_type, faults_of_types, faults_of_result, faults_of_body, faults_of_text, faults_of_kind, faults_of_features, faults_of_creator, faults_of_form, faults_of_invariant, faults_of_class, faults_of_classes}
 use Rattle.sc_faults.proofs.Adding.{both_if_ok, named, named_if_ok, nothing_added, next, end}
 
 -- ---- a site
@@ -116,24 +116,31 @@ module _ (h : RoutineContext) (is : plain.Instrs) (given : Result Unit CheckFaul
 
 -- ---- features
 
+pub body_added : (h : RoutineContext) (n known : Entities) (locals : List plain.Declaration) (is : plain.Instrs)
+    (r : Result Unit AllocError) (old mid new : List Fault) → known ≡ n ++ locals_known h.system h.formals locals →
+    mid ≡ old ++ faults_of_types h.system h.formals locals → OnOk r (new ≡ mid ++ faults_of_instrs h known is) →
+    OnOk r (new ≡ old ++ faults_of_body h n locals is)
+body_added h n known locals is r old mid new kq p1 p2 =
+    let types : List Fault = faults_of_types h.system h.formals locals in
+    named_if_ok r old new (types ++ faults_of_instrs h known is) (faults_of_body h n locals is)
+    (ap (λ m. types ++ faults_of_instrs h m is) kq)
+    (both_if_ok r old mid new types (faults_of_instrs h known is) p1 p2)
+
 pub text_added : (h : RoutineContext) (pre post : List plain.Clause) (locals : List plain.Declaration) (is : plain.Instrs)
-    (r : Result Unit AllocError) (old first second third new : List Fault) (before known after : Entities) →
-    before ≡ formals_known h.system h.formals → known ≡ formals_known h.system h.formals ++ locals_known h.system h.formals locals →
-    after ≡ formals_known h.system h.formals → first ≡ old ++ faults_of_each (faults_of_clause h context.Require before) pre →
-    second ≡ first ++ faults_of_types h.system h.formals locals → third ≡ second ++ faults_of_instrs h known is →
-    OnOk r (new ≡ third ++ faults_of_each (faults_of_clause h context.Ensure after) post) → OnOk r (new ≡ old ++ faults_of_text h pre locals is post)
-text_added h pre post locals is r old first second third new before known after bq kq aq p1 p2 p3 p4 =
+    (r : Result Unit AllocError) (old first second new : List Fault) (known : Entities) →
+    known ≡ formals_known h.system h.formals → first ≡ old ++ faults_of_each (faults_of_clause h context.Require known) pre →
+    second ≡ first ++ faults_of_body h known locals is →
+    OnOk r (new ≡ second ++ faults_of_each (faults_of_clause h context.Ensure known) post) → OnOk r (new ≡ old ++ faults_of_text h pre locals is post)
+text_added h pre post locals is r old first second new known kq p1 p2 p3 =
     let requires : Entities → List Fault = λ n. faults_of_each (faults_of_clause h context.Require n) pre in
     let types : List Fault = faults_of_types h.system h.formals locals in
-    let body : Entities → List Fault = λ n. faults_of_instrs h n is in
+    let body : Entities → List Fault = λ n. faults_of_instrs h (n ++ locals_known h.system h.formals locals) is in
     let ensures : Entities → List Fault = λ n. faults_of_each (faults_of_clause h context.Ensure n) post in
-    named_if_ok r old new (requires before ++ (types ++ (body known ++ ensures after))) (faults_of_text h pre locals is post)
-    (ap (λ n. requires n ++ (types ++ (body known ++ ensures after))) bq
-    ∙ ap (λ n. requires (formals_known h.system h.formals) ++ (types ++ (body n ++ ensures after))) kq
-    ∙ ap (λ n. requires (formals_known h.system h.formals) ++
-    (types ++ (body (formals_known h.system h.formals ++ locals_known h.system h.formals locals) ++ ensures n))) aq)
-    (both_if_ok r old first new (requires before) (types ++ (body known ++ ensures after)) p1
-    (both_if_ok r first second new types (body known ++ ensures after) p2 (both_if_ok r second third new (body known) (ensures after) p3 p4)))
+    named_if_ok r old new (requires known ++ ((types ++ body known) ++ ensures known)) (faults_of_text h pre locals is post)
+    (ap (λ fs. requires known ++ fs) (append_assoc types (body known) (ensures known))
+    ∙ ap (λ n. requires n ++ (types ++ (body n ++ ensures n))) kq)
+    (both_if_ok r old first new (requires known) ((types ++ body known) ++ ensures known) p1
+    (both_if_ok r first second new (types ++ body known) (ensures known) p2 p3))
 
 module _ (s : System) (pure : RoutineName → Bool) (k : ℕ) (r : Routine) (h : RoutineContext)
     (first second third locals : List Declaration) (pre post : List Clause) (is : List Instr)

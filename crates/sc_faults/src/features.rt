@@ -6,7 +6,7 @@ ghost use Rattle.sc_tree.specs.View.{clause_of, declaration_of, instrs_of, kind_
 ghost use Rattle.sc_class.specs.SystemIn.{system_in};
 ghost use Rattle.sc_rules.specs.Names as names;
 ghost use Rattle.sc_typing.specs.Marks.{is_marked};
-ghost use Rattle.sc_typing.specs.Views.{routine_in};
+ghost use Rattle.sc_typing.specs.Views.{entity_of, routine_in};
 ghost use Rattle.sc_faults.specs.Internal.Listing as listing;
 
 use crate::conditions::add_clauses;
@@ -16,7 +16,7 @@ use sc_check::ClassText;
 use sc_class::Tables;
 use sc_rules::{Context, Fault};
 use sc_tree::{Clause, Declaration, DeclaredType, FeatureKind, Instr, Routine};
-use sc_typing::{RoutineContext, add_formals, add_locals, result_type};
+use sc_typing::{Entity, RoutineContext, add_formals, add_locals, result_type};
 use std::alloc::{AllocError, Global};
 
 /// Adds the faults of each declared type, whose tag may name these formals.
@@ -72,6 +72,29 @@ pub fn context_of<'t, 's>(
     }
 }
 
+/// Adds the faults of a routine's locals and body, before which these names are known.
+fn add_body<'s>(
+    routine: &RoutineContext<'_, 's>,
+    names: &[Entity<'s>],
+    locals: &'s [Declaration],
+    body: &'s [Instr],
+    faults: &mut Vec<Fault>,
+) -> Result<(), AllocError>
+    ensures { OnOk result (faults.new.items ≡ faults.old.items ++ listing.faults_of_body (routine_in routine.now)
+        (map entity_of names.now) (map declaration_of locals.now) (instrs_of body.now)) }
+{
+    add_types(
+        routine.alloc,
+        routine.tables,
+        routine.formals,
+        locals,
+        faults,
+    )?;
+    let mut known = Vec::from_slice(routine.alloc, names)?;
+    add_locals(routine.tables, routine.formals, locals, &mut known)?;
+    add_instructions(routine, &known, body, faults)
+}
+
 /// Adds the faults of a routine's text after its types: precondition, locals, body and postcondition.
 fn add_text<'s>(
     routine: &RoutineContext<'_, 's>,
@@ -87,18 +110,10 @@ fn add_text<'s>(
 {
     let mut names = Vec::new(routine.alloc);
     add_formals(routine.tables, routine.formals, &mut names)?;
-    add_clauses(routine, Context::Require, &names, precondition, faults)?;
-    add_types(
-        routine.alloc,
-        routine.tables,
-        routine.formals,
-        locals,
-        faults,
-    )?;
-    let mut known = Vec::from_slice(routine.alloc, &names)?;
-    add_locals(routine.tables, routine.formals, locals, &mut known)?;
-    add_instructions(routine, &known, body, faults)?;
-    add_clauses(routine, Context::Ensure, &names, postcondition, faults)
+    let known = names.as_slice();
+    add_clauses(routine, Context::Require, known, precondition, faults)?;
+    add_body(routine, known, locals, body, faults)?;
+    add_clauses(routine, Context::Ensure, known, postcondition, faults)
 }
 
 /// Adds the faults of a routine: of its types, precondition, locals, body and postcondition.
@@ -112,10 +127,10 @@ fn add_routine<'s>(
         (system_in class.now.tables.now) (is_marked class.now.purity.now) class.now.class
         (plain.Routine (routine_of declared.now))) }
 {
-    let formals = &declared.formals;
+    let formals = declared.formals.as_slice();
     add_types(class.alloc, class.tables, formals, formals, faults)?;
     add_result_type(class.alloc, class.tables, &declared.result_type, faults)?;
-    let routine = context_of(class, &declared.formals, &declared.result_type);
+    let routine = context_of(class, formals, &declared.result_type);
     add_text(
         &routine,
         &declared.precondition,

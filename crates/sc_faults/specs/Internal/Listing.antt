@@ -267,6 +267,11 @@ abbrev pub faults_of_result : System → Option DeclaredType → List Fault
 faults_of_result s None = []
 faults_of_result s (Some d) = faults_of_type s [] d
 
+-- the locals and the body of a routine before which these names are known
+abbrev pub faults_of_body : RoutineContext → Entities → List Declaration → Instrs → List Fault
+faults_of_body h n locals is =
+    faults_of_types h.system h.formals locals ++ faults_of_instrs h (n ++ locals_known h.system h.formals locals) is
+
 -- the text of a routine after its types
 abbrev pub faults_of_text : RoutineContext → List Clause → List Declaration → Instrs → List Clause → List Fault
 faults_of_text h pre locals is post =
