@@ -14,8 +14,6 @@ mod reading;
 mod renaming;
 mod scope;
 mod symbol;
-#[cfg(test)]
-mod tests;
 mod uses;
 
 pub use reading::names_in;
