@@ -55,6 +55,9 @@ pub fn diagnose_all(
     root: &Root,
     refused: &[Refused],
 ) -> Result<Vec<Diagnosis>, AllocError> {
+    if refused.is_empty() {
+        return Ok(Vec::new(alloc));
+    }
     match system_of(alloc, text)? {
         Some(system) => {
             let told = diagnose_in(alloc, text, root, &system, refused);
