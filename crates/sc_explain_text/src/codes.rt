@@ -3,6 +3,7 @@
 ghost use Rattle.std.specs.Prelude.{IfSome, IsTrue};
 ghost use Rattle.sc_explain_text.specs.Page.{IsPageOf};
 
+use crate::lines::Lines;
 use crate::{
     class_pages, failure_pages, grammar_pages, lowering_pages, record_pages, rule_pages,
     subject_pages, text_pages,
@@ -87,22 +88,20 @@ fn is_page_of(page: &str, word: &str) -> bool
 }
 
 /// The first line of each page.
-pub fn list(alloc: Global) -> Result<String, AllocError> {
-    let mut lines = String::new(alloc);
+pub fn list(alloc: Global) -> Result<Vec<u8>, AllocError> {
+    let mut lines = Lines::new(alloc);
     for topic in TOPICS {
-        push_headings(&mut lines, pages_of(topic))?;
+        push_headings(&mut lines, pages_of(topic))
     }
-    Ok(lines)
+    lines.finish()
 }
 
-fn push_headings(lines: &mut String, pages: &[&str]) -> Result<(), AllocError> {
+fn push_headings(lines: &mut Lines, pages: &[&str]) {
     for page in pages {
         let heading = match page.split_once('\n') {
             None => page,
             Some((heading, _)) => heading,
         };
-        lines.push_str(heading)?;
-        lines.push('\n')?;
+        lines.fill_name("~\n", heading)
     }
-    Ok(())
 }

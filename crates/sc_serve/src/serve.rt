@@ -328,7 +328,7 @@ fn explain<'a>(alloc: Global, word: Option<&'a str>) -> Result<Answer<'a>, Fault
     ensures { IfOk result (IsExplained (option_map (λ w. w.now) word.entry)) }
 {
     let Some(word) = word else {
-        return Ok(Answer::new(alloc, list(alloc)?.into_bytes(), Exit::Done));
+        return Ok(Answer::new(alloc, list(alloc)?, Exit::Done));
     };
     match find(word) {
         Some(page) => {
