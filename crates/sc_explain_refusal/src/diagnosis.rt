@@ -147,7 +147,7 @@ impl<'s> Refusal<'s> {
                 explain_character(lines, self.text, self.span);
                 None
             }
-            RefusalCode::NotInGrammar => explain_grammar(alloc, lines, self.text, self.span),
+            RefusalCode::NotInGrammar => explain_grammar(lines, self.text, self.span),
             RefusalCode::NoRoot => {
                 explain_root(lines, self.text, classes, known.root);
                 None

@@ -18,70 +18,63 @@ const INSTRUCTION: &str = "check end";
 
 /// The beginning of a text up to a place, or a shorter one that goes on in the same ways: without classes and
 /// routines that end before that place, instructions that are whole there, and anything that is no token. If memory
-/// is refused to a part of it, that is missing.
+/// is refused to a part of it, that is missing, and the lines are incomplete that it is made for.
 #[derive(Drop)]
 pub struct Beginning {
-    alloc: Global,
     text: String,
-    is_lacking: bool,
 }
 
 impl Beginning {
     /// The beginning of a text with these first tokens. After them come this part of the text up to its fault, and
     /// then the word at fault, if the text has one there: if a shorter beginning doesn't go on so, nothing is left
     /// out.
-    pub fn of(
-        alloc: Global,
-        lines: &mut Lines,
-        text: &str,
-        before: &[Token],
-        between: &str,
-        fault: &str,
-    ) -> Self {
-        let shorter = Self::shortened(alloc, text, before);
+    pub fn of(lines: &mut Lines, text: &str, before: &[Token], between: &str, fault: &str) -> Self {
+        let shorter = Self::shortened(lines, text, before);
         if !shorter.is_short() || shorter.goes_as(lines, between, fault) {
             return shorter;
         }
-        let mut whole = Self::new(alloc);
-        whole.push_word(first_bytes(text, end_of(before, 0)));
+        let mut whole = Self::new(lines.alloc());
+        whole.push_word(lines, first_bytes(text, end_of(before, 0)));
         whole
     }
 
     /// Nothing.
     fn new(alloc: Global) -> Self {
         Beginning {
-            alloc,
             text: String::new(alloc),
-            is_lacking: false,
         }
     }
 
     /// What is shorter.
-    fn shortened(alloc: Global, text: &str, before: &[Token]) -> Self {
-        let mut shorter = Self::new(alloc);
-        let layout = Layout::of(alloc, text, before);
-        shorter.push_word(if layout.is_in_class { ROUTINE } else { "" });
-        let mut from = layout.settled;
-        for part in layout.whole.iter() {
-            shorter.push_words(text, before.get(from..part.start));
-            shorter.push_word(INSTRUCTION);
-            from = part.end;
-        }
-        shorter.push_words(text, before.get(from..));
-        shorter.is_lacking = shorter.is_lacking || layout.is_lacking;
+    fn shortened(lines: &mut Lines, text: &str, before: &[Token]) -> Self {
+        let layout = Layout::of(lines, text, before);
+        let mut shorter = Self::new(lines.alloc());
+        shorter.push_shortened(lines, text, before, &layout);
         shorter
     }
 
+    /// Adds these tokens of a text, without what is settled and whole by this layout of them.
+    fn push_shortened(&mut self, lines: &mut Lines, text: &str, before: &[Token], layout: &Layout) {
+        self.push_word(lines, if layout.is_in_class { ROUTINE } else { "" });
+        let mut from = layout.settled;
+        for part in layout.whole.iter() {
+            self.push_words(lines, text, before.get(from..part.start));
+            self.push_word(lines, INSTRUCTION);
+            from = part.end;
+        }
+        self.push_words(lines, text, before.get(from..))
+    }
+
     /// Adds the words of these tokens, if there are some.
-    fn push_words(&mut self, text: &str, tokens: Option<&[Token]>) {
+    fn push_words(&mut self, lines: &mut Lines, text: &str, tokens: Option<&[Token]>) {
         for token in tokens.unwrap_or(&[]) {
-            self.push_word(word_at(text, token.span));
+            self.push_word(lines, word_at(text, token.span));
         }
     }
 
-    fn push_word(&mut self, word: &str) {
+    fn push_word(&mut self, lines: &mut Lines, word: &str) {
         if self.text.push_str(" ").is_err() || self.text.push_str(word).is_err() {
-            self.is_lacking = true;
+            lines.lack();
         }
     }
 
@@ -98,28 +91,25 @@ impl Beginning {
 
     /// Whether a system begins with it and these two texts. The lines are incomplete if memory runs out.
     pub fn goes_on(&self, lines: &mut Lines, behind: &str, last: &str) -> bool {
-        let mut longer = Self::new(self.alloc);
-        longer.push_word(&self.text);
-        longer.push_word(behind);
-        longer.push_word(last);
-        if self.is_lacking || longer.is_lacking {
-            lines.lack();
-        }
-        is_begun(self.alloc, lines, &longer.text)
+        let mut longer = Self::new(lines.alloc());
+        longer.push_word(lines, &self.text);
+        longer.push_word(lines, behind);
+        longer.push_word(lines, last);
+        is_begun(lines, &longer.text)
     }
 }
 
 /// Whether a system begins with the text.
-fn is_begun(alloc: Global, lines: &mut Lines, text: &str) -> bool {
-    match tokens_of(alloc, lines, text) {
+fn is_begun(lines: &mut Lines, text: &str) -> bool {
+    match tokens_of(lines, text) {
         None => false,
-        Some(tokens) => are_begun(alloc, lines, &tokens, text.len()),
+        Some(tokens) => are_begun(lines, &tokens, text.len()),
     }
 }
 
 /// Whether a system begins with the tokens of a text of this length.
-fn are_begun(alloc: Global, lines: &mut Lines, tokens: &[Token], length: usize) -> bool {
-    match parse(alloc, tokens) {
+fn are_begun(lines: &mut Lines, tokens: &[Token], length: usize) -> bool {
+    match parse(lines.alloc(), tokens) {
         Ok(system) => {
             let_go(system);
             true

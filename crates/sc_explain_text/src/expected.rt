@@ -81,7 +81,7 @@ pub fn push_expected(lines: &mut Lines, beginning: &Beginning) {
 /// Adds a line with those of these tokens that may follow a beginning.
 fn push_all_expected(lines: &mut Lines, beginning: &Beginning, tokens: &str) {
     let mut is_first = true;
-    for row in tokens.lines() {
+    for row in tokens.split('\n') {
         if let Some((name, token)) = row.split_once('\t')
             && beginning.goes_on(lines, token, "")
         {
@@ -94,5 +94,7 @@ fn push_all_expected(lines: &mut Lines, beginning: &Beginning, tokens: &str) {
             is_first = false;
         }
     }
-    lines.push(if is_first { "" } else { "\n" })
+    if !is_first {
+        lines.push("\n")
+    }
 }

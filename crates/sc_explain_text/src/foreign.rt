@@ -24,7 +24,7 @@ pub fn push_instead_at(lines: &mut Lines, text: &str, least: usize) -> bool {
 /// Adds a line with what is written in place of the first of these constructs that a text begins with, in a spelling of
 /// at least this number of bytes. Returns whether there is one.
 fn push_instead(lines: &mut Lines, constructs: &str, text: &str, least: usize) -> bool {
-    for row in constructs.lines() {
+    for row in constructs.split('\n') {
         if let Some((spellings, instead)) = row.rsplit_once('\t')
             && begins_with(text, spellings, least)
         {

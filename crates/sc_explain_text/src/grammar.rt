@@ -9,7 +9,6 @@ use crate::nearest::{near_word, push_meant};
 use crate::reading::{tokens_of, word_at};
 use crate::related::Related;
 use sc_text::{Span, Terminal, Token, TokenKind};
-use std::alloc::Global;
 
 /// A text, its tokens, and the number of the first that no system has there.
 #[derive(Clone, Copy)]
@@ -23,13 +22,8 @@ struct Stop<'t> {
 /// Adds an explanation of a text with which no system begins, up to the end of this part: what is written in place of
 /// a construct that isn't in the language, a word that was meant, or else what may be there. Then the construct that
 /// hasn't ended, if it belongs to the fault. The lines are incomplete if memory runs out.
-pub fn explain_grammar(
-    alloc: Global,
-    lines: &mut Lines,
-    text: &str,
-    span: Span,
-) -> Option<Related> {
-    match tokens_of(alloc, lines, text) {
+pub fn explain_grammar(lines: &mut Lines, text: &str, span: Span) -> Option<Related> {
+    match tokens_of(lines, text) {
         None => None,
         Some(tokens) => {
             let stop = Stop {
@@ -38,7 +32,7 @@ pub fn explain_grammar(
                 number: number_of(tokens.as_slice(), span),
                 span,
             };
-            stop.explain(alloc, lines)
+            stop.explain(lines)
         }
     }
 }
@@ -54,27 +48,27 @@ fn number_of(tokens: &[Token], span: Span) -> usize {
 }
 
 impl<'t> Stop<'t> {
-    fn explain(self, alloc: Global, lines: &mut Lines) -> Option<Related> {
+    fn explain(self, lines: &mut Lines) -> Option<Related> {
         self.push_place(lines);
         let is_told = self.push_record(lines)
             || push_instead_of_word(lines, self.word(0))
             || self.push_word_in_line(lines)
-            || self.push_meant(alloc, lines)
+            || self.push_meant(lines)
             || self.push_real(lines)
             || self.push_sign(lines);
         if is_told {
             return None;
         }
-        let beginning = self.beginning(alloc, lines, 0);
+        let beginning = self.beginning(lines, 0);
         push_expected(lines, &beginning);
-        open_construct(alloc, lines, self.text, self.before(0))
+        open_construct(lines, self.text, self.before(0))
     }
 
     /// The beginning of the text before the token `back` tokens before the one at fault.
-    fn beginning(self, alloc: Global, lines: &mut Lines, back: usize) -> Beginning {
+    fn beginning(self, lines: &mut Lines, back: usize) -> Beginning {
         let between = self.text_between(back, self.start(0));
         let fault = self.word(0);
-        Beginning::of(alloc, lines, self.text, self.before(back), between, fault)
+        Beginning::of(lines, self.text, self.before(back), between, fault)
     }
 
     /// The token `back` tokens before the one at fault; none after the last.
@@ -124,10 +118,8 @@ impl<'t> Stop<'t> {
 
     /// Adds what to do with a record that is given as a text, and whether there is one.
     fn push_record(self, lines: &mut Lines) -> bool {
-        let is_record = match self.text.get(self.start(0)..) {
-            Some(from) => from.starts_with("scoop record "),
-            None => false,
-        };
+        let from = self.text_between(0, self.text.len());
+        let is_record = from.starts_with("scoop record ");
         if is_record {
             lines.push("help: this is a record, which `scoop replay RECORD FILE..` plays\n")
         }
@@ -136,12 +128,11 @@ impl<'t> Stop<'t> {
 
     /// Adds what is written in place of a number with a point, and whether there is one.
     fn push_real(self, lines: &mut Lines) -> bool {
-        if let Some(TokenKind::Integer(_)) = self.kind(1)
-            && let Some(TokenKind::Terminal(Terminal::Dot)) = self.kind(0)
-        {
-            push_instead_of(lines, "real")
-        } else {
-            false
+        match (self.kind(1), self.kind(0)) {
+            (Some(TokenKind::Integer(_)), Some(TokenKind::Terminal(Terminal::Dot))) => {
+                push_instead_of(lines, "real")
+            }
+            _ => false,
         }
     }
 
@@ -223,10 +214,10 @@ impl<'t> Stop<'t> {
 
     /// Adds which word was meant, where a system goes on further with one that is near to one written here, and whether
     /// there is one.
-    fn push_meant(self, alloc: Global, lines: &mut Lines) -> bool {
+    fn push_meant(self, lines: &mut Lines) -> bool {
         for back in 0..4_usize {
             if let Some(word) = self.near(back)
-                && self.is_better(alloc, lines, back, word)
+                && self.is_better(lines, back, word)
             {
                 push_meant(lines, word);
                 return true;
@@ -244,8 +235,8 @@ impl<'t> Stop<'t> {
     }
 
     /// Whether a system goes on further with this word in place of the token `back` tokens before the one at fault.
-    fn is_better(self, alloc: Global, lines: &mut Lines, back: usize, word: &str) -> bool {
-        let beginning = self.beginning(alloc, lines, back);
+    fn is_better(self, lines: &mut Lines, back: usize, word: &str) -> bool {
+        let beginning = self.beginning(lines, back);
         beginning.is_short() && beginning.goes_on(lines, word, self.text_behind(back))
     }
 

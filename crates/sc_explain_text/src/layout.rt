@@ -10,7 +10,10 @@ use std::alloc::Global;
 /// What tokens have opened and ended.
 #[derive(Drop)]
 pub struct Layout {
-    open: Vec<Opening>,
+    /// The innermost construct that is open.
+    innermost: Option<Opening>,
+    /// Those around it, the outermost first.
+    outer: Vec<Opening>,
     /// The first construct that was ended by an `end` further left than its own would be.
     early: Option<Span>,
     /// The first `if` after an `else` in the same line, since the end of the last routine.
@@ -22,7 +25,7 @@ pub struct Layout {
     /// The whole instructions after that, in their order: after each of these another one follows or may begin.
     pub whole: Vec<Part>,
     /// Whether memory was refused to some of it.
-    pub is_lacking: bool,
+    is_lacking: bool,
 }
 
 /// Tokens in a row: the number of the first, and of the one after the last.
@@ -54,58 +57,69 @@ enum Step {
 
 /// The innermost construct that has begun in these tokens of a text and hasn't ended there, or one whose `end` was taken
 /// for another's, where the layout shows it. The lines lack something where memory runs out.
-pub fn open_construct(
-    alloc: Global,
-    lines: &mut Lines,
-    text: &str,
-    tokens: &[Token],
-) -> Option<Related> {
-    let layout = Layout::of(alloc, text, tokens);
-    if layout.is_lacking {
-        lines.lack();
-    }
-    layout.still_open()
+pub fn open_construct(lines: &mut Lines, text: &str, tokens: &[Token]) -> Option<Related> {
+    Layout::of(lines, text, tokens).still_open()
 }
 
 impl Layout {
-    /// That of these tokens of a text.
-    pub fn of(alloc: Global, text: &str, tokens: &[Token]) -> Self {
-        let mut layout = Layout {
-            open: Vec::new(alloc),
-            early: None,
-            else_if: None,
-            settled: 0,
-            is_in_class: false,
-            whole: Vec::new(alloc),
-            is_lacking: false,
-        };
+    /// That of these tokens of a text. The lines lack something where memory runs out.
+    pub fn of(lines: &mut Lines, text: &str, tokens: &[Token]) -> Self {
+        let mut layout = Self::new(lines.alloc());
+        layout.take_all(text, tokens);
+        if layout.is_lacking {
+            lines.lack();
+        }
+        layout
+    }
+
+    /// Takes these tokens of a text.
+    fn take_all(&mut self, text: &str, tokens: &[Token]) {
         let mut margin = Margin::new();
         let mut last = None;
         let mut is_value = false;
         for (number, token) in tokens.iter().enumerate() {
             margin.go_on(text, token.span.start as usize);
             if is_value && begins_behind_value(token) {
-                layout.reach(number);
+                self.reach(number);
             }
             let terminal = terminal_of(token);
             if let Some(terminal) = terminal {
-                if terminal == Terminal::If && last == Some(Terminal::Else) {
-                    layout.note_else_if(margin, token.span);
-                }
-                let step = step_of(terminal, last, layout.open.last());
-                layout.take(step, text, margin, number, token.span);
-                layout.turn(terminal, last, number);
+                let step = step_of(terminal, last, self.innermost);
+                self.note_else_if(terminal, last, margin, token.span);
+                self.take(step, text, margin, number, token.span);
+                self.turn(terminal, last, number);
             }
             last = terminal;
             is_value = ends_value(token);
         }
-        layout.close();
-        layout
+        self.close()
+    }
+
+    /// That of no token.
+    fn new(alloc: Global) -> Self {
+        Layout {
+            innermost: None,
+            outer: Vec::new(alloc),
+            early: None,
+            else_if: None,
+            settled: 0,
+            is_in_class: false,
+            whole: Vec::new(alloc),
+            is_lacking: false,
+        }
     }
 
     /// Notes an `if` after an `else`, if it is the first in one line with that.
-    fn note_else_if(&mut self, margin: Margin, span: Span) {
-        if !margin.is_blank && self.else_if.is_none() {
+    fn note_else_if(
+        &mut self,
+        terminal: Terminal,
+        last: Option<Terminal>,
+        margin: Margin,
+        span: Span,
+    ) {
+        if let (Terminal::If, Some(Terminal::Else), None) = (terminal, last, self.else_if)
+            && !margin.is_blank
+        {
             self.else_if = Some(span);
         }
     }
@@ -113,14 +127,14 @@ impl Layout {
     /// The construct that hasn't ended.
     fn still_open(&self) -> Option<Related> {
         if let Some(span) = self.else_if
-            && (self.early.is_some() || self.open.len() == 1)
+            && (self.early.is_some() || self.depth() == 1)
         {
             return Some(Related {
                 what: "`else if` begins an `if` that needs an `end` of its own; `elseif` needs none",
                 span,
             });
         }
-        match (self.open.last(), self.early) {
+        match (self.innermost, self.early) {
             (None, _) => None,
             (Some(_), Some(span)) => Some(Related {
                 what: "what begins here has no `end` of its own, as the lines stand",
@@ -135,10 +149,10 @@ impl Layout {
 
     /// The instructions of the innermost construct are whole up to the token of this number, if it is in some.
     fn reach(&mut self, number: usize) {
-        if let Some(opening) = self.open.last_mut()
-            && let Some(whole) = &mut opening.whole
+        if let Some(opening) = self.innermost
+            && let Some(Part { start, .. }) = opening.whole
         {
-            whole.end = number;
+            self.set_whole(Some(Part { start, end: number }))
         }
     }
 
@@ -146,16 +160,18 @@ impl Layout {
     /// number, after this one.
     fn turn(&mut self, terminal: Terminal, last: Option<Terminal>, number: usize) {
         let behind = number.saturating_add(1);
-        match terminal {
-            Terminal::Do | Terminal::From | Terminal::Loop => self.begin(behind),
-            Terminal::Then if last != Some(Terminal::And) => self.begin(behind),
-            Terminal::Else if last != Some(Terminal::Or) => {
+        match (terminal, last) {
+            (Terminal::Then, Some(Terminal::And)) | (Terminal::Else, Some(Terminal::Or)) => {}
+            (Terminal::Do | Terminal::From | Terminal::Loop | Terminal::Then, _) => {
+                self.begin(behind)
+            }
+            (Terminal::Else, _) => {
                 self.close();
                 self.begin(behind)
             }
-            Terminal::Elseif | Terminal::Until | Terminal::Ensure => self.close(),
-            Terminal::Create => self.reach(number),
-            Terminal::Semicolon => self.reach(behind),
+            (Terminal::Elseif | Terminal::Until | Terminal::Ensure, _) => self.close(),
+            (Terminal::Create, _) => self.reach(number),
+            (Terminal::Semicolon, _) => self.reach(behind),
             _ => {}
         }
     }
@@ -176,7 +192,7 @@ impl Layout {
 
     /// These are the whole ones of the instructions that the innermost construct is in.
     fn set_whole(&mut self, whole: Option<Part>) {
-        if let Some(opening) = self.open.last_mut() {
+        if let Some(opening) = &mut self.innermost {
             opening.whole = whole;
         }
     }
@@ -184,7 +200,7 @@ impl Layout {
     /// Notes the whole ones of the instructions that the innermost construct is in. Those of constructs that have ended in
     /// them are among them.
     fn note_whole(&mut self) {
-        if let Some(opening) = self.open.last()
+        if let Some(opening) = self.innermost
             && let Some(part) = opening.whole
         {
             self.forget_from(part.start);
@@ -214,7 +230,7 @@ impl Layout {
                 self.open(margin, span, waits_for_do)
             }
             Step::Does => {
-                if let Some(opening) = self.open.last_mut() {
+                if let Some(opening) = &mut self.innermost {
                     opening.waits_for_do = false;
                 }
             }
@@ -225,39 +241,45 @@ impl Layout {
 
     /// Begins a construct.
     fn open(&mut self, margin: Margin, span: Span, waits_for_do: bool) {
-        let least = self.least(margin);
-        let opened = self.open.push(Opening {
+        let least = if self.depth() == 1 {
+            margin.indent.min(1)
+        } else {
+            margin.indent
+        };
+        if let Some(around) = self.innermost
+            && self.outer.push(around).is_err()
+        {
+            self.is_lacking = true;
+        }
+        self.innermost = Some(Opening {
             span,
             whole: None,
             waits_for_do,
             least,
-        });
-        if opened.is_err() {
-            self.is_lacking = true;
-        }
+        })
     }
 
-    /// The least column at which the `end` of what begins here is expected.
-    fn least(&self, margin: Margin) -> usize {
-        if self.open.len() == 1 {
-            margin.indent.min(1)
-        } else {
-            margin.indent
+    /// How many constructs are open.
+    fn depth(&self) -> usize {
+        match self.innermost {
+            None => 0,
+            Some(_) => self.outer.len().saturating_add(1),
         }
     }
 
     /// Ends the innermost construct by an `end`, the token of this number.
     fn end(&mut self, text: &str, margin: Margin, number: usize) {
-        let Some(opening) = self.open.pop() else {
+        let Some(opening) = self.innermost else {
             return;
         };
+        self.innermost = self.outer.pop();
         let behind = number.saturating_add(1);
         self.reach(behind);
         let is_early = margin.is_blank && margin.indent < opening.least;
         if is_early && self.early.is_none() {
             self.early = Some(opening.span);
         }
-        let depth = self.open.len();
+        let depth = self.depth();
         if depth == 0 || depth == 1 && !is_early && is_routine(text, opening.span) {
             self.settle(behind, depth == 1);
         }
@@ -308,7 +330,7 @@ fn begins_behind_value(token: &Token) -> bool {
     }
 }
 
-fn step_of(terminal: Terminal, last: Option<Terminal>, open: Option<&Opening>) -> Step {
+fn step_of(terminal: Terminal, last: Option<Terminal>, open: Option<Opening>) -> Step {
     match terminal {
         Terminal::Class | Terminal::If | Terminal::From | Terminal::Check => Step::Opens(false),
         Terminal::Redefine => Step::Opens(false),

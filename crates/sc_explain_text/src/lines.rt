@@ -23,6 +23,11 @@ impl Lines {
         }
     }
 
+    /// Where their memory is from.
+    pub fn alloc(&self) -> Global {
+        self.alloc
+    }
+
     /// Whether there are none.
     pub fn is_empty(&self) -> bool {
         self.bytes.is_empty()

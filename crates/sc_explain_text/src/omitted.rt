@@ -8,7 +8,7 @@ use std::alloc::{AllocError, Global};
 /// The number of comments in a text, and whether it has notes, a line for each. Its canonical text has none of them.
 pub fn left_out(alloc: Global, text: &str) -> Result<Vec<u8>, AllocError> {
     let mut lines = Lines::new(alloc);
-    if let Some(tokens) = tokens_of(alloc, &mut lines, text) {
+    if let Some(tokens) = tokens_of(&mut lines, text) {
         push_left_out(&mut lines, text, &tokens);
     }
     lines.finish()

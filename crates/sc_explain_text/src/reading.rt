@@ -8,8 +8,8 @@ use sc_tree::System;
 use std::alloc::{AllocError, Global};
 
 /// The tokens of a text, if it has some. The lines lack something where memory runs out.
-pub fn tokens_of(alloc: Global, lines: &mut Lines, text: &str) -> Option<Vec<Token>> {
-    match lex(alloc, text) {
+pub fn tokens_of(lines: &mut Lines, text: &str) -> Option<Vec<Token>> {
+    match lex(lines.alloc(), text) {
         Ok(tokens) => Some(tokens),
         Err(LexFault::OutOfMemory) => {
             lines.lack();
