@@ -1,22 +1,22 @@
 //! What is said of the failure of a handler: its cause, where the handler stood, and for whom it ran.
 
 use crate::history::{Begun, Turn, last_turn, served_before};
+use crate::listing::Listing;
 use crate::naming::Asked;
+use crate::places::{push_excerpt, push_place, written};
 use crate::scene::Scene;
+use crate::supplier::supplier_of;
+use crate::words::{false_clause, push_clause, push_site};
 use sc_code::{RoutineText, SiteKind, TextSite};
 use sc_explain_text::{Lines, find};
 use sc_lockpass::HandlerNumber;
 use sc_model::Cause;
 use sc_region::{Breakdown, BrokenInvariant, Errand, Point};
-use sc_source::excerpt;
-use sc_text::Span;
 use sc_world::code_of;
 
 /// A failure of a handler.
 #[derive(Clone, Copy)]
-pub struct Failure<'r> {
-    /// The end of the run.
-    pub ended: &'r Scene<'r>,
+pub struct Failure {
     pub handler: HandlerNumber,
     pub cause: Cause,
     /// The turn by which the handler failed.
@@ -35,24 +35,44 @@ pub fn push_failure(
     cause: Cause,
 ) {
     push_cause(lines, handler, cause);
-    let log = ended.log;
+    if let Some(failure) = failure_of(ended, handler, cause) {
+        failure.push_stood(lines, &ended.listing);
+        if let Some(before) = before {
+            failure.push_values(lines, ended, before)
+        }
+        if failure.turn.is_behind {
+            push_needed(lines, cause, supplier_of(ended.core, ended.log, handler))
+        }
+        if let Some(asked) = failure.asked {
+            push_served(lines, &ended.listing, asked)
+        }
+        if let Some(before) = before {
+            failure.push_clients(lines, before, ended.log);
+            failure.push_dropped(lines, before)
+        }
+    }
+    lines.fill_name("`scoop explain ~` says more\n", code_of(cause))
+}
+
+/// The failure of a handler by this cause.
+fn failure_of(ended: &Scene<'_>, handler: HandlerNumber, cause: Cause) -> Option<Failure> {
     if let Some(breakdown) = ended.world.breakdown(handler)
-        && let Some(turn) = last_turn(log, handler)
+        && let Some(turn) = last_turn(ended.log, handler)
     {
-        let failure = Failure {
-            ended,
+        let asked = match served_before(ended.log, handler, ended.log.len()) {
+            Some(served) => Some(served.asked),
+            None => None,
+        };
+        Some(Failure {
             handler,
             cause,
             turn,
             breakdown,
-            asked: match served_before(log, handler, log.len()) {
-                Some(served) => Some(served.asked),
-                None => None,
-            },
-        };
-        failure.tell(lines, before)
+            asked,
+        })
+    } else {
+        None
     }
-    lines.fill_name("`scoop explain ~` says more\n", code_of(cause))
 }
 
 /// Adds by what a handler has failed: the heading of the page of that, and what it says first.
@@ -66,54 +86,45 @@ fn push_cause(lines: &mut Lines, handler: HandlerNumber, cause: Cause) {
     }
 }
 
-impl<'r> Failure<'r> {
-    /// Adds where the handler stood and for whom it ran, with what there was in front of that, if it is given.
-    fn tell(&self, lines: &mut Lines, before: Option<&Scene<'_>>) {
-        self.push_stood(lines);
-        if let Some(before) = before {
-            self.push_values(lines, before)
-        }
-        if self.turn.is_behind {
-            self.push_needed(lines)
-        }
-        if let Some(asked) = self.asked {
-            self.push_served(lines, asked)
-        }
-        if let Some(before) = before {
-            self.push_clients(lines, before);
-            self.push_dropped(lines, before)
-        }
-    }
-
+impl Failure {
     /// Adds where a routine stood, or what was asked for where none ran, and which invariant was broken.
-    fn push_stood(&self, lines: &mut Lines) {
+    fn push_stood(&self, lines: &mut Lines, listing: &Listing<'_>) {
         match (self.turn.begun, self.breakdown.point) {
-            (Begun::Takes(_), _) if !self.turn.is_behind => self.push_at_once(lines),
-            (_, Some(point)) => self.push_point(lines, point),
+            (Begun::Takes(_), _) if !self.turn.is_behind => self.push_at_once(lines, listing),
+            (_, Some(point)) => self.push_point(lines, listing, point),
             _ => {}
         }
         if let Some(broken) = self.breakdown.invariant {
-            self.push_invariant(lines, broken)
+            push_invariant(lines, listing, broken)
         }
     }
 
     /// Adds the place of a routine whose handler failed at an operation or after it.
-    fn push_point(&self, lines: &mut Lines, point: Point) {
-        let scene = self.ended;
-        if let Some(text) = scene.text_of(point.routine)
+    fn push_point(&self, lines: &mut Lines, listing: &Listing<'_>, point: Point) {
+        if let Some(text) = listing.text_of(point.routine)
             && let Some(site) = self.site_of(text, point.place)
         {
+            let source = listing.source;
             let is_entry = matches!(self.cause, Cause::SupplierFailed) && point.place == 0;
-            let span = if is_entry { text.name } else { site.span };
-            scene.push_place(lines, "", span);
-            let names = [scene.written(text.name), scene.class_name(text.class)];
+            let part = if is_entry { text.name } else { site.span };
+            push_place(lines, source, "", part);
+            let names = [written(source, text.name), listing.class_name(text.class)];
             lines.fill(": in `~` of ~, ", &names);
-            if is_entry {
-                lines.push("which reserves the handlers of its formals")
-            } else {
-                scene.push_site(lines, text, site.kind, self.cause)
+            match site.kind {
+                _ if is_entry => lines.push("which reserves the handlers of its formals"),
+                SiteKind::Clause(assertion, tag) => {
+                    let tag = match tag {
+                        Some(tag) => Some(tag.span()),
+                        None => None,
+                    };
+                    push_clause(lines, source, tag);
+                    let is_own = text.contract_class == text.class;
+                    let class = listing.class_name(text.contract_class);
+                    lines.fill_name(false_clause(assertion, is_own), class)
+                }
+                kind => push_site(lines, source, kind, self.cause),
             }
-            push_excerpt(scene, lines, span)
+            push_excerpt(lines, source, part)
         }
     }
 
@@ -134,71 +145,68 @@ impl<'r> Failure<'r> {
             .copied()
     }
 
-    /// Adds which clause of a class invariant is false.
-    fn push_invariant(&self, lines: &mut Lines, broken: BrokenInvariant) {
-        let scene = self.ended;
-        if let Some(clause) = scene.own_clause(broken.declarer, broken.clause) {
-            let class = broken.class as usize;
-            let around = scene.class_around(clause.span);
-            scene.push_place(lines, "", clause.span);
-            lines.push(": ");
-            scene.push_clause(lines, clause.tag);
-            lines.fill_name(" of the invariant of ~", scene.class_name(class));
-            scene.push_false(lines, around, class == around);
-            push_excerpt(scene, lines, clause.span)
-        }
-    }
-
     /// Adds where the attribute is declared that was asked for while it was Void: no routine ran for that.
-    fn push_at_once(&self, lines: &mut Lines) {
-        let scene = self.ended;
+    fn push_at_once(&self, lines: &mut Lines, listing: &Listing<'_>) {
         if let (Cause::UnsetEntity, Some(asked)) = (self.cause, self.asked)
             && let Errand::Calls(_) = asked.errand
-            && let Some(name) = scene.asked_feature(asked)
+            && let Some(name) = listing.asked_feature(asked)
         {
-            let class = scene.class_name(scene.class_around(name));
-            scene.push_place(lines, "", name);
-            lines.fill(": `~` of ~ is read", &[scene.written(name), class]);
-            push_excerpt(scene, lines, name)
-        }
-    }
-
-    /// Adds whose request it was that the handler served.
-    fn push_served(&self, lines: &mut Lines, asked: Asked) {
-        let Some(poster) = asked.poster else {
-            return lines.push("it was creating the root object\n");
-        };
-        let template = match asked.errand {
-            Errand::Calls(_) => "it served handler ~, which asked for ",
-            Errand::Makes(Some(_)) => "it served handler ~, which asked for its creation by ",
-            Errand::Makes(None) => {
-                let template = "it served handler ~, which asked for its creation\n";
-                return lines.fill_number(template, poster as u64);
-            }
-        };
-        lines.fill_number(template, poster as u64);
-        self.ended.push_feature(lines, asked);
-        lines.push("\n")
-    }
-
-    /// Adds which handler was needed, if the handler failed after an operation.
-    fn push_needed(&self, lines: &mut Lines) {
-        let template = match self.cause {
-            Cause::SupplierFailed => "it needed handler ~, which has failed\n",
-            Cause::Precondition => "it needed handler ~, which refused\n",
-            _ => return,
-        };
-        if let Some(supplier) = self.ended.supplier_of(self.handler) {
-            lines.fill_number(template, supplier as u64)
+            let class = listing.class_name(listing.class_around(name));
+            push_place(lines, listing.source, "", name);
+            lines.fill(
+                ": `~` of ~ is read",
+                &[written(listing.source, name), class],
+            );
+            push_excerpt(lines, listing.source, name)
         }
     }
 }
 
-/// Ends a line about a part of the text, and adds the line of that, with carets.
-fn push_excerpt(scene: &Scene<'_>, lines: &mut Lines, span: Span) {
-    lines.push("\n");
-    match excerpt(scene.alloc, scene.source.text().as_bytes(), span) {
-        Ok(shown) => lines.push_bytes(shown.as_slice()),
-        Err(_) => lines.lack(),
+/// Adds which clause of a class invariant is false.
+fn push_invariant(lines: &mut Lines, listing: &Listing<'_>, broken: BrokenInvariant) {
+    if let Some(clause) = listing.own_clause(broken.declarer, broken.clause) {
+        let class = broken.class as usize;
+        let around = listing.class_around(clause.span);
+        push_place(lines, listing.source, "", clause.span);
+        lines.push(": ");
+        push_clause(lines, listing.source, clause.tag);
+        let template = if class == around {
+            " of the invariant of ~ is false"
+        } else {
+            " of the invariant of ~ from ~ is false"
+        };
+        let names = [listing.class_name(class), listing.class_name(around)];
+        lines.fill(template, &names);
+        push_excerpt(lines, listing.source, clause.span)
+    }
+}
+
+/// Adds whose request it was that a failed handler served.
+fn push_served(lines: &mut Lines, listing: &Listing<'_>, asked: Asked) {
+    let Some(poster) = asked.poster else {
+        return lines.push("it was creating the root object\n");
+    };
+    let template = match asked.errand {
+        Errand::Calls(_) => "it served handler ~, which asked for ",
+        Errand::Makes(Some(_)) => "it served handler ~, which asked for its creation by ",
+        Errand::Makes(None) => {
+            let template = "it served handler ~, which asked for its creation\n";
+            return lines.fill_number(template, poster as u64);
+        }
+    };
+    lines.fill_number(template, poster as u64);
+    listing.push_feature(lines, asked);
+    lines.push("\n")
+}
+
+/// Adds which handler was needed by one that failed after an operation.
+fn push_needed(lines: &mut Lines, cause: Cause, supplier: Option<HandlerNumber>) {
+    let template = match cause {
+        Cause::SupplierFailed => "it needed handler ~, which has failed\n",
+        Cause::Precondition => "it needed handler ~, which refused\n",
+        _ => return,
+    };
+    if let Some(supplier) = supplier {
+        lines.fill_number(template, supplier as u64)
     }
 }

@@ -1,7 +1,6 @@
 //! Which handler waits for which: cycles, and the chains that lead to them or to one that waits for something else.
 
-use crate::scene::Scene;
-use crate::waits::{Wait, keeper_of, wait_of};
+use crate::waits::{Wait, count_of, keeper_of, wait_of};
 use sc_explain_text::Lines;
 use sc_lockpass::HandlerNumber;
 use sc_request::Core;
@@ -50,19 +49,19 @@ pub struct Path {
 /// The handlers of a world, in order of number.
 #[derive(Drop)]
 pub struct Chains {
-    count: HandlerNumber,
+    pub count: HandlerNumber,
     members: Vec<Member>,
 }
 
 impl Chains {
     /// The chains of a world, none of them reported. If memory is refused, the lines are incomplete.
-    pub fn of(scene: &Scene<'_>, lines: &mut Lines) -> Chains {
+    pub fn of(core: &Core, lines: &mut Lines) -> Chains {
         let mut chains = Chains {
-            count: scene.handlers,
-            members: Vec::new(scene.alloc),
+            count: count_of(core),
+            members: Vec::new(lines.alloc()),
         };
         for handler in 0..chains.count {
-            let wait = wait_of(scene, handler);
+            let wait = wait_of(core, handler);
             let member = Member {
                 wait,
                 next: None,
@@ -73,7 +72,7 @@ impl Chains {
                 lines.lack()
             }
         }
-        chains.link(scene.core);
+        chains.link(core);
         chains
     }
 

@@ -1,29 +1,19 @@
 //! What is said of a clause that is false, and which values the parts of a text had.
 
-use crate::evaluation::{Evaluation, Frame, Goal, Start, push_evaluated};
-use crate::scene::{Scene, span_in};
-use sc_code::{FeatureCode, NameNumber, RoutineText, SiteKind};
+use crate::evaluation::{Evaluation, Goal, Start, push_evaluated};
+use crate::places::{push_place, span_in, written};
+use crate::scene::Scene;
+use sc_code::{FeatureCode, NameNumber, Program, RoutineText, SiteKind};
 use sc_explain_text::Lines;
 use sc_lockpass::HandlerNumber;
-use sc_region::{Point, Reference, Value};
+use sc_region::{Reference, Value};
+use sc_source::source::Source;
 use sc_text::Span;
 
 /// The most values that are shown.
 const MOST_VALUES: usize = 8;
 
 impl<'r> Scene<'r> {
-    /// Adds which clause of the precondition of the routine that a handler is in is false, with the values of what it
-    /// names, on a line, as far as that is found on the objects as they are; else nothing.
-    pub fn push_false_clause(&self, lines: &mut Lines, handler: HandlerNumber) {
-        push_evaluated(self, lines, handler, Start::Place(0), Goal::FalseClause)
-    }
-
-    /// Adds which clause is false by which a handler refuses the request that it serves, and since when a handler is held
-    /// that the clause names, as far as that is found.
-    pub fn push_refused_clause(&self, lines: &mut Lines, handler: HandlerNumber) {
-        push_evaluated(self, lines, handler, Start::Place(0), Goal::RefusedClause)
-    }
-
     /// Adds the values that the topmost routine of a handler reads and calls for the operation at a place of it, if it
     /// gets there without asking other handlers, and takes this answer first if one has come: a line, or nothing.
     pub fn push_operation_values(
@@ -36,15 +26,9 @@ impl<'r> Scene<'r> {
         if let Some(standing) = self.standing_of(handler)
             && let Some(site) = standing.text.sites.get(place)
         {
+            let first = first_place(standing.text, place, site.span);
             let start = match site.kind {
-                SiteKind::Clause(_, _) => {
-                    let first = first_place(standing.text, place, site.span);
-                    if first < standing.place {
-                        Start::Place(first)
-                    } else {
-                        Start::Here(answer)
-                    }
-                }
+                SiteKind::Clause(_, _) if first < standing.place => Start::Place(first),
                 _ => Start::Here(answer),
             };
             push_evaluated(self, lines, handler, start, Goal::Place(place, site.span))
@@ -53,8 +37,8 @@ impl<'r> Scene<'r> {
 
     /// Adds the values that the attributes of an object have which a part of the text names: a line, or nothing.
     pub fn push_attributes(&self, lines: &mut Lines, object: Reference, part: Span) {
-        let mut told = Vec::new(self.alloc);
-        let text = self.written(part);
+        let mut told = Vec::new(lines.alloc());
+        let text = written(self.listing.source, part);
         let mut start = 0_usize;
         for at in 0..text.len().saturating_add(1) {
             let is_in_name = match text.as_bytes().get(at) {
@@ -80,11 +64,9 @@ impl<'r> Scene<'r> {
         name: &'r str,
         told: &mut Vec<&'r str>,
     ) {
-        if let Some(number) = self.number_of(name)
-            && let Some(FeatureCode::Attribute(attribute)) = self.feature_in(
-                object.class as usize,
-                number,
-            )
+        let class = object.class as usize;
+        if let Some(number) = number_of(self.listing.program, name)
+            && let Some(FeatureCode::Attribute(attribute)) = self.listing.feature_in(class, number)
             && let Some(value) = self.stored(object, attribute)
             && !matches!(value, Value::Attached(_))
             && is_new(lines, told, name)
@@ -93,67 +75,61 @@ impl<'r> Scene<'r> {
             push_value(lines, value)
         }
     }
-
-    /// The number of a name of the program.
-    fn number_of(&self, name: &str) -> Option<NameNumber> {
-        let mut number: NameNumber = 0;
-        for other in self.program.pool().names.iter() {
-            if other.as_str().eq_ignore_ascii_case(name) {
-                return Some(number);
-            }
-            number = number.saturating_add(1);
-        }
-        None
-    }
 }
 
-impl<'r> Evaluation<'r> {
-    /// Adds what is said at a goal that is reached.
-    pub fn tell(&self, lines: &mut Lines, goal: Goal) {
-        match goal {
-            Goal::Place(_, whole) => {
-                if self.push_values(lines, "where ", whole) {
+/// The number of a name of the program.
+fn number_of(program: &Program, name: &str) -> Option<NameNumber> {
+    let mut number: NameNumber = 0;
+    for other in program.pool().names.iter() {
+        if other.as_str().eq_ignore_ascii_case(name) {
+            return Some(number);
+        }
+        number = number.saturating_add(1);
+    }
+    None
+}
+
+impl Evaluation {
+    /// Adds what is said at a goal that is reached: on a line, or nothing.
+    pub fn tell(&self, lines: &mut Lines, source: &Source, text: &RoutineText, goal: Goal) {
+        match (goal, span_in(text, self.frame.place)) {
+            (Goal::Place(_, whole), _) => {
+                if self.push_values(lines, source, text, "where ", whole) {
                     lines.push("\n")
                 }
             }
-            Goal::FalseClause => self.push_false(lines),
-            Goal::RefusedClause => {
-                self.push_false(lines);
-                let Frame { routine, place, .. } = self.frame;
-                self.scene.push_held_since(
-                    lines,
-                    self.frame.current.handler,
-                    Point { routine, place },
-                )
+            (_, Some(clause)) => {
+                push_place(lines, source, "", clause);
+                lines.push(": `");
+                lines.push_flat(written(source, clause));
+                lines.push("` is false");
+                self.push_values(lines, source, text, ": ", clause);
+                lines.push("\n")
             }
-        }
-    }
-
-    /// Adds that the clause is false which the routine has reached.
-    fn push_false(&self, lines: &mut Lines) {
-        if let Some(span) = span_in(self.text, self.frame.place) {
-            self.scene.push_place(lines, "", span);
-            lines.push(": `");
-            lines.push_flat(self.scene.written(span));
-            lines.push("` is false");
-            self.push_values(lines, ": ", span);
-            lines.push("\n")
+            (_, None) => {}
         }
     }
 
     /// Adds what was read and called in a part of the text, each once, as far as it is no object. Returns whether there
     /// is such a thing.
-    fn push_values(&self, lines: &mut Lines, before: &str, whole: Span) -> bool {
-        let first = first_place(self.text, self.frame.place, whole);
-        let mut told = Vec::new(self.scene.alloc);
+    fn push_values(
+        &self,
+        lines: &mut Lines,
+        source: &Source,
+        text: &RoutineText,
+        before: &str,
+        whole: Span,
+    ) -> bool {
+        let first = first_place(text, self.frame.place, whole);
+        let mut told = Vec::new(lines.alloc());
         let mut separator = before;
         for seen in self.seen.iter() {
             if first <= seen.place
                 && told.len() < MOST_VALUES
-                && let Some(span) = span_in(self.text, seen.place)
+                && let Some(span) = span_in(text, seen.place)
                 && is_within(span, whole)
             {
-                let part = self.scene.written(span);
+                let part = written(source, span);
                 if is_new(lines, &mut told, part) {
                     lines.push(separator);
                     lines.push_flat(part);

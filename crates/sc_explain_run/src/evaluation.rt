@@ -2,11 +2,12 @@
 //! are.
 
 use crate::scene::Scene;
-use sc_code::{FeatureCode, NameNumber, Operation, RoutineText};
+use sc_code::{CallSite, FeatureCode, NameNumber, ObjectTest, Operation, Program};
 use sc_explain_text::Lines;
 use sc_lockpass::HandlerNumber;
-use sc_region::{Activation, Reference, Value};
+use sc_region::{Activation, Point, Reference, Value};
 use sc_text::Span;
+use std::alloc::Global;
 
 /// How many operations are gone through at most.
 const MOST_OPERATIONS: usize = 100_000;
@@ -65,12 +66,19 @@ pub struct Write {
     pub value: Value,
 }
 
-/// What is evaluated: a routine of the program of a world, on the objects of that.
+/// A feature that is called on an object. The values from `floor` on are those that the call takes, and from `slots` on
+/// the actuals.
+#[derive(Clone, Copy)]
+struct Call {
+    object: Reference,
+    name: NameNumber,
+    floor: usize,
+    slots: usize,
+}
+
+/// Routines that are gone through, without the objects that they read.
 #[derive(Drop)]
-pub struct Evaluation<'r> {
-    pub scene: &'r Scene<'r>,
-    /// The text of the outermost routine.
-    pub text: &'r RoutineText,
+pub struct Evaluation {
     /// The routine that runs.
     pub frame: Frame,
     /// Those that wait for it to end, the outermost first.
@@ -102,40 +110,47 @@ pub fn push_evaluated(
     let (Some(top), Some(current)) = (store.top(), store.current()) else {
         return;
     };
-    let Some(text) = scene.text_of(top.routine) else {
+    let Some(text) = scene.listing.text_of(top.routine) else {
         return;
     };
-    let mut evaluation = Evaluation {
-        scene,
-        text,
-        frame: Frame {
-            routine: top.routine,
-            current,
-            place: top.place,
-            floor: 0,
-            slots: 0,
-            olds: 0,
-            result: top.result,
-        },
-        callers: Vec::new(scene.alloc),
-        values: Vec::new(scene.alloc),
-        olds: Vec::new(scene.alloc),
-        seen: Vec::new(scene.alloc),
-        writes: Vec::new(scene.alloc),
-        is_lacking: false,
-    };
-    evaluation.begin(top, start);
-    if evaluation.reaches(goal) {
-        evaluation.tell(lines, goal)
+    let mut evaluation = Evaluation::of(lines.alloc(), top, current);
+    evaluation.begin(scene.listing.program, top, start);
+    if evaluation.reaches(scene, goal) {
+        evaluation.tell(lines, scene.listing.source, text, goal);
+        if let Goal::RefusedClause = goal {
+            let Frame { routine, place, .. } = evaluation.frame;
+            scene.push_held_since(lines, current.handler, Point { routine, place })
+        }
     }
     if evaluation.is_lacking {
         lines.lack()
     }
 }
 
-impl<'r> Evaluation<'r> {
+impl Evaluation {
+    /// Of the topmost routine of a handler, without any values.
+    fn of(alloc: Global, top: &Activation, current: Reference) -> Evaluation {
+        Evaluation {
+            frame: Frame {
+                routine: top.routine,
+                current,
+                place: top.place,
+                floor: 0,
+                slots: 0,
+                olds: 0,
+                result: top.result,
+            },
+            callers: Vec::new(alloc),
+            values: Vec::new(alloc),
+            olds: Vec::new(alloc),
+            seen: Vec::new(alloc),
+            writes: Vec::new(alloc),
+            is_lacking: false,
+        }
+    }
+
     /// Puts the outermost routine at its start, with its values.
-    fn begin(&mut self, top: &Activation, start: Start) {
+    fn begin(&mut self, program: &Program, top: &Activation, start: Start) {
         for slot in top.slots.iter() {
             self.push(*slot);
         }
@@ -147,13 +162,19 @@ impl<'r> Evaluation<'r> {
         }
         match start {
             Start::Place(place) => self.frame.place = place,
-            Start::Here(answer) => self.take_operands(top, answer),
+            Start::Here(answer) => {
+                let is_behind_call = match top.place.checked_sub(1) {
+                    Some(place) => is_call(operation_at(program, top.routine, place)),
+                    None => false,
+                };
+                self.take_operands(top, answer, is_behind_call)
+            }
         }
     }
 
     /// The outermost routine gets its operands, and an answer that has come. If it is after a call, the last of them is
     /// the call's result.
-    fn take_operands(&mut self, top: &Activation, answer: Option<Value>) {
+    fn take_operands(&mut self, top: &Activation, answer: Option<Value>, is_behind_call: bool) {
         let mut last = None;
         for below in (0..top.operands.len()).rev() {
             last = top.operands.under(below);
@@ -164,49 +185,172 @@ impl<'r> Evaluation<'r> {
             self.push(value);
         }
         if let Some(value) = last
-            && top.place > 0
-            && let Some(Operation::CallFeature(_) | Operation::CallRoutine(_)) = self.operation_at(
-                top.place - 1,
-            )
+            && is_behind_call
         {
             self.note(value)
         }
     }
 
     /// Evaluates the outermost routine up to the goal. Returns whether it gets there.
-    fn reaches(&mut self, goal: Goal) -> bool {
+    fn reaches(&mut self, scene: &Scene<'_>, goal: Goal) -> bool {
         for _operation in 0..MOST_OPERATIONS {
-            if self.is_at(goal) {
+            let Frame { routine, place, .. } = self.frame;
+            let operation = operation_at(scene.listing.program, routine, place);
+            if self.is_at(goal, operation) {
                 return true;
             }
-            if self.is_lacking || !self.advance() {
+            let Some(operation) = operation else {
+                return false;
+            };
+            if self.is_lacking || !self.advance(scene, operation) {
                 return false;
             }
         }
         false
     }
 
-    /// Whether the outermost routine runs and is at the goal.
-    fn is_at(&self, goal: Goal) -> bool {
-        let place = self.frame.place;
-        match goal {
+    /// Whether the outermost routine runs and is at the goal, before this operation.
+    fn is_at(&self, goal: Goal, operation: Option<Operation>) -> bool {
+        match (goal, operation, self.values.last()) {
             _ if !self.callers.is_empty() => false,
-            Goal::Place(goal, _) => place == goal,
-            Goal::FalseClause | Goal::RefusedClause => match (
-                self.operation_at(place),
-                self.values.last(),
-            ) {
-                (Some(Operation::Demand(_)), Some(Value::Boolean(holds))) => !*holds,
-                _ => false,
-            },
+            (Goal::Place(goal, _), _, _) => self.frame.place == goal,
+            (_, Some(Operation::Demand(_)), Some(Value::Boolean(holds))) => !*holds,
+            _ => false,
         }
     }
 
-    /// The operation at a place of the routine that runs.
-    pub fn operation_at(&self, place: usize) -> Option<Operation> {
-        match self.scene.program.routine(self.frame.routine) {
-            Some(routine) => routine.operations.get(place).copied(),
-            None => None,
+    /// Executes the next operation, which is this one. Returns whether the evaluation can go on.
+    fn advance(&mut self, scene: &Scene<'_>, operation: Operation) -> bool {
+        let pool = scene.listing.program.pool();
+        self.pass(1);
+        match operation {
+            Operation::PushAttribute { name, .. } => {
+                let count = self.values.len();
+                let object = self.frame.current;
+                self.make(
+                    scene,
+                    Call {
+                        object,
+                        name,
+                        floor: count,
+                        slots: count,
+                    },
+                )
+            }
+            Operation::CallRoutine(number) | Operation::CallFeature(number) => {
+                let has_target = matches!(operation, Operation::CallFeature(_));
+                match self.call_of(pool.calls.get(number), has_target) {
+                    Some(call) => self.make(scene, call),
+                    None => false,
+                }
+            }
+            Operation::Test(number) => match pool.tests.get(number) {
+                Some(ObjectTest { tested: None, slot }) => self.test(*slot),
+                _ => false,
+            },
+            operation => self.execute(operation),
+        }
+    }
+
+    /// The call at a site, on a target or on Current, if there is one.
+    fn call_of(&self, site: Option<&CallSite>, has_target: bool) -> Option<Call> {
+        let Some(site) = site else {
+            return None;
+        };
+        let name = site.name;
+        let Some(slots) = self.values.len().checked_sub(site.count) else {
+            return None;
+        };
+        if !has_target {
+            let object = self.frame.current;
+            return Some(Call {
+                object,
+                name,
+                floor: slots,
+                slots,
+            });
+        }
+        if let Some(floor) = slots.checked_sub(1)
+            && let Some(Value::Attached(object)) = self.values.get(floor).copied()
+        {
+            Some(Call {
+                object,
+                name,
+                floor,
+                slots,
+            })
+        } else {
+            None
+        }
+    }
+
+    /// Makes a call. Returns whether the evaluation can go on.
+    fn make(&mut self, scene: &Scene<'_>, call: Call) -> bool {
+        let Call { object, name, .. } = call;
+        match scene.listing.feature_in(object.class as usize, name) {
+            Some(FeatureCode::Attribute(number)) => {
+                let value = self
+                    .written_last(object, name)
+                    .or(scene.stored(object, number));
+                self.values.truncate(call.floor);
+                self.read(value)
+            }
+            Some(FeatureCode::Routine(routine)) => match scene.listing.program.routine(routine) {
+                Some(code) => {
+                    let initial = match code.result {
+                        Some((default, _)) => Some(Value::of_default(default)),
+                        None => None,
+                    };
+                    self.enter(call, routine, code.slots, initial)
+                }
+                None => false,
+            },
+            None => false,
+        }
+    }
+
+    /// What the attribute of this name of an object got on the way, if it got something.
+    fn written_last(&self, object: Reference, name: NameNumber) -> Option<Value> {
+        let mut value = None;
+        for write in self.writes.iter() {
+            if write.object == object && write.name == name {
+                value = Some(write.value);
+            }
+        }
+        value
+    }
+
+    /// Enters a routine with this number of slots, whose Result begins so. Returns whether the evaluation can go on.
+    fn enter(&mut self, call: Call, routine: usize, slots: usize, initial: Option<Value>) -> bool {
+        if let Err(_) = self.callers.push(self.frame) {
+            self.is_lacking = true
+        }
+        self.frame = Frame {
+            routine,
+            current: call.object,
+            place: 0,
+            floor: call.floor,
+            slots: call.slots,
+            olds: self.olds.len(),
+            result: initial,
+        };
+        for _slot in self.values.len()..call.slots.saturating_add(slots) {
+            self.push(Value::Void);
+        }
+        self.callers.len() < MOST_FRAMES
+    }
+
+    /// Ends the routine, and gives its result to its caller. Returns whether there are both.
+    pub fn exit(&mut self) -> bool {
+        let ended = self.frame;
+        match self.callers.pop() {
+            Some(caller) => {
+                self.values.truncate(ended.floor);
+                self.olds.truncate(ended.olds);
+                self.frame = caller;
+                self.read(ended.result)
+            }
+            None => false,
         }
     }
 
@@ -258,75 +402,20 @@ impl<'r> Evaluation<'r> {
         }
         true
     }
+}
 
-    /// The attribute of this name and number of an object, with what it got on the way.
-    fn attribute(&self, object: Reference, name: NameNumber, number: usize) -> Option<Value> {
-        let mut value = self.scene.stored(object, number);
-        for write in self.writes.iter() {
-            if write.object == object && write.name == name {
-                value = Some(write.value);
-            }
-        }
-        value
+/// The operation at a place of a routine.
+fn operation_at(program: &Program, routine: usize, place: usize) -> Option<Operation> {
+    match program.routine(routine) {
+        Some(routine) => routine.operations.get(place).copied(),
+        None => None,
     }
+}
 
-    /// Calls a feature of an object. The values from `floor` on are those that the call takes, and from `slots` on the
-    /// actuals. Returns whether the evaluation can go on.
-    pub fn call(
-        &mut self,
-        object: Reference,
-        name: NameNumber,
-        floor: usize,
-        slots: usize,
-    ) -> bool {
-        match self.scene.feature_in(object.class as usize, name) {
-            Some(FeatureCode::Attribute(number)) => {
-                let value = self.attribute(object, name, number);
-                self.values.truncate(floor);
-                self.read(value)
-            }
-            Some(FeatureCode::Routine(routine)) => self.enter(object, routine, floor, slots),
-            None => false,
-        }
-    }
-
-    /// Enters a routine on an object. Returns whether the evaluation can go on.
-    fn enter(&mut self, object: Reference, routine: usize, floor: usize, slots: usize) -> bool {
-        let Some(code) = self.scene.program.routine(routine) else {
-            return false;
-        };
-        if let Err(_) = self.callers.push(self.frame) {
-            self.is_lacking = true
-        }
-        self.frame = Frame {
-            routine,
-            current: object,
-            place: 0,
-            floor,
-            slots,
-            olds: self.olds.len(),
-            result: match code.result {
-                Some((default, _)) => Some(Value::of_default(default)),
-                None => None,
-            },
-        };
-        for _slot in self.values.len()..slots.saturating_add(code.slots) {
-            self.push(Value::Void);
-        }
-        self.callers.len() < MOST_FRAMES
-    }
-
-    /// Ends the routine, and gives its result to its caller. Returns whether there are both.
-    pub fn exit(&mut self) -> bool {
-        let ended = self.frame;
-        match self.callers.pop() {
-            Some(caller) => {
-                self.values.truncate(ended.floor);
-                self.olds.truncate(ended.olds);
-                self.frame = caller;
-                self.read(ended.result)
-            }
-            None => false,
-        }
+/// Whether this is an operation that calls.
+fn is_call(operation: Option<Operation>) -> bool {
+    match operation {
+        Some(Operation::CallFeature(_) | Operation::CallRoutine(_)) => true,
+        _ => false,
     }
 }

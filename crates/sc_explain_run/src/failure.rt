@@ -69,7 +69,7 @@ fn push_note(lines: &mut Lines, played: Played<'_>, replay: &mut Replay<'_>) {
     push_idle(lines, replay.idle);
     let ended = replay.scene();
     push_moments(&ended, lines, played);
-    push_limit(&ended, lines, played);
+    push_limit(lines, ended.core, played.limit, played.lines);
     push_waits(&ended, lines)
 }
 

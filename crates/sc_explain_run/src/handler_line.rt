@@ -1,10 +1,14 @@
 //! What is said of one handler of a world that has stopped.
 
+use crate::evaluation::{Goal, Start, push_evaluated};
+use crate::naming::queued_at;
+use crate::places::push_stand;
 use crate::scene::Scene;
 use crate::waits::{Wait, keeper_of};
 use sc_explain_text::Lines;
 use sc_lockpass::HandlerNumber;
 use sc_model::Status;
+use sc_request::Core;
 
 /// How many handlers a list names at most.
 const MOST_LISTED: usize = 8;
@@ -12,35 +16,34 @@ const MOST_LISTED: usize = 8;
 impl<'r> Scene<'r> {
     /// Adds a handler: what it holds, what it waits for, and its place.
     pub fn push_handler(&self, lines: &mut Lines, handler: HandlerNumber, wait: Wait) {
-        self.push_name(lines, "handler ~", handler);
+        let standing = self.standing_of(handler);
+        self.named(handler).push(lines, "handler ~");
         self.push_held(lines, handler);
         match wait {
             Wait::Nothing => {}
-            Wait::Busy => self.push_busy(lines, handler),
+            Wait::Busy => {
+                lines.push(" is busy");
+                if standing.is_none()
+                    && let Some(asked) = queued_at(self.core, handler, 0)
+                {
+                    lines.push(": it is to take ");
+                    self.push_request(lines, asked)
+                }
+            }
             Wait::Reservation => self.push_wanted(lines, handler),
             Wait::Condition => {
                 self.push_wanted(lines, handler);
                 lines.push(" until the precondition holds")
             }
             Wait::Answer(supplier) => {
-                self.push_name(lines, " waits for the answer of ~", supplier)
+                self.named(supplier)
+                    .push(lines, " waits for the answer of ~")
             }
         }
-        self.push_stand(lines, handler);
+        push_stand(lines, self.listing.source, standing);
         lines.push("\n");
         if let Wait::Condition = wait {
-            self.push_false_clause(lines, handler)
-        }
-    }
-
-    /// Adds that a handler is busy, and what it is to take, if it has no routine.
-    fn push_busy(&self, lines: &mut Lines, handler: HandlerNumber) {
-        lines.push(" is busy");
-        if let Some(asked) = self.queued_at(handler, 0)
-            && self.standing_of(handler).is_none()
-        {
-            lines.push(": it is to take ");
-            self.push_request(lines, asked)
+            push_evaluated(self, lines, handler, Start::Place(0), Goal::FalseClause)
         }
     }
 
@@ -53,7 +56,7 @@ impl<'r> Scene<'r> {
                 && other == holder
             {
                 if count < MOST_LISTED {
-                    self.push_name(lines, template, handler);
+                    self.named(handler).push(lines, template);
                     template = ", ~";
                 }
                 count = count.saturating_add(1);
@@ -71,27 +74,15 @@ impl<'r> Scene<'r> {
         let mut template = " waits for ~";
         let needed = self.core.needed_by(handler);
         for one in needed.as_slice() {
-            self.push_name(lines, template, *one);
-            self.push_keeper(lines, *one);
+            self.named(*one).push(lines, template);
+            push_keeper(lines, self.core, *one);
             template = ", and for ~";
-        }
-    }
-
-    /// Adds who keeps others from reserving a handler: the one that holds it, or itself.
-    fn push_keeper(&self, lines: &mut Lines, handler: HandlerNumber) {
-        match (keeper_of(self.core, handler), self.world.status(handler)) {
-            (None, _) => {}
-            (Some(keeper), _) if keeper != handler => {
-                lines.fill_number(", held by ~", keeper as u64)
-            }
-            (Some(_), Some(Status::Busy)) => lines.push(", which is busy"),
-            (Some(_), _) => lines.push(", which waits itself"),
         }
     }
 
     /// Adds the requests in the queue of a handler that waits, if there are any. Returns whether there are.
     pub fn push_requests(&self, lines: &mut Lines, handler: HandlerNumber) -> bool {
-        let Some(asked) = self.queued_at(handler, 0) else {
+        let Some(asked) = queued_at(self.core, handler, 0) else {
             return false;
         };
         let count = self.core.queue_len(handler);
@@ -101,7 +92,7 @@ impl<'r> Scene<'r> {
             "~ requests stand at handler "
         };
         lines.fill_number(template, count as u64);
-        self.push_name(lines, "~", handler);
+        self.named(handler).push(lines, "~");
         lines.push(if count == 1 {
             ", which can't take any: "
         } else {
@@ -110,5 +101,15 @@ impl<'r> Scene<'r> {
         self.push_request(lines, asked);
         lines.push("\n");
         true
+    }
+}
+
+/// Adds who keeps others from reserving a handler: the one that holds it, or itself.
+fn push_keeper(lines: &mut Lines, core: &Core, handler: HandlerNumber) {
+    match (keeper_of(core, handler), core.status(handler)) {
+        (None, _) => {}
+        (Some(keeper), _) if keeper != handler => lines.fill_number(", held by ~", keeper as u64),
+        (Some(_), Some(Status::Busy)) => lines.push(", which is busy"),
+        (Some(_), _) => lines.push(", which waits itself"),
     }
 }

@@ -1,10 +1,10 @@
 //! The turns of a run that concern one handler.
 
 use crate::naming::{Asked, asked_by};
+use sc_code::ClassNumber;
 use sc_handler::{Log, Settlement};
 use sc_lockpass::HandlerNumber;
-use sc_model::Cause;
-use sc_region::{Errand, Job, Value, Want};
+use sc_region::{Errand, Job, Reference, Value, Want};
 
 /// A turn of a handler: what it had to do, and what that came to.
 #[derive(Clone, Copy)]
@@ -38,15 +38,27 @@ pub struct Served {
     pub place: usize,
 }
 
+/// What a handler asks another one for.
+#[derive(Clone, Copy)]
+pub struct Sent {
+    /// The object that it asks, or that is to be made.
+    pub target: Reference,
+    pub errand: Errand,
+    /// Whether it waits for the answer.
+    pub is_waited: bool,
+}
+
 /// What a turn came to.
 #[derive(Clone, Copy)]
 pub enum Ended {
-    /// It asked this handler for something.
-    Asks(HandlerNumber),
-    /// A handler was to be created.
-    Creates,
+    /// It asked another handler for something.
+    Asks(Sent),
+    /// A handler was to be created, for an object of this class.
+    Creates(ClassNumber),
     /// Handlers were to be reserved.
     Reserves,
+    /// A wait condition was false.
+    Waits,
     /// The request ended.
     Done,
     /// It was refused.
@@ -61,14 +73,19 @@ pub fn turn_of(log: &Log, handler: HandlerNumber, place: usize) -> Option<Turn> 
         && other == handler
         && let Some(settlement) = log.get(place)
     {
-        Some(Turn {
-            place,
-            begun: begun_by(&settlement.job, place),
-            ended: ended_by(&settlement.want),
-            is_behind: is_behind(&settlement),
-        })
+        Some(turn_by(&settlement, place))
     } else {
         None
+    }
+}
+
+/// The turn at a place that came to this.
+pub fn turn_by(settlement: &Settlement, place: usize) -> Turn {
+    Turn {
+        place,
+        begun: begun_by(&settlement.job, place),
+        ended: ended_by(&settlement.want),
+        is_behind: is_behind(settlement),
     }
 }
 
@@ -89,9 +106,14 @@ fn begun_by(job: &Job, place: usize) -> Begun {
 /// The result of a turn that asked for this.
 fn ended_by(want: &Want) -> Ended {
     match want {
-        Want::Post(request) | Want::Ask { request, .. } => Ended::Asks(request.target.handler),
-        Want::Create { .. } => Ended::Creates,
+        Want::Post(request) | Want::Ask { request, .. } => Ended::Asks(Sent {
+            target: request.target,
+            errand: request.errand,
+            is_waited: request.is_waited,
+        }),
+        Want::Create { class, .. } => Ended::Creates(*class),
         Want::Reserve(handlers) if !handlers.is_empty() => Ended::Reserves,
+        Want::Wait(_) => Ended::Waits,
         Want::Done { refused: true, .. } => Ended::Refuses,
         Want::Done { .. } => Ended::Done,
         _ => Ended::Other,
@@ -99,7 +121,7 @@ fn ended_by(want: &Want) -> Ended {
 }
 
 /// Whether a handler that failed by this turn was after an operation, and failed by its result in another handler.
-pub fn is_behind(settlement: &Settlement) -> bool {
+fn is_behind(settlement: &Settlement) -> bool {
     match (&settlement.job, &settlement.want) {
         (Job::Failed | Job::Refused, _) => true,
         (_, Want::Fail(_)) => false,

@@ -1,10 +1,10 @@
 //! The note on a run that didn't end.
 
-use crate::failure::Played;
-use crate::scene::Scene;
+use crate::waits::{count_of, is_any_busy};
 use sc_audit::RecordLine;
 use sc_explain_text::Lines;
 use sc_model::Status;
+use sc_request::Core;
 
 /// The most turns that a run may make.
 const MOST_TURNS: u32 = 10_000_000;
@@ -23,13 +23,13 @@ pub enum Limit {
 }
 
 /// Adds how many turns were made, where a handler still has something to do, and what helps.
-pub fn push_limit(ended: &Scene<'_>, lines: &mut Lines, played: Played<'_>) {
-    if !ended.is_any_busy() {
+pub fn push_limit(lines: &mut Lines, core: &Core, limit: Limit, record: &[RecordLine]) {
+    if !is_any_busy(core) {
         return;
     }
-    let made = turns_of(played.lines);
-    let template = match (played.limit, made) {
-        (Limit::Stuck, _) => return push_going_on(ended, lines),
+    let made = turns_of(record);
+    let template = match (limit, made) {
+        (Limit::Stuck, _) => return push_going_on(lines, core),
         (Limit::Output, _) => return,
         (Limit::Record, 1) => "stopped limit: the record ends behind ~ turn\n",
         (Limit::Record, _) => "stopped limit: the record ends behind ~ turns\n",
@@ -37,7 +37,7 @@ pub fn push_limit(ended: &Scene<'_>, lines: &mut Lines, played: Played<'_>) {
         (Limit::Turns(_), _) => "stopped limit: ~ turns",
     };
     lines.fill_number(template, made);
-    if let Limit::Turns(limit) = played.limit {
+    if let Limit::Turns(limit) = limit {
         lines.fill_number(used_up(limit, made), MOST_TURNS as u64)
     }
 }
@@ -52,10 +52,10 @@ fn turns_of(record: &[RecordLine]) -> u64 {
 }
 
 /// Adds which handlers go on beside one that waits for good.
-fn push_going_on(ended: &Scene<'_>, lines: &mut Lines) {
+fn push_going_on(lines: &mut Lines, core: &Core) {
     let mut template = "handler ~";
-    for handler in 0..ended.handlers {
-        if let Some(Status::Busy) = ended.world.status(handler) {
+    for handler in 0..count_of(core) {
+        if let Some(Status::Busy) = core.status(handler) {
             lines.fill_number(template, handler as u64);
             template = ", handler ~";
         }

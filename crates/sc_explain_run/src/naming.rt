@@ -1,13 +1,56 @@
-//! How handlers, requests and places of the text are named.
+//! How handlers and requests are named.
 
-use crate::scene::{Scene, span_in, span_of};
+use crate::listing::Listing;
+use crate::places::{push_place, span_in, written};
+use crate::scene::Scene;
+use sc_code::ClassNumber;
 use sc_explain_text::Lines;
 use sc_lockpass::HandlerNumber;
-use sc_region::{Activation, Errand, Request, Stage};
+use sc_region::{Errand, Request, Stage};
+use sc_request::Core;
 use sc_text::Span;
 
 /// The most callers of a routine that are reported.
 const MOST_CALLERS: usize = 16;
+
+/// A handler, and the class of its root object, if it has one.
+#[derive(Clone, Copy)]
+pub struct Named<'r> {
+    number: HandlerNumber,
+    class: Option<&'r str>,
+}
+
+impl<'r> Named<'r> {
+    /// The handler of this number, whose root object is of this class.
+    pub fn of(
+        listing: &Listing<'r>,
+        number: HandlerNumber,
+        class: Option<ClassNumber>,
+    ) -> Named<'r> {
+        let class = match class {
+            Some(class) => Some(listing.class_name(class as usize)),
+            None => None,
+        };
+        Named { number, class }
+    }
+
+    /// Adds these words with the number of the handler in the place of `~`, and then the class.
+    pub fn push(&self, lines: &mut Lines, template: &str) {
+        lines.fill_number(template, self.number as u64);
+        if let Some(class) = self.class {
+            lines.fill_name(" (~)", class)
+        }
+    }
+
+    /// Adds the class and then the number.
+    pub fn push_class_first(&self, lines: &mut Lines) {
+        match self.class {
+            Some(class) => lines.fill_name("~ ", class),
+            None => lines.push("handler "),
+        }
+        lines.push_number(self.number as u64)
+    }
+}
 
 /// What is asked for, and by whom.
 #[derive(Clone, Copy)]
@@ -27,15 +70,15 @@ pub fn asked_by(request: &Request) -> Asked {
     }
 }
 
-impl<'r> Scene<'r> {
-    /// Adds these words with the number of a handler in the place of `~`, and the class of its root object.
-    pub fn push_name(&self, lines: &mut Lines, template: &str, handler: HandlerNumber) {
-        lines.fill_number(template, handler as u64);
-        if let Some(class) = self.root_class(handler) {
-            lines.fill_name(" (~)", self.class_name(class as usize))
-        }
+/// What the request at a place of the queue of a handler asks for, from 0, which is taken next.
+pub fn queued_at(core: &Core, handler: HandlerNumber, place: usize) -> Option<Asked> {
+    match core.asked_at(handler, place) {
+        Some(request) => Some(asked_by(&request)),
+        None => None,
     }
+}
 
+impl<'r> Listing<'r> {
     /// What is asked for, as it is declared: the name of the feature, or of the creation procedure; None for a
     /// creation without one.
     pub fn asked_feature(&self, asked: Asked) -> Option<Span> {
@@ -45,41 +88,34 @@ impl<'r> Scene<'r> {
         }
     }
 
-    /// What the request at a place of the queue of a handler asks for, from 0, which is taken next.
-    pub fn queued_at(&self, handler: HandlerNumber, place: usize) -> Option<Asked> {
-        match self.core.asked_at(handler, place) {
-            Some(request) => Some(asked_by(&request)),
-            None => None,
-        }
-    }
-
     /// Adds the feature that is asked for, as the text has it.
     pub fn push_feature(&self, lines: &mut Lines, asked: Asked) {
         match self.asked_feature(asked) {
             None => lines.push("a feature"),
-            Some(name) => lines.fill_name("`~`", self.written(name)),
+            Some(name) => lines.fill_name("`~`", written(self.source, name)),
         }
     }
 
+    /// Adds the place of the operation before this one of a routine, which has called another one there.
+    fn push_caller(&self, lines: &mut Lines, routine: usize, next: usize) {
+        if let Some(text) = self.text_of(routine)
+            && let Some(part) = span_in(text, next.saturating_sub(1))
+        {
+            push_place(lines, self.source, "called at ", part);
+            lines.fill_name(" in ~\n", written(self.source, text.name))
+        }
+    }
+}
+
+impl<'r> Scene<'r> {
     /// Adds what is asked for, and for whom.
     pub fn push_request(&self, lines: &mut Lines, asked: Asked) {
         match asked.errand {
             Errand::Makes(_) => lines.push("its creation"),
-            Errand::Calls(_) => self.push_feature(lines, asked),
+            Errand::Calls(_) => self.listing.push_feature(lines, asked),
         }
         if let Some(poster) = asked.poster {
-            self.push_name(lines, " for ~", poster)
-        }
-    }
-
-    /// Adds the place of a handler in the text, if it has frames.
-    pub fn push_stand(&self, lines: &mut Lines, handler: HandlerNumber) {
-        let standing = self.standing_of(handler);
-        if let Some(span) = span_of(standing)
-            && let Some(standing) = standing
-        {
-            self.push_place(lines, ", at ", span);
-            lines.fill_name(" in ~", self.written(standing.text.name))
+            self.named(poster).push(lines, " for ~")
         }
     }
 
@@ -95,30 +131,11 @@ impl<'r> Scene<'r> {
                     if count > MOST_CALLERS {
                         return lines.push("and so on\n");
                     }
-                    self.push_caller(lines, caller)
+                    self.listing
+                        .push_caller(lines, caller.routine, caller.place)
                 }
                 _ => return,
             }
-        }
-    }
-
-    /// Adds the place of a routine that has called another one.
-    fn push_caller(&self, lines: &mut Lines, caller: &Activation) {
-        if let Some(text) = self.text_of(caller.routine)
-            && let Some(span) = span_in(text, caller.place.saturating_sub(1))
-        {
-            self.push_place(lines, "called at ", span);
-            lines.fill_name(" in ~\n", self.written(text.name))
-        }
-    }
-
-    /// Adds the file, the line and the column at which a part of the text begins, after these words.
-    pub fn push_place(&self, lines: &mut Lines, before: &str, part: Span) {
-        if let Some(place) = self.source.place_of(part.start as usize) {
-            lines.push(before);
-            lines.push(place.file);
-            lines.fill_number(":~:", place.line as u64);
-            lines.push_number(place.column as u64)
         }
     }
 }

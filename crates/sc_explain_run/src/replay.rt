@@ -1,9 +1,11 @@
 //! A run that is played once more.
 
+use crate::listing::Listing;
 use crate::scene::Scene;
+use crate::waits::count_of;
 use sc_audit::RecordLine;
 use sc_code::Program;
-use sc_lockpass::{HandlerNumber, Version};
+use sc_lockpass::Version;
 use sc_source::source::Source;
 use sc_world::{Turned, World};
 use std::alloc::{AllocError, Global};
@@ -13,8 +15,7 @@ use std::alloc::{AllocError, Global};
 #[derive(Drop)]
 pub struct Replay<'r> {
     pub alloc: Global,
-    source: &'r Source,
-    program: &'r Program,
+    listing: Listing<'r>,
     pub world: World<'r>,
     /// The line of its record that is played, and how many turns of it are made.
     line: usize,
@@ -28,6 +29,16 @@ pub struct Replay<'r> {
 pub struct Idle {
     pub turns: u64,
     pub line: usize,
+}
+
+impl Idle {
+    /// Counts these turns of a line, since its handler has nothing to do any more.
+    fn add(&mut self, line: usize, turns: u32) {
+        if self.turns == 0 {
+            self.line = line
+        }
+        self.turns = self.turns.saturating_add(turns as u64)
+    }
 }
 
 impl<'r> Replay<'r> {
@@ -44,8 +55,7 @@ impl<'r> Replay<'r> {
         match World::open(alloc, program, version) {
             Ok(world) => Ok(Replay {
                 alloc,
-                source,
-                program,
+                listing: Listing { source, program },
                 world,
                 line: 0,
                 made: 0,
@@ -57,14 +67,13 @@ impl<'r> Replay<'r> {
 
     /// The run as it stands.
     pub fn scene(&self) -> Scene<'_> {
+        let core = self.world.core();
         Scene {
-            alloc: self.alloc,
-            source: self.source,
-            program: self.program,
+            listing: self.listing,
             world: &self.world,
-            core: self.world.core(),
+            core,
             log: self.world.log(),
-            handlers: self.world.handler_count().min(HandlerNumber::MAX as usize) as HandlerNumber,
+            handlers: count_of(core),
         }
     }
 
@@ -84,7 +93,8 @@ impl<'r> Replay<'r> {
                 match self.world.turn(line.handler) {
                     Ok(Turned::Moved) => {}
                     Ok(Turned::Nothing) => {
-                        self.leave_out(line.turns.saturating_sub(self.made));
+                        let turns = line.turns.saturating_sub(self.made);
+                        self.idle.add(self.line, turns);
                         break;
                     }
                     Err(error) => return Err(error),
@@ -95,13 +105,5 @@ impl<'r> Replay<'r> {
             self.made = 0;
         }
         Ok(())
-    }
-
-    /// Counts turns of the line that is played, since the handler has nothing to do any more.
-    fn leave_out(&mut self, turns: u32) {
-        if self.idle.turns == 0 {
-            self.idle.line = self.line
-        }
-        self.idle.turns = self.idle.turns.saturating_add(turns as u64)
     }
 }

@@ -2,16 +2,12 @@
 
 use crate::evaluation::{Evaluation, Write};
 use crate::operators::{binary_value, decided_by, unary_value};
-use sc_code::{NameNumber, ObjectTest, Operation};
+use sc_code::{NameNumber, Operation};
 use sc_region::Value;
 
-impl<'r> Evaluation<'r> {
-    /// Executes the next operation of the routine that runs. Returns whether the evaluation can go on.
-    pub fn advance(&mut self) -> bool {
-        let Some(operation) = self.operation_at(self.frame.place) else {
-            return false;
-        };
-        self.pass(1);
+impl Evaluation {
+    /// Executes an operation that calls nothing. Returns whether the evaluation can go on.
+    pub fn execute(&mut self, operation: Operation) -> bool {
         let value = match operation {
             Operation::PushInteger(value) => Value::Integer(value),
             Operation::PushBoolean(value) => Value::Boolean(value),
@@ -28,20 +24,14 @@ impl<'r> Evaluation<'r> {
             Operation::PushResult { .. } => self.frame.result,
             Operation::PushSlot { slot, .. } => value_at(&self.values, self.frame.slots, slot),
             Operation::PushOld(number) => value_at(&self.olds, self.frame.olds, number),
-            operation => return self.execute(operation),
+            operation => return self.go_on(operation),
         };
         self.read(value)
     }
 
     /// Executes an operation that reads no entity of the routine. Returns whether the evaluation can go on.
-    fn execute(&mut self, operation: Operation) -> bool {
+    fn go_on(&mut self, operation: Operation) -> bool {
         match operation {
-            Operation::PushAttribute { name, .. } => {
-                let count = self.values.len();
-                self.call(self.frame.current, name, count, count)
-            }
-            Operation::CallRoutine(number) => self.call_at(number, false),
-            Operation::CallFeature(number) => self.call_at(number, true),
             Operation::Initialize { value, slot } => self.put(slot, Value::of_default(value)),
             Operation::Conclude => true,
             Operation::Jump(passed) => self.pass(passed),
@@ -66,7 +56,6 @@ impl<'r> Evaluation<'r> {
                 Some(value) => self.push(value) && self.pass(passed),
                 None => true,
             },
-            (Operation::Test(number), _) => self.test(number, value),
             (Operation::StoreSlot(slot), _) => self.put(slot, value),
             (Operation::StoreAttribute(name), _) => self.write(name, value),
             (Operation::StoreResult, _) => {
@@ -94,7 +83,7 @@ impl<'r> Evaluation<'r> {
     }
 
     /// Skips this number of operations. Returns True.
-    fn pass(&mut self, passed: usize) -> bool {
+    pub fn pass(&mut self, passed: usize) -> bool {
         self.frame.place = self.frame.place.saturating_add(passed);
         true
     }
@@ -124,37 +113,13 @@ impl<'r> Evaluation<'r> {
         true
     }
 
-    /// Tests whether a value is Void. If it isn't, it is written to the slot of the test of this number. Returns whether
-    /// the evaluation can go on.
-    fn test(&mut self, number: usize, value: Value) -> bool {
-        match (self.scene.program.pool().tests.get(number), value) {
-            (Some(ObjectTest { tested: None, .. }), Value::Void) => {
-                self.push(Value::Boolean(false))
-            }
-            (Some(ObjectTest { tested: None, slot }), _) => {
-                self.put(*slot, value) && self.push(Value::Boolean(true))
-            }
-            _ => false,
-        }
-    }
-
-    /// Makes the call of this number, on a target or on Current. Returns whether the evaluation can go on.
-    fn call_at(&mut self, number: usize, has_target: bool) -> bool {
-        let Some(site) = self.scene.program.pool().calls.get(number) else {
-            return false;
-        };
-        let Some(slots) = self.values.len().checked_sub(site.count) else {
-            return false;
-        };
-        if !has_target {
-            return self.call(self.frame.current, site.name, slots, slots);
-        }
-        if slots > 0
-            && let Some(Value::Attached(object)) = value_at(&self.values, slots - 1, 0)
-        {
-            self.call(object, site.name, slots - 1, slots)
-        } else {
-            false
+    /// Tests whether the value that it takes is Void. If it isn't, it is written to this slot. Returns whether the
+    /// evaluation can go on.
+    pub fn test(&mut self, slot: usize) -> bool {
+        match self.values.pop() {
+            Some(Value::Void) => self.push(Value::Boolean(false)),
+            Some(value) => self.put(slot, value) && self.push(Value::Boolean(true)),
+            None => false,
         }
     }
 }

@@ -2,9 +2,10 @@
 
 use crate::chains::{Chains, Path};
 use crate::scene::Scene;
-use crate::waits::Wait;
+use crate::waits::{Wait, is_any_busy};
 use sc_explain_text::Lines;
 use sc_lockpass::HandlerNumber;
+use sc_request::Core;
 
 /// The most handlers that are reported, beside those of cycles.
 const MOST_TOLD: usize = 64;
@@ -14,26 +15,35 @@ const MOST_TOLD: usize = 64;
 /// that wait, each with the chain that it waits in, then those that are busy, and last the requests that no handler
 /// takes.
 pub fn push_waits(scene: &Scene<'_>, lines: &mut Lines) {
-    let mut note = Note {
-        scene,
-        chains: Chains::of(scene, lines),
-        heading: if scene.is_any_busy() {
-            "a wait condition that isn't true so far:\n"
-        } else {
-            "a wait condition that nobody is left to make true:\n"
-        },
-        room: MOST_TOLD,
-        left_out: 0,
-        room_of_requests: MOST_TOLD,
-    };
-    note.tell_each(lines, Part::Cycles);
-    note.tell_each(lines, Part::Conditions);
-    note.tell_each(lines, Part::Chains);
-    note.tell_each(lines, Part::Others);
-    if note.left_out > 0 {
-        lines.fill_number("and ~ more, which wait or are busy\n", note.left_out)
+    let order = Order::of(scene.core, lines);
+    push_order(scene, lines, &order)
+}
+
+/// Adds what is said of handlers in this order, and last the requests.
+fn push_order(scene: &Scene<'_>, lines: &mut Lines, order: &Order) {
+    for item in order.items.iter() {
+        match *item {
+            Item::Conditions => lines.push(if is_any_busy(scene.core) {
+                "a wait condition that isn't true so far:\n"
+            } else {
+                "a wait condition that nobody is left to make true:\n"
+            }),
+            Item::Path(first, path) => push_path(lines, &order.chains, first, path),
+            Item::Handler(handler, wait) => scene.push_handler(lines, handler, wait),
+        }
     }
-    note.tell_each(lines, Part::Requests)
+    if order.left_out > 0 {
+        lines.fill_number("and ~ more, which wait or are busy\n", order.left_out)
+    }
+    let mut room = MOST_TOLD;
+    for handler in 0..scene.handlers {
+        if room > 0
+            && order.chains.at(handler).wait.is_waiting()
+            && scene.push_requests(lines, handler)
+        {
+            room -= 1
+        }
+    }
 }
 
 /// A part of the report on handlers, one after the other.
@@ -48,114 +58,105 @@ enum Part {
     Chains,
     /// Those that wait or are busy and were not reported.
     Others,
-    /// The queues of those that wait.
-    Requests,
 }
 
-/// What the report is about.
+/// A piece of the report.
+#[derive(Clone, Copy)]
+enum Item {
+    /// That handlers wait for a condition.
+    Conditions,
+    /// Which handlers from this one on each wait for the next.
+    Path(HandlerNumber, Path),
+    /// A handler, and what it waits for.
+    Handler(HandlerNumber, Wait),
+}
+
+/// The order in which handlers are reported.
 #[derive(Drop)]
-struct Note<'r> {
-    scene: &'r Scene<'r>,
+struct Order {
     chains: Chains,
-    /// The words before the next handler that waits for a condition.
-    heading: &'static str,
-    /// Of how many handlers more is said.
+    items: Vec<Item>,
+    /// Whether one of them waits for a condition.
+    has_condition: bool,
+    /// How many handlers there is room for.
     room: usize,
-    /// Of how many nothing is said for lack of room.
+    /// How many are left out for lack of room.
     left_out: u64,
-    /// How many further handlers have their requests reported.
-    room_of_requests: usize,
 }
 
-impl<'r> Note<'r> {
-    fn tell_each(&mut self, lines: &mut Lines, part: Part) {
-        for handler in 0..self.scene.handlers {
-            self.tell_part(lines, part, handler)
+impl Order {
+    /// That of the handlers which wait or are busy. If memory is refused to it, the lines are incomplete.
+    fn of(core: &Core, lines: &mut Lines) -> Order {
+        let mut order = Order {
+            chains: Chains::of(core, lines),
+            items: Vec::new(lines.alloc()),
+            has_condition: false,
+            room: MOST_TOLD,
+            left_out: 0,
+        };
+        order.add_part(lines, Part::Cycles);
+        order.add_part(lines, Part::Conditions);
+        order.add_part(lines, Part::Chains);
+        order.add_part(lines, Part::Others);
+        order
+    }
+
+    /// Adds what a part says.
+    fn add_part(&mut self, lines: &mut Lines, part: Part) {
+        for handler in 0..self.chains.count {
+            let member = self.chains.at(handler);
+            match (part, member.wait) {
+                _ if member.is_told => {}
+                (Part::Others, Wait::Nothing) => {}
+                (Part::Others, _) => self.add_handler(lines, handler),
+                (Part::Conditions, Wait::Condition) => {
+                    if !self.has_condition {
+                        self.has_condition = true;
+                        self.add(lines, Item::Conditions)
+                    }
+                    self.add_handler(lines, handler)
+                }
+                (Part::Cycles | Part::Chains, wait) if wait.is_waiting() => {
+                    self.add_path(lines, part, handler)
+                }
+                _ => {}
+            }
         }
     }
 
-    /// What a part says of a handler, or from it on.
-    fn tell_part(&mut self, lines: &mut Lines, part: Part, handler: HandlerNumber) {
-        let member = self.chains.at(handler);
-        let is_waiting = member.wait.is_waiting();
-        match (part, member.wait) {
-            (Part::Requests, _) => {
-                if is_waiting
-                    && self.room_of_requests > 0
-                    && self.scene.push_requests(lines, handler)
-                {
-                    self.room_of_requests -= 1
-                }
+    /// Adds the cycle in which a handler waits for itself, if there is one, or else the chain that begins with it.
+    fn add_path(&mut self, lines: &mut Lines, part: Part, first: HandlerNumber) {
+        let path = self.chains.path_from(first);
+        match part {
+            Part::Cycles if path.is_cycle => {
+                self.add(lines, Item::Path(first, path));
+                // None of a cycle takes the room of others.
+                let room = self.room;
+                self.room = usize::MAX;
+                self.add_members(lines, first, path.length);
+                self.room = room
             }
-            (Part::Others, Wait::Nothing) => {}
-            (Part::Others, _) => self.tell(lines, handler),
-            (Part::Conditions, Wait::Condition) => {
-                lines.push(self.heading);
-                self.heading = "";
-                self.tell(lines, handler)
-            }
-            (Part::Cycles, _) if is_waiting && !member.is_told => self.tell_cycle(lines, handler),
-            (Part::Chains, _) if is_waiting && !member.is_told => {
-                if !self.chains.is_waited_for(handler) {
-                    self.tell_chain(lines, handler)
+            Part::Chains if !self.chains.is_waited_for(first) => {
+                if self.room > 0 && path.length > 1 {
+                    self.add(lines, Item::Path(first, path))
                 }
+                self.add_members(lines, first, path.length)
             }
             _ => {}
         }
     }
 
-    /// The cycle in which a handler waits for itself, if there is one, and each handler of it.
-    fn tell_cycle(&mut self, lines: &mut Lines, first: HandlerNumber) {
-        let path = self.chains.path_from(first);
-        if path.is_cycle {
-            self.push_path(lines, "deadlock: ~", first, path.length);
-            lines.fill_number(end_of(path), first as u64);
-            // None of a cycle takes the room of others.
-            let room = self.room;
-            self.room = usize::MAX;
-            self.tell_path(lines, first, path.length);
-            self.room = room
-        }
-    }
-
-    /// Reports the handlers from this one on that each wait for the next.
-    fn tell_chain(&mut self, lines: &mut Lines, first: HandlerNumber) {
-        let length = self.chains.path_from(first).length;
-        if self.room > 0 && length > 1 {
-            self.push_path(lines, "chain: ~", first, length);
-            lines.push(", each waits for the next one\n")
-        }
-        self.tell_path(lines, first, length)
-    }
-
-    /// Adds this number of handlers that each wait for the next, the first in place of `~` in these words.
-    fn push_path(
-        &self,
-        lines: &mut Lines,
-        template: &'static str,
-        first: HandlerNumber,
-        length: usize,
-    ) {
-        let mut template = template;
+    /// Adds this number of handlers that each wait for the next.
+    fn add_members(&mut self, lines: &mut Lines, first: HandlerNumber, length: usize) {
         let mut handler = first;
         for _member in 0..length {
-            lines.fill_number(template, handler as u64);
-            template = " -> ~";
+            self.add_handler(lines, handler);
             handler = self.chains.at(handler).next.unwrap_or(first);
         }
     }
 
-    /// Reports this number of handlers that each wait for the next.
-    fn tell_path(&mut self, lines: &mut Lines, first: HandlerNumber, length: usize) {
-        let mut handler = first;
-        for _member in 0..length {
-            self.tell(lines, handler);
-            handler = self.chains.at(handler).next.unwrap_or(first);
-        }
-    }
-
-    /// Reports a handler, if it wasn't reported and there is room.
-    fn tell(&mut self, lines: &mut Lines, handler: HandlerNumber) {
+    /// Adds a handler, if it wasn't added and there is room.
+    fn add_handler(&mut self, lines: &mut Lines, handler: HandlerNumber) {
         let member = self.chains.at(handler);
         if member.is_told {
             return;
@@ -165,16 +166,41 @@ impl<'r> Note<'r> {
             self.left_out = self.left_out.saturating_add(1);
         } else {
             self.room -= 1;
-            self.scene.push_handler(lines, handler, member.wait)
+            self.add(lines, Item::Handler(handler, member.wait))
+        }
+    }
+
+    fn add(&mut self, lines: &mut Lines, item: Item) {
+        if let Err(_) = self.items.push(item) {
+            lines.lack()
         }
     }
 }
 
-/// How the handlers of a cycle wait for each other, after the first of them in place of `~`.
-fn end_of(cycle: Path) -> &'static str {
-    match cycle.answers {
-        0 => " -> ~, each waits to reserve what the next one has\n",
-        answers if answers == cycle.length => " -> ~, each waits for the answer of the next one\n",
-        _ => " -> ~, each waits for the next one: for its answer, or to reserve it\n",
+/// Adds which handlers from this one on each wait for the next, and how those of a cycle wait for each other.
+fn push_path(lines: &mut Lines, chains: &Chains, first: HandlerNumber, path: Path) {
+    let mut template = if path.is_cycle {
+        "deadlock: ~"
+    } else {
+        "chain: ~"
+    };
+    let mut handler = first;
+    for _member in 0..path.length {
+        lines.fill_number(template, handler as u64);
+        template = " -> ~";
+        handler = chains.at(handler).next.unwrap_or(first);
+    }
+    lines.fill_number(end_of(path), first as u64)
+}
+
+/// How handlers wait for each other, after the first of them in place of `~`.
+fn end_of(path: Path) -> &'static str {
+    match (path.is_cycle, path.answers) {
+        (false, _) => ", each waits for the next one\n",
+        (true, 0) => " -> ~, each waits to reserve what the next one has\n",
+        (true, answers) if answers == path.length => {
+            " -> ~, each waits for the answer of the next one\n"
+        }
+        (true, _) => " -> ~, each waits for the next one: for its answer, or to reserve it\n",
     }
 }

@@ -2,6 +2,7 @@
 
 use crate::made_turn::{Earlier, MadeTurn};
 use crate::replay::Replay;
+use crate::scene::Scene;
 use crate::waiting::Waiting;
 use sc_audit::RecordLine;
 use sc_code::Program;
@@ -91,15 +92,30 @@ impl<'r> Tracer<'r> {
 
     /// Adds the description of a turn of a handler that was just made.
     fn tell(&mut self, lines: &mut Lines, handler: HandlerNumber, earlier: Earlier) {
-        let made = MadeTurn {
-            scene: self.replay.scene(),
-            handler,
-            number: self.turns,
+        tell_turn(
+            lines,
+            &self.replay.scene(),
+            (handler, self.turns),
             earlier,
-        };
-        made.tell_printed(lines);
-        if let Told::All = self.told {
-            made.tell_settled(lines, &mut self.waiting)
-        }
+            self.told,
+            &mut self.waiting,
+        )
+    }
+}
+
+/// Adds what a handler printed in its turn of this number, after which the run stands so, and all else of the turn if that
+/// is reported, too.
+fn tell_turn<'o>(
+    lines: &mut Lines,
+    scene: &Scene<'o>,
+    (handler, number): (HandlerNumber, u64),
+    earlier: Earlier,
+    told: Told,
+    waiting: &mut Waiting,
+) {
+    let made = MadeTurn::of(scene, handler, number, earlier);
+    made.tell_printed(lines);
+    if let Told::All = told {
+        made.tell_settled(lines, scene, waiting)
     }
 }

@@ -1,6 +1,5 @@
 //! What each handler waits for.
 
-use crate::scene::Scene;
 use sc_lockpass::HandlerNumber;
 use sc_model::Status;
 use sc_request::Core;
@@ -37,10 +36,24 @@ pub fn keeper_of(core: &Core, handler: HandlerNumber) -> Option<HandlerNumber> {
     }
 }
 
+/// How many handlers there are.
+pub fn count_of(core: &Core) -> HandlerNumber {
+    core.handler_count().min(HandlerNumber::MAX as usize) as HandlerNumber
+}
+
+/// Whether a handler has something to do.
+pub fn is_any_busy(core: &Core) -> bool {
+    for handler in 0..count_of(core) {
+        if let Some(Status::Busy) = core.status(handler) {
+            return true;
+        }
+    }
+    false
+}
+
 /// What a handler waits for.
-pub fn wait_of(scene: &Scene<'_>, handler: HandlerNumber) -> Wait {
-    let core = scene.core;
-    match scene.world.status(handler) {
+pub fn wait_of(core: &Core, handler: HandlerNumber) -> Wait {
+    match core.status(handler) {
         Some(Status::Busy) => Wait::Busy,
         Some(Status::Waiting) => match core.awaits(handler) {
             Some(supplier) => Wait::Answer(supplier),

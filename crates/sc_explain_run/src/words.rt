@@ -1,65 +1,44 @@
 //! A place of a routine, in words.
 
-use crate::scene::Scene;
-use sc_code::{Assertion, RoutineText, SiteKind};
+use crate::places::written;
+use sc_code::{Assertion, SiteKind};
 use sc_explain_text::{Lines, binary_spelling};
 use sc_model::Cause;
+use sc_source::source::Source;
 use sc_text::Span;
 use sc_tree::UnaryOperator;
 
-impl<'r> Scene<'r> {
-    /// Adds what is at a place of a routine whose handler failed there with this cause.
-    pub fn push_site(&self, lines: &mut Lines, text: &RoutineText, kind: SiteKind, cause: Cause) {
-        match kind {
-            SiteKind::Clause(assertion, tag) => {
-                let tag = match tag {
-                    Some(tag) => Some(tag.span()),
-                    None => None,
-                };
-                self.push_clause(lines, tag);
-                lines.push(of_assertion(assertion));
-                let is_own = matches!(assertion, Assertion::Check)
-                    || text.contract_class == text.class;
-                self.push_false(lines, text.contract_class, is_own)
-            }
-            kind => lines.fill_name(of_kind(kind, cause), self.name_at(kind)),
-        }
-    }
+/// Adds what is at a place of this kind of a routine whose handler failed there with this cause.
+pub fn push_site(lines: &mut Lines, source: &Source, kind: SiteKind, cause: Cause) {
+    lines.fill_name(of_kind(kind, cause), name_at(source, kind))
+}
 
-    /// The name or the operator at a place of this kind, if it has one.
-    fn name_at(&self, kind: SiteKind) -> &'r str {
-        match kind {
-            SiteKind::Name(name) | SiteKind::Call(name) => self.written(name.span()),
-            SiteKind::Unary(operator) => unary_spelling(operator),
-            SiteKind::Binary(operator) => binary_spelling(operator),
-            _ => "",
-        }
-    }
-
-    /// Adds the clause of this tag, or of none.
-    pub fn push_clause(&self, lines: &mut Lines, tag: Option<Span>) {
-        match tag {
-            None => lines.push("a clause"),
-            Some(tag) => lines.fill_name("the clause `~`", self.written(tag)),
-        }
-    }
-
-    /// Adds that a clause is false, and its class, unless that is reported anyway.
-    pub fn push_false(&self, lines: &mut Lines, class: usize, is_told: bool) {
-        let template = if is_told {
-            " is false"
-        } else {
-            " from ~ is false"
-        };
-        lines.fill_name(template, self.class_name(class))
+/// The name or the operator at a place of this kind, if it has one.
+fn name_at(source: &Source, kind: SiteKind) -> &str {
+    match kind {
+        SiteKind::Name(name) | SiteKind::Call(name) => written(source, name.span()),
+        SiteKind::Unary(operator) => unary_spelling(operator),
+        SiteKind::Binary(operator) => binary_spelling(operator),
+        _ => "",
     }
 }
 
-fn of_assertion(assertion: Assertion) -> &'static str {
-    match assertion {
-        Assertion::Precondition => " of the precondition",
-        Assertion::Check => " of the `check`",
-        Assertion::Postcondition => " of the postcondition",
+/// Adds the clause of this tag, or of none.
+pub fn push_clause(lines: &mut Lines, source: &Source, tag: Option<Span>) {
+    match tag {
+        None => lines.push("a clause"),
+        Some(tag) => lines.fill_name("the clause `~`", written(source, tag)),
+    }
+}
+
+/// That a clause is false, with `~` for its class, unless that is reported anyway.
+pub fn false_clause(assertion: Assertion, is_told: bool) -> &'static str {
+    match (assertion, is_told) {
+        (Assertion::Check, _) => " of the `check` is false",
+        (Assertion::Precondition, true) => " of the precondition is false",
+        (Assertion::Precondition, false) => " of the precondition from ~ is false",
+        (Assertion::Postcondition, true) => " of the postcondition is false",
+        (Assertion::Postcondition, false) => " of the postcondition from ~ is false",
     }
 }
 
