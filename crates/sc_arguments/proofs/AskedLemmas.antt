@@ -1,6 +1,7 @@
 -- What all arguments ask for.
-use Rattle.std.proofs.Common.{◌≡◌, ◌∙◌, ℕ, ◌≤◌, Bool, false, List, [], ◌∷◌, length, map, drop, get_or, Result, Ok, Err, IfOk, sym, ap, subst, arith}
-use Rattle.sc_arguments.specs.Asked.{IsAskedFor, IsAskedOf, asks_for_help}
+use Rattle.std.proofs.Common.{◌≡◌, ◌∙◌, ℕ, ◌==◌, ◌≤◌, Bool, false, List, [], ◌∷◌, Bor, length, map, drop, get_or, slice_index_or, Result, Ok, Err, IfOk, sym, ap, subst, arith}
+use Rattle.std.specs.List.{remove}
+use Rattle.sc_arguments.specs.Asked.{IsAskedFor, IsAskedOf, asks_for_help, texts_of}
 use Rattle.sc_arguments.specs.declared.arguments.Invocation.{Invocation}
 use Rattle.sc_arguments.specs.declared.arguments.UsageFault.{UsageFault}
 
@@ -15,3 +16,9 @@ asked-for text (x ∷ (y ∷ zs)) command d words name asks (Ok what) few first 
     let Q : List (List ℕ) → Type 0 = λ ws. IsAskedOf (text y) ws what in
     (sym help ∙ free, subst Q (ap (map text) rest) (subst P (same ∙ ap text first) asked))
 asked-for text (x ∷ (y ∷ zs)) command d words name asks (Err fault) few first rest same help free asked = tt
+
+-- the first that is given, and the rest
+pub first_apart : (given rest : List (Bor (List ℕ))) (first : Bor (List ℕ)) → (length given == 0) ≡ false → first ≡ slice_index_or given 0 first →
+    rest ≡ remove given 0 → first.now ∷ texts_of rest ≡ texts_of given
+first_apart [] rest first some is others = cc
+first_apart (x ∷ xs) rest first some is others = ap (λ (f : Bor (List ℕ)). f.now ∷ texts_of rest) is ∙ ap (λ r. x.now ∷ texts_of r) others

@@ -1,5 +1,6 @@
 -- The words after a command: options with their values, and what is given besides them.
 use Rattle.std.specs.Prelude.{ℕ, ◌≡◌, ◌≤◌, ◌==◌, ◌||◌, Bool, true, false, List, [], ◌∷◌, Option, Some, None, codes, if◌then◌else◌, length, slice_get, unwrap_or}
+use Rattle.std.specs.List.{list_any}
 use Rattle.std.specs.Str.{bytes_eq}
 use Rattle.std.specs.Str.Parse.{IsNumeral, digits_value, without_leading_plus}
 
@@ -7,14 +8,16 @@ use Rattle.std.specs.Str.Parse.{IsNumeral, digits_value, without_leading_plus}
 abbrev pub ends_options : List ℕ → Bool
 ends_options word = bytes_eq word (codes "--")
 
+-- the options whose value may be the next word
+abbrev pub valued_options : List (List ℕ)
+valued_options =
+    codes "--root" ∷ codes "--root-class" ∷ codes "--workers" ∷ codes "--turns" ∷ codes "--output-limit" ∷
+    codes "--record" ∷ codes "--format" ∷ codes "--for" ∷ codes "--states" ∷ codes "--memory" ∷ codes "--seed" ∷
+    codes "--times" ∷ codes "--until" ∷ []
+
 -- the word is an option whose value is the next word
 abbrev pub has_value : List ℕ → Bool
-has_value word =
-    bytes_eq word (codes "--root") || (bytes_eq word (codes "--root-class") || (bytes_eq word (codes "--workers")
-    || (bytes_eq word (codes "--turns") || (bytes_eq word (codes "--output-limit") || (bytes_eq word (codes "--record")
-    || (bytes_eq word (codes "--format") || (bytes_eq word (codes "--for") || (bytes_eq word (codes "--states")
-    || (bytes_eq word (codes "--memory") || (bytes_eq word (codes "--seed") || (bytes_eq word (codes "--times")
-    || bytes_eq word (codes "--until"))))))))))))
+has_value word = list_any (bytes_eq word) valued_options
 
 -- The word is an option: it begins with `-`. A `-` alone is a file.
 abbrev pub is_option : List ℕ → Bool

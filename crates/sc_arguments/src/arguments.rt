@@ -16,7 +16,7 @@ mod tracing;
 mod words;
 
 ghost use Rattle.std.specs.Prelude.{◌≡◌, IfOk, codes, false, map};
-ghost use Rattle.sc_arguments.specs.Asked.{AreCheckOptions, AreReplayOptions, AreRunOptions, IsAskedFor, IsAskedOf};
+ghost use Rattle.sc_arguments.specs.Asked.{AreRunOptions, IsAskedFor, IsAskedOf, texts_of};
 ghost use Rattle.sc_arguments.specs.Usage as spec;
 ghost use Rattle.sc_arguments.specs.Words.{given_in};
 
@@ -28,8 +28,8 @@ use crate::arguments::given::given_in;
 use crate::arguments::language_server::LANGUAGE_SERVER;
 use crate::arguments::numbers::{limit_by, number_up_to, small_number_up_to};
 use crate::arguments::options::{
-    CODE, EXPLAIN, FILES, FLAG, FORMAT, KEPT, NO_EXPLAIN, OPTION, OUTPUT_LIMIT, RECORD, ROOT,
-    TRACE, Taken, argument,
+    Beside, CODE, EXPLAIN, FILES, FLAG, FORMAT, KEPT, NO_EXPLAIN, OPTION, OUTPUT_LIMIT, RECORD,
+    ROOT, TRACE, Taken, argument,
 };
 use crate::arguments::root_option::read_root;
 use crate::arguments::searching::{SEARCH, read_search};
@@ -37,9 +37,9 @@ use crate::arguments::testing::{TEST, read_tests};
 use crate::arguments::tracing::{read_trace, read_trace_by};
 use crate::arguments::words::{has_option, value_of, value_or};
 pub use chance::{ChanceOptions, Until};
-use clap::ArgMatches;
 use clap::builder::ValueParser;
 use clap::error::ErrorKind;
+use clap::{ArgAction, ArgMatches};
 pub use format::Format;
 pub use help::ask_for_help;
 use sc_class::Root;
@@ -374,17 +374,17 @@ const RUN_TAKES: [Taken; 14] = [
     Taken {
         name: "--workers",
         help: WORKERS_HELP,
-        value_names: &["N"],
+        value_name: Some("N"),
         parser: ValueParser::Signed(1, 8),
-        default: &[DEFAULT_WORKERS],
+        default: Some(DEFAULT_WORKERS),
         ..OPTION
     },
     Taken {
         name: "--turns",
         help: TURNS_HELP,
-        value_names: &["N"],
+        value_name: Some("N"),
         parser: ValueParser::Signed(1, 10_000_000),
-        default: &[DEFAULT_TURNS],
+        default: Some(DEFAULT_TURNS),
         ..OPTION
     },
     OUTPUT_LIMIT,
@@ -398,9 +398,13 @@ const RUN_TAKES: [Taken; 14] = [
     Taken {
         name: "--audit",
         help: AUDIT_HELP,
+        beside: Beside::Excludes("seed"),
         ..FLAG
     },
-    TRACE,
+    Taken {
+        beside: Beside::Excludes("seed"),
+        ..TRACE
+    },
     Taken {
         help: RUN_EXPLAIN_HELP,
         ..EXPLAIN
@@ -420,10 +424,22 @@ pub fn read_arguments<'a, S: AsStr>(
 ) -> Result<Invocation<'a>, UsageFault>
     ensures { IfOk result (IsAskedFor (map S.text arguments.entry.now)) }
 {
-    let matches = scoop_command(alloc)?.try_get_matches_from(arguments)?;
+    read_by(alloc, &COMMANDS, arguments, explains)
+}
+
+/// Reads the arguments of a command line that names one of these commands.
+fn read_by<'a, S: AsStr>(
+    alloc: Global,
+    commands: &[Described],
+    arguments: &'a [S],
+    explains: bool,
+) -> Result<Invocation<'a>, UsageFault>
+    ensures { IfOk result (IsAskedFor (map S.text arguments.entry.now)) }
+{
+    let matches = scoop_command(alloc, commands)?.try_get_matches_from(arguments)?;
     match (matches.subcommand(), arguments) {
         (Some((name, options)), [_, command, words @ ..]) => {
-            if ask_for_help(arguments) || !are_read_alike(name, options, words) {
+            if ask_for_help(arguments) || !are_read_alike(commands, name, options, words) {
                 return Err(UsageFault::TwoReadings);
             }
             read_command(alloc, command.as_str(), words, options, explains)
@@ -432,14 +448,21 @@ pub fn read_arguments<'a, S: AsStr>(
     }
 }
 
-/// Whether the options of a command were read as the words behind it say.
-fn are_read_alike<S: AsStr>(name: &str, options: &ArgMatches<'_>, words: &[S]) -> bool {
-    for described in &COMMANDS {
+/// Whether the options of the command of this name were read as the words after it say.
+fn are_read_alike<S: AsStr>(
+    commands: &[Described],
+    name: &str,
+    options: &ArgMatches<'_>,
+    words: &[S],
+) -> bool {
+    for described in commands {
         if described.name == name {
-            return described
-                .takes
-                .iter()
-                .all(|taken| is_read_alike(taken, options, words));
+            for taken in described.takes {
+                if !is_read_alike(taken, options, words) {
+                    return false;
+                }
+            }
+            return true;
         }
     }
     false
@@ -451,17 +474,17 @@ fn is_read_alike<S: AsStr>(taken: &Taken, options: &ArgMatches<'_>, words: &[S])
     let Some(name) = taken.name.strip_prefix("--") else {
         return true;
     };
-    if taken.needs_equals || !taken.undone.is_empty() {
+    if taken.missing.is_some() || matches!(taken.beside, Beside::Undoes(_)) {
         return true;
     }
-    if taken.values == FLAG.values {
+    if let ArgAction::SetTrue = taken.action {
         return options.get_flag(name) == has_option(words, taken.name);
     }
-    let value = value_of(words, taken.name).or(taken.default.first().copied());
+    let value = value_of(words, taken.name).or(taken.default);
     options.get_str(name) == value
 }
 
-/// What is asked for by the command of this name with these words behind it.
+/// What is asked for by the command of this name with these words after it.
 fn read_command<'a, S: AsStr>(
     alloc: Global,
     name: &str,
@@ -474,22 +497,13 @@ fn read_command<'a, S: AsStr>(
     let given = given_in(alloc, words)?;
     let is_explained = read_explained(options, explains);
     match name {
-        "check" => {
-            let check = read_check(alloc, words, is_explained)?;
-            Ok(read_checking(words, check, given))
-        }
+        "check" => read_checking(alloc, words, given, is_explained),
         "print" => Ok(Invocation::OnFiles(Command::Print, given)),
         "format" => Ok(read_formatting(words, given)),
         "run" => read_running(alloc, words, given, options, is_explained),
-        "replay" => read_replay(alloc, words, given.as_slice(), options, is_explained),
-        "search" => {
-            let search = read_search(alloc, words, is_explained)?;
-            Ok(Invocation::Search(search, given))
-        }
-        "test" => {
-            let tests = read_tests(words, options)?;
-            Ok(Invocation::Test(tests, given))
-        }
+        "replay" => read_replay(alloc, words, given, options, is_explained),
+        "search" => read_search(alloc, words, given, is_explained),
+        "test" => read_tests(words, given, options),
         "explain" => Ok(Invocation::Explain(given.first().copied())),
         "lsp" => Ok(Invocation::LanguageServer),
         _ => Err(UsageFault::NoCommand),
@@ -501,22 +515,7 @@ fn read_explained(options: &ArgMatches<'_>, explains: bool) -> bool {
     options.get_flag("explain") || explains && !options.get_flag("no-explain")
 }
 
-/// What the words behind `check` ask for.
-fn read_check<S: AsStr>(
-    alloc: Global,
-    words: &[S],
-    is_explained: bool,
-) -> Result<CheckOptions, UsageFault>
-    ensures { IfOk result (AreCheckOptions (map S.text words.now)) }
-{
-    Ok(CheckOptions {
-        root: read_root(alloc, words)?,
-        is_explained,
-        format: read_format(words),
-    })
-}
-
-/// What the words behind `run` ask for.
+/// What the words after `run` ask for.
 pub fn read_run<'a, S: AsStr>(
     alloc: Global,
     words: &'a [S],
@@ -525,12 +524,16 @@ pub fn read_run<'a, S: AsStr>(
 ) -> Result<RunOptions<'a>, UsageFault>
     ensures { IfOk result (AreRunOptions (map S.text words.entry.now)) }
 {
-    let workers = small_number_up_to(MOST_WORKERS, value_or(words, "--workers", DEFAULT_WORKERS))?;
+    let workers = small_number_up_to(MOST_WORKERS, value_or(words, "--workers", DEFAULT_WORKERS));
+    let turns = number_up_to(MOST_TURNS, value_or(words, "--turns", DEFAULT_TURNS));
+    let (Some(workers), Some(turns)) = (workers, turns) else {
+        return Err(UsageFault::TwoReadings);
+    };
     Ok(RunOptions {
+        output_limit: limit_by(value_of(words, "--output-limit"))?,
         root: read_root(alloc, words)?,
         workers,
-        turns: number_up_to(MOST_TURNS, value_or(words, "--turns", DEFAULT_TURNS))?,
-        output_limit: limit_by(value_of(words, "--output-limit"))?,
+        turns,
         record: value_of(words, "--record"),
         is_audited: has_option(words, "--audit"),
         trace: read_trace_by(options, workers)?,
@@ -540,23 +543,25 @@ pub fn read_run<'a, S: AsStr>(
 }
 
 /// What is asked for if the first that is given is a record, and the rest are files.
+#[tactic(auto, using(crate::proofs::AskedLemmas::first_apart))]
 fn read_replay<'a, S: AsStr>(
     alloc: Global,
     words: &'a [S],
-    given: &[&'a str],
+    given: Vec<&'a str>,
     options: &ArgMatches<'_>,
     is_explained: bool,
 ) -> Result<Invocation<'a>, UsageFault>
     ensures { let behind = map S.text words.entry.now in
-        map (λ text. text.now) given.now ≡ given_in false behind → IfOk result (IsAskedOf (codes "replay") behind) }
+        texts_of given.entry.items ≡ given_in false behind → IfOk result (IsAskedOf (codes "replay") behind) }
 {
-    let Some((record, names)) = given.split_first() else {
+    let mut names = given;
+    if names.is_empty() {
         return Err(UsageFault::NoCommand);
-    };
-    let names = Vec::from_slice(alloc, names)?;
+    }
+    let record = names.remove(0);
     let replay = ReplayOptions {
         root: read_root(alloc, words)?,
-        record: *record,
+        record,
         trace: read_trace(options),
         is_explained,
         format: read_format(words),
@@ -564,7 +569,10 @@ fn read_replay<'a, S: AsStr>(
     Ok(Invocation::Replay(replay, names))
 }
 
-fn scoop_command<'a>(alloc: Global) -> Result<clap::Command<'a>, AllocError> {
+fn scoop_command<'a>(
+    alloc: Global,
+    commands: &'a [Described],
+) -> Result<clap::Command<'a>, AllocError> {
     let mut program = clap::Command::new(alloc, "scoop")
         .about(ABOUT)
         .long_about(LONG_ABOUT)
@@ -572,13 +580,16 @@ fn scoop_command<'a>(alloc: Global) -> Result<clap::Command<'a>, AllocError> {
         .version("0.1.0")
         .subcommand_required(true)
         .arg_required_else_help(true);
-    for described in &COMMANDS {
+    for described in commands {
         program = program.subcommand(command_of(alloc, described)?)?;
     }
     program.bin_name("scoop")
 }
 
-fn command_of<'a>(alloc: Global, described: &Described) -> Result<clap::Command<'a>, AllocError> {
+fn command_of<'a>(
+    alloc: Global,
+    described: &'a Described,
+) -> Result<clap::Command<'a>, AllocError> {
     let mut command = clap::Command::new(alloc, described.name)
         .about(described.about)
         .long_about(described.long_about)

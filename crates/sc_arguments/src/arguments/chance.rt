@@ -7,7 +7,7 @@ ghost use Rattle.sc_arguments.specs.Words.{given_in, has_option, value_of};
 
 use crate::arguments::format::{Format, read_format};
 use crate::arguments::numbers::{limit_by, number_up_to, small_number_up_to};
-use crate::arguments::options::{OPTION, Taken};
+use crate::arguments::options::{Beside, OPTION, Taken};
 use crate::arguments::root_option::read_root;
 use crate::arguments::words::{has_option, value_of, value_or};
 use crate::arguments::{
@@ -74,9 +74,8 @@ const UNTIL_HELP: &str =
 pub const SEED: Taken = Taken {
     name: "--seed",
     help: SEED_HELP,
-    value_names: &["N"],
+    value_name: Some("N"),
     parser: ValueParser::Unsigned(0, 1_000_000_000_000),
-    excluded: &["output-limit", "audit", "trace"],
     ..OPTION
 };
 
@@ -84,9 +83,9 @@ pub const SEED: Taken = Taken {
 pub const TIMES: Taken = Taken {
     name: "--times",
     help: TIMES_HELP,
-    value_names: &["K"],
+    value_name: Some("K"),
     parser: ValueParser::Signed(1, 1_000_000_000),
-    needed: &["seed"],
+    beside: Beside::Needs("seed"),
     ..OPTION
 };
 
@@ -94,9 +93,9 @@ pub const TIMES: Taken = Taken {
 pub const UNTIL: Taken = Taken {
     name: "--until",
     help: UNTIL_HELP,
-    value_names: &["WHAT"],
+    value_name: Some("WHAT"),
     parser: ValueParser::Names(&ENDS),
-    needed: &["seed"],
+    beside: Beside::Needs("seed"),
     ..OPTION
 };
 
@@ -134,16 +133,21 @@ fn read_chance<'a, S: AsStr>(
     requires { IsLimitBy (value_of (codes "--seed") (map S.text words.now)) (Some seed) }
     ensures { IfOk result (AreChanceOptions (map S.text words.entry.now)) }
 {
-    let workers = small_number_up_to(MOST_WORKERS, value_or(words, "--workers", DEFAULT_WORKERS))?;
+    let workers = small_number_up_to(MOST_WORKERS, value_or(words, "--workers", DEFAULT_WORKERS));
+    let times = number_up_to(MOST_TIMES, value_or(words, "--times", DEFAULT_TIMES));
+    let turns = number_up_to(MOST_TURNS, value_or(words, "--turns", DEFAULT_TURNS));
+    let (Some(workers), Some(times), Some(turns)) = (workers, times, turns) else {
+        return Err(UsageFault::TwoReadings);
+    };
     if workers > 1 {
         return Err(UsageFault::SeededWorkers);
     }
     Ok(ChanceOptions {
         root: read_root(alloc, words)?,
         seed,
-        times: number_up_to(MOST_TIMES, value_or(words, "--times", DEFAULT_TIMES))?,
+        times,
         until: read_until(words),
-        turns: number_up_to(MOST_TURNS, value_or(words, "--turns", DEFAULT_TURNS))?,
+        turns,
         record: value_of(words, "--record"),
         is_explained,
         format: read_format(words),

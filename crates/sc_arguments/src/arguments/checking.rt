@@ -1,12 +1,15 @@
 //! The command `check`: whether the first fault is asked for, or those of all parts.
 
-ghost use Rattle.std.specs.Prelude.{◌≡◌, codes, false, map};
-ghost use Rattle.sc_arguments.specs.Asked.{AreCheckOptions, IsAskedOf, texts_of};
+ghost use Rattle.std.specs.Prelude.{◌≡◌, IfOk, codes, false, map};
+ghost use Rattle.sc_arguments.specs.Asked.{IsAskedOf, texts_of};
 ghost use Rattle.sc_arguments.specs.Words.{given_in};
 
+use crate::arguments::format::read_format;
 use crate::arguments::options::{EXPLAIN, FILES, FLAG, FORMAT, NO_EXPLAIN, ROOT, Taken};
+use crate::arguments::root_option::read_root;
 use crate::arguments::words::has_option;
-use crate::arguments::{CheckOptions, Command, Described, Invocation};
+use crate::arguments::{CheckOptions, Command, Described, Invocation, UsageFault};
+use std::alloc::Global;
 use std::convert::AsStr;
 
 const CHECK_ABOUT: &str = "Says whether a system is well formed";
@@ -66,19 +69,24 @@ pub const CHECK: Described = Described {
     ],
 };
 
-/// What the words after `check` ask for, if they have these options, and these files are given among them.
+/// What the words after `check` ask for, if these files are given among them.
 pub fn read_checking<'a, S: AsStr>(
+    alloc: Global,
     words: &[S],
-    options: CheckOptions,
     given: Vec<&'a str>,
-) -> Invocation<'a>
+    is_explained: bool,
+) -> Result<Invocation<'a>, UsageFault>
     ensures { let behind = map S.text words.now in
-        texts_of given.entry.items ≡ given_in false behind → AreCheckOptions behind options
-        → IsAskedOf (codes "check") behind result }
+        texts_of given.entry.items ≡ given_in false behind → IfOk result (IsAskedOf (codes "check") behind) }
 {
+    let options = CheckOptions {
+        root: read_root(alloc, words)?,
+        is_explained,
+        format: read_format(words),
+    };
     if has_option(words, "--all") {
-        Invocation::CheckAll(options, given)
+        Ok(Invocation::CheckAll(options, given))
     } else {
-        Invocation::OnFiles(Command::Check(options), given)
+        Ok(Invocation::OnFiles(Command::Check(options), given))
     }
 }

@@ -1,51 +1,29 @@
 //! Numbers that words write.
 
-ghost use Rattle.std.specs.Prelude.{IfOk, option_map};
-ghost use Rattle.sc_arguments.specs.Words.{Writes, WritesUpTo};
+ghost use Rattle.std.specs.Prelude.{IfOk, IfSome, option_map};
+ghost use Rattle.sc_arguments.specs.Words.{WritesUpTo};
 ghost use Rattle.sc_arguments.specs.Asked.{IsLimitBy};
 
 use crate::arguments::UsageFault;
 
-/// The number that a text writes.
-pub fn number_in(text: &str) -> Result<u32, UsageFault>
-    ensures { IfOk result (Writes text.now) }
+/// The number that a text writes, if it is one from 1 to `most`.
+pub fn number_up_to(most: u32, text: &str) -> Option<u32>
+    ensures { IfSome result (WritesUpTo most text.now) }
 {
     match text.parse::<u32>() {
-        Ok(number) => Ok(number),
-        Err(_) => Err(UsageFault::TwoReadings),
+        Ok(number) if number != 0 && number <= most => Some(number),
+        _ => None,
     }
-}
-
-/// The number that a text writes, at most 255.
-pub fn small_number_in(text: &str) -> Result<u8, UsageFault>
-    ensures { IfOk result (Writes text.now) }
-{
-    match text.parse::<u8>() {
-        Ok(number) => Ok(number),
-        Err(_) => Err(UsageFault::TwoReadings),
-    }
-}
-
-/// The number that a text writes, if it is one from 1 to `most`.
-pub fn number_up_to(most: u32, text: &str) -> Result<u32, UsageFault>
-    ensures { IfOk result (WritesUpTo most text.now) }
-{
-    let number = number_in(text)?;
-    if number == 0 || number > most {
-        return Err(UsageFault::TwoReadings);
-    }
-    Ok(number)
 }
 
 /// The number that a text writes, if it is one from 1 to `most`, which is at most 255.
-pub fn small_number_up_to(most: u8, text: &str) -> Result<u8, UsageFault>
-    ensures { IfOk result (WritesUpTo most text.now) }
+pub fn small_number_up_to(most: u8, text: &str) -> Option<u8>
+    ensures { IfSome result (WritesUpTo most text.now) }
 {
-    let number = small_number_in(text)?;
-    if number == 0 || number > most {
-        return Err(UsageFault::TwoReadings);
+    match text.parse::<u8>() {
+        Ok(small) if small != 0 && small <= most => Some(small),
+        _ => None,
     }
-    Ok(number)
 }
 
 /// The most bytes that may be printed before a run ends, if that is limited.

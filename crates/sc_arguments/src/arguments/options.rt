@@ -18,21 +18,27 @@ pub struct Taken {
     /// The least and the most values of one use.
     pub values: (usize, usize),
     /// What help calls each value.
-    pub value_names: &'static [&'static str],
+    pub value_name: Option<&'static str>,
     /// What each value has to be.
     pub parser: ValueParser<'static>,
     /// The value if it isn't used.
-    pub default: &'static [&'static str],
-    /// The value of a use without one.
-    pub missing: &'static [&'static str],
-    /// Whether its value follows `=`.
-    pub needs_equals: bool,
-    /// The options that a use of this one undoes.
-    pub undone: &'static [&'static str],
-    /// The options that can't be used beside this one.
-    pub excluded: &'static [&'static str],
-    /// The options without which this one can't be used.
-    pub needed: &'static [&'static str],
+    pub default: Option<&'static str>,
+    /// The value of a use without one. If there is such a value, any other follows `=`.
+    pub missing: Option<&'static str>,
+    pub beside: Beside,
+}
+
+/// How an option goes with another one of its command, which is named without `--`.
+#[derive(Clone, Copy)]
+pub enum Beside {
+    /// With each of them.
+    Any,
+    /// A use of it undoes that one.
+    Undoes(&'static str),
+    /// It can't be used beside that one.
+    Excludes(&'static str),
+    /// It can't be used without that one.
+    Needs(&'static str),
 }
 
 /// An option that takes no value.
@@ -42,14 +48,11 @@ pub const FLAG: Taken = Taken {
     is_required: false,
     action: ArgAction::SetTrue,
     values: (0, 0),
-    value_names: &[],
+    value_name: None,
     parser: ValueParser::Bool,
-    default: &[],
-    missing: &[],
-    needs_equals: false,
-    undone: &[],
-    excluded: &[],
-    needed: &[],
+    default: None,
+    missing: None,
+    beside: Beside::Any,
 };
 
 /// An option that takes any text.
@@ -66,7 +69,7 @@ const GIVEN: Taken = OPTION;
 /// The option `--explain`, but for its text. Of it and of `--no-explain` the last is meant.
 pub const EXPLAIN: Taken = Taken {
     name: "--explain",
-    undone: &["no-explain"],
+    beside: Beside::Undoes("no-explain"),
     ..FLAG
 };
 
@@ -74,14 +77,14 @@ pub const EXPLAIN: Taken = Taken {
 pub const NO_EXPLAIN: Taken = Taken {
     name: "--no-explain",
     help: "Leaves that out",
-    undone: &["explain"],
+    beside: Beside::Undoes("explain"),
     ..FLAG
 };
 
 /// The option `--record`, but for its text. Its value is a file to write to.
 pub const KEPT: Taken = Taken {
     name: "--record",
-    value_names: &["PATH"],
+    value_name: Some("PATH"),
     ..OPTION
 };
 
@@ -89,8 +92,9 @@ pub const KEPT: Taken = Taken {
 pub const OUTPUT_LIMIT: Taken = Taken {
     name: "--output-limit",
     help: "Ends the run once all that is printed has more bytes than this, 0 to 1000000000000",
-    value_names: &["BYTES"],
+    value_name: Some("BYTES"),
     parser: ValueParser::Unsigned(0, 1_000_000_000_000),
+    beside: Beside::Excludes("seed"),
     ..OPTION
 };
 
@@ -99,10 +103,9 @@ pub const TRACE: Taken = Taken {
     name: "--trace",
     help: TRACE_HELP,
     values: (0, 1),
-    value_names: &["WHAT"],
+    value_name: Some("WHAT"),
     parser: ValueParser::Names(&TRACED),
-    missing: &["all"],
-    needs_equals: true,
+    missing: Some("all"),
     ..OPTION
 };
 
@@ -110,8 +113,8 @@ pub const TRACE: Taken = Taken {
 pub const ROOT: Taken = Taken {
     name: "--root",
     help: "The root class and its creation procedure",
-    value_names: &["CLASS.PROCEDURE"],
-    default: &[DEFAULT_ROOT],
+    value_name: Some("CLASS.PROCEDURE"),
+    default: Some(DEFAULT_ROOT),
     ..OPTION
 };
 
@@ -119,9 +122,9 @@ pub const ROOT: Taken = Taken {
 pub const FORMAT: Taken = Taken {
     name: "--format",
     help: FORMAT_HELP,
-    value_names: &["FORMAT"],
+    value_name: Some("FORMAT"),
     parser: ValueParser::Names(&FORMATS),
-    default: &[DEFAULT_FORMAT],
+    default: Some(DEFAULT_FORMAT),
     ..OPTION
 };
 
@@ -151,24 +154,26 @@ pub const CODE: Taken = Taken {
 };
 
 /// The argument for what a command takes.
-pub fn argument<'a>(alloc: Global, taken: &Taken) -> Result<Arg<'a>, AllocError> {
+pub fn argument<'a>(alloc: Global, taken: &'a Taken) -> Result<Arg<'a>, AllocError> {
     let (least, most) = taken.values;
     let long = taken.name.strip_prefix("--");
-    let argument = Arg::new(alloc, long.unwrap_or(taken.name))
+    let mut argument = Arg::new(alloc, long.unwrap_or(taken.name))
         .help(taken.help)
         .required(taken.is_required)
         .action(taken.action)
         .num_args(least..=most)
-        .value_names(taken.value_names)
+        .value_names(taken.value_name.as_slice())
         .value_parser(taken.parser)
-        .default_values(taken.default)
-        .default_missing_values(taken.missing)
-        .require_equals(taken.needs_equals)
-        .conflicts_with_all(taken.excluded)?
-        .requires_all(taken.needed)?;
-    let argument = match long {
-        Some(name) => argument.long(name),
-        None => argument,
-    };
-    argument.overrides_with_all(taken.undone)
+        .default_values(taken.default.as_slice())
+        .default_missing_values(taken.missing.as_slice())
+        .require_equals(taken.missing.is_some());
+    if let Some(name) = long {
+        argument = argument.long(name);
+    }
+    match taken.beside {
+        Beside::Any => Ok(argument),
+        Beside::Undoes(other) => argument.overrides_with(other),
+        Beside::Excludes(other) => argument.conflicts_with(other),
+        Beside::Needs(other) => argument.requires_arg(other),
+    }
 }

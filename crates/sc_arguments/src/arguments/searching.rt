@@ -1,9 +1,9 @@
 //! The command `search`: what is looked for in the orders of turns, and how far.
 
-ghost use Rattle.std.specs.Prelude.{◌≡◌, IfOk, codes, map};
+ghost use Rattle.std.specs.Prelude.{◌≡◌, IfOk, codes, false, map};
 ghost use Rattle.sc_arguments.specs.Asked as spec;
-ghost use Rattle.sc_arguments.specs.Asked.{AreSearchOptions};
-ghost use Rattle.sc_arguments.specs.Words.{value_or};
+ghost use Rattle.sc_arguments.specs.Asked.{IsAskedOf, texts_of};
+ghost use Rattle.sc_arguments.specs.Words.{given_in, value_or};
 
 use crate::arguments::format::{Format, read_format};
 use crate::arguments::numbers::number_up_to;
@@ -12,7 +12,7 @@ use crate::arguments::options::{
 };
 use crate::arguments::root_option::read_root;
 use crate::arguments::words::{has_option, value_of, value_or};
-use crate::arguments::{Described, UsageFault};
+use crate::arguments::{Described, Invocation, UsageFault};
 use clap::builder::ValueParser;
 use sc_class::Root;
 use std::alloc::Global;
@@ -122,25 +122,25 @@ const SEARCH_TAKES: [Taken; 10] = [
     Taken {
         name: "--for",
         help: "What ends the search",
-        value_names: &["WHAT"],
+        value_name: Some("WHAT"),
         parser: ValueParser::Names(&SOUGHT),
-        default: &[DEFAULT_SOUGHT],
+        default: Some(DEFAULT_SOUGHT),
         ..OPTION
     },
     Taken {
         name: "--states",
         help: STATES_HELP,
-        value_names: &["N"],
+        value_name: Some("N"),
         parser: ValueParser::Signed(1, 10_000_000),
-        default: &[DEFAULT_STATES],
+        default: Some(DEFAULT_STATES),
         ..OPTION
     },
     Taken {
         name: "--memory",
         help: MEMORY_HELP,
-        value_names: &["MB"],
+        value_name: Some("MB"),
         parser: ValueParser::Signed(1, 1_000_000),
-        default: &[DEFAULT_MEMORY],
+        default: Some(DEFAULT_MEMORY),
         ..OPTION
     },
     Taken {
@@ -171,27 +171,35 @@ pub const SEARCH: Described = Described {
     takes: &SEARCH_TAKES,
 };
 
-/// What the words behind `search` ask for.
+/// What the words after `search` ask for, if these files are given among them.
 pub fn read_search<'a, S: AsStr>(
     alloc: Global,
     words: &'a [S],
+    given: Vec<&'a str>,
     is_explained: bool,
-) -> Result<SearchOptions<'a>, UsageFault>
-    ensures { IfOk result (AreSearchOptions (map S.text words.entry.now)) }
+) -> Result<Invocation<'a>, UsageFault>
+    ensures { let behind = map S.text words.entry.now in
+        texts_of given.entry.items ≡ given_in false behind → IfOk result (IsAskedOf (codes "search") behind) }
 {
-    Ok(SearchOptions {
+    let states = number_up_to(MOST_STATES, value_or(words, "--states", DEFAULT_STATES));
+    let memory = number_up_to(MOST_MEMORY, value_or(words, "--memory", DEFAULT_MEMORY));
+    let (Some(states), Some(memory)) = (states, memory) else {
+        return Err(UsageFault::TwoReadings);
+    };
+    let search = SearchOptions {
         root: read_root(alloc, words)?,
         sought: read_sought(words),
-        states: number_up_to(MOST_STATES, value_or(words, "--states", DEFAULT_STATES))?,
-        memory: number_up_to(MOST_MEMORY, value_or(words, "--memory", DEFAULT_MEMORY))?,
+        states,
+        memory,
         record: value_of(words, "--record"),
         lists_outcomes: has_option(words, "--outcomes"),
         is_explained,
         format: read_format(words),
-    })
+    };
+    Ok(Invocation::Search(search, given))
 }
 
-/// What the words behind `search` look for.
+/// What the words after `search` look for.
 fn read_sought<S: AsStr>(words: &[S]) -> Sought
     ensures { result ≡ spec.sought_named (value_or (codes "--for") (codes "any") (map S.text words.now)) }
 {

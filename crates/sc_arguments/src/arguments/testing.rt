@@ -1,9 +1,9 @@
 //! The command `test`: which tests are played, and how.
 
-ghost use Rattle.std.specs.Prelude.{◌≡◌, IfOk, codes, map};
+ghost use Rattle.std.specs.Prelude.{◌≡◌, IfOk, codes, false, map};
 ghost use Rattle.sc_arguments.specs.Asked as spec;
-ghost use Rattle.sc_arguments.specs.Asked.{AreTestOptions};
-ghost use Rattle.sc_arguments.specs.Words.{value_or};
+ghost use Rattle.sc_arguments.specs.Asked.{IsAskedOf, texts_of};
+ghost use Rattle.sc_arguments.specs.Words.{given_in, value_or};
 
 use crate::arguments::format::DEFAULT_FORMAT;
 use crate::arguments::numbers::{number_up_to, small_number_up_to};
@@ -13,8 +13,8 @@ use crate::arguments::searching::{
 };
 use crate::arguments::words::{has_option, value_of, value_or};
 use crate::arguments::{
-    DEFAULT_TURNS, DEFAULT_WORKERS, Described, MOST_TURNS, MOST_WORKERS, TURNS_HELP, UsageFault,
-    WORKERS_HELP, read_explained,
+    DEFAULT_TURNS, DEFAULT_WORKERS, Described, Invocation, MOST_TURNS, MOST_WORKERS, TURNS_HELP,
+    UsageFault, WORKERS_HELP, read_explained,
 };
 use clap::ArgMatches;
 use clap::builder::ValueParser;
@@ -107,23 +107,23 @@ const TEST_TAKES: [Taken; 11] = [
     Taken {
         name: "--root-class",
         help: CLASS_HELP,
-        value_names: &["CLASS"],
+        value_name: Some("CLASS"),
         ..OPTION
     },
     Taken {
         name: "--workers",
         help: WORKERS_HELP,
-        value_names: &["N"],
+        value_name: Some("N"),
         parser: ValueParser::Signed(1, 8),
-        default: &[DEFAULT_WORKERS],
+        default: Some(DEFAULT_WORKERS),
         ..OPTION
     },
     Taken {
         name: "--turns",
         help: TURNS_HELP,
-        value_names: &["N"],
+        value_name: Some("N"),
         parser: ValueParser::Signed(1, 10_000_000),
-        default: &[DEFAULT_TURNS],
+        default: Some(DEFAULT_TURNS),
         ..OPTION
     },
     Taken {
@@ -134,22 +134,22 @@ const TEST_TAKES: [Taken; 11] = [
     Taken {
         name: "--states",
         help: STATES_HELP,
-        value_names: &["N"],
+        value_name: Some("N"),
         parser: ValueParser::Signed(1, 10_000_000),
-        default: &[DEFAULT_STATES],
+        default: Some(DEFAULT_STATES),
         ..OPTION
     },
     Taken {
         name: "--memory",
         help: MEMORY_HELP,
-        value_names: &["MB"],
+        value_name: Some("MB"),
         parser: ValueParser::Signed(1, 1_000_000),
-        default: &[DEFAULT_MEMORY],
+        default: Some(DEFAULT_MEMORY),
         ..OPTION
     },
     Taken {
         help: FOLDER_HELP,
-        value_names: &["FOLDER"],
+        value_name: Some("FOLDER"),
         ..KEPT
     },
     Taken {
@@ -174,24 +174,36 @@ pub const TEST: Described = Described {
     takes: &TEST_TAKES,
 };
 
-/// What the words after `test` ask for. Why a test fails is said unless an argument says otherwise.
+/// What the words after `test` ask for, if these files are given among them. Why a test fails is said unless an argument says
+/// otherwise.
 pub fn read_tests<'a, S: AsStr>(
     words: &'a [S],
+    given: Vec<&'a str>,
     options: &ArgMatches<'_>,
-) -> Result<TestOptions<'a>, UsageFault>
-    ensures { IfOk result (AreTestOptions (map S.text words.entry.now)) }
+) -> Result<Invocation<'a>, UsageFault>
+    ensures { let behind = map S.text words.entry.now in
+        texts_of given.entry.items ≡ given_in false behind → IfOk result (IsAskedOf (codes "test") behind) }
 {
-    Ok(TestOptions {
+    let workers = small_number_up_to(MOST_WORKERS, value_or(words, "--workers", DEFAULT_WORKERS));
+    let turns = number_up_to(MOST_TURNS, value_or(words, "--turns", DEFAULT_TURNS));
+    let states = number_up_to(MOST_STATES, value_or(words, "--states", DEFAULT_STATES));
+    let memory = number_up_to(MOST_MEMORY, value_or(words, "--memory", DEFAULT_MEMORY));
+    let (Some(workers), Some(turns), Some(states), Some(memory)) = (workers, turns, states, memory)
+    else {
+        return Err(UsageFault::TwoReadings);
+    };
+    let tests = TestOptions {
         class: value_of(words, "--root-class"),
-        workers: small_number_up_to(MOST_WORKERS, value_or(words, "--workers", DEFAULT_WORKERS))?,
-        turns: number_up_to(MOST_TURNS, value_or(words, "--turns", DEFAULT_TURNS))?,
+        workers,
+        turns,
         is_searched: has_option(words, "--search"),
-        states: number_up_to(MOST_STATES, value_or(words, "--states", DEFAULT_STATES))?,
-        memory: number_up_to(MOST_MEMORY, value_or(words, "--memory", DEFAULT_MEMORY))?,
+        states,
+        memory,
         folder: value_of(words, "--record"),
         is_explained: read_explained(options, true),
         format: read_test_format(words),
-    })
+    };
+    Ok(Invocation::Test(tests, given))
 }
 
 /// The format that the words after `test` ask for.

@@ -1,9 +1,28 @@
 //! The words after a command: what they say of one option.
 
 ghost use Rattle.std.specs.Prelude.{◌≡◌, Some, false, map, option_map};
+ghost use Rattle.std.specs.List.{list_any};
+ghost use Rattle.std.specs.Str.{bytes_eq};
 ghost use Rattle.sc_arguments.specs.Words as spec;
 
 use std::convert::AsStr;
+
+/// The options whose value may be the next word.
+const VALUED: [&str; 13] = [
+    "--root",
+    "--root-class",
+    "--workers",
+    "--turns",
+    "--output-limit",
+    "--record",
+    "--format",
+    "--for",
+    "--states",
+    "--memory",
+    "--seed",
+    "--times",
+    "--until",
+];
 
 /// The value of an option among the words after a command, if it is used.
 pub fn value_of<'a, S: AsStr>(words: &'a [S], option: &str) -> Option<&'a str>
@@ -98,19 +117,19 @@ pub fn ends_options(word: &str) -> bool
 pub fn has_value(word: &str) -> bool
     ensures { result ≡ spec.has_value word.now }
 {
-    word == "--root"
-        || word == "--root-class"
-        || word == "--workers"
-        || word == "--turns"
-        || word == "--output-limit"
-        || word == "--record"
-        || word == "--format"
-        || word == "--for"
-        || word == "--states"
-        || word == "--memory"
-        || word == "--seed"
-        || word == "--times"
-        || word == "--until"
+    is_among(word, &VALUED)
+}
+
+/// Whether a word is one of these.
+fn is_among(word: &str, options: &[&str]) -> bool
+    ensures { result ≡ list_any (bytes_eq word.now) (map (λ option. option.now) options.now) }
+{
+    for option in options {
+        if word == *option {
+            return true;
+        }
+    }
+    false
 }
 
 /// Whether a word is an option. `-` alone is a file.

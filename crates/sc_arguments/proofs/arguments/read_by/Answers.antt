@@ -1,7 +1,7 @@
 use Rattle.std.proofs.Common.{arith}
 use Rattle.std.proofs.lemmas.Grind.{common_steps}
 use Rattle.sc_arguments.proofs.AskedLemmas.{asked-for}
-use Rattle.sc_arguments.proofs.arguments.read_arguments.Goals as goal
+use Rattle.sc_arguments.proofs.arguments.read_by.Goals as goal
 
 -- the words behind the command are read
 pub returns-in-Some-len2-up : goal.returns-in-Some-len2-up
