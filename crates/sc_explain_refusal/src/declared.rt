@@ -84,6 +84,17 @@ pub fn feature_around(class: &Class, span: Span) -> Option<&Feature> {
     }
 }
 
+/// The class and the feature around a part of the text.
+pub fn both_around(classes: &[Class], span: Span) -> Option<(&Class, &Feature)> {
+    let Some((_, class)) = class_around(classes, span) else {
+        return None;
+    };
+    match feature_around(class, span) {
+        Some(feature) => Some((class, feature)),
+        None => None,
+    }
+}
+
 /// The routine that a feature is, if it is one.
 pub fn routine_of(feature: &Feature) -> Option<&Routine> {
     match &feature.kind {

@@ -2,6 +2,7 @@
 
 use crate::class_helps::{push_left_out, push_near_class};
 use crate::declared::{other_class, other_entity};
+use crate::edits::{Edit, Said, edit_of};
 use crate::fresh::Fresh;
 use crate::redefinition::{push_other_name, push_unfit};
 use crate::root::explain_root;
@@ -18,11 +19,24 @@ use sc_text::Span;
 use sc_tree::{Class, System};
 use std::alloc::{AllocError, Global};
 
-/// What is said of a refusal: lines of text, and another place, if one goes with the fault.
+/// What is said of a refusal: lines of text, another place, if one goes with the fault, and what the help says to write, if it
+/// says what and where.
 #[derive(Drop)]
 pub struct Diagnosis {
     pub lines: Vec<u8>,
     pub related: Option<Related>,
+    pub edit: Option<Edit>,
+}
+
+impl Diagnosis {
+    /// Its sentence, and what helps: nothing if it isn't known.
+    pub fn sentence_and_help(&self) -> (&str, &str) {
+        let lines = str::from_utf8(self.lines.as_slice()).unwrap_or("");
+        match lines.split_once("\nhelp: ") {
+            Some((sentence, help)) => (sentence, help.trim_end()),
+            None => (lines.trim_end(), ""),
+        }
+    }
 }
 
 /// What is said of this refusal of a text that is run from this root: a sentence, and a line that begins with `help: ` where
@@ -106,10 +120,7 @@ fn diagnose_each(
             code: one.code,
             span: one.span.unwrap_or(NOWHERE),
         };
-        let mut lines = Lines::new(alloc);
-        let related = refusal.tell(alloc, &mut lines, known);
-        let lines = lines.finish()?;
-        told.push(Diagnosis { lines, related })?;
+        told.push(refusal.diagnosis(alloc, known)?)?;
     }
     Ok(told)
 }
@@ -139,6 +150,37 @@ struct Refusal<'s> {
 }
 
 impl<'s> Refusal<'s> {
+    /// What is said of it.
+    fn diagnosis(&self, alloc: Global, known: Known<'s>) -> Result<Diagnosis, AllocError> {
+        let mut lines = Lines::new(alloc);
+        let related = self.tell(alloc, &mut lines, known);
+        let mut diagnosis = Diagnosis {
+            lines: lines.finish()?,
+            related,
+            edit: None,
+        };
+        diagnosis.edit = self.edit(alloc, known.classes, &diagnosis)?;
+        Ok(diagnosis)
+    }
+
+    /// What the help with it says to write, if it says what and where.
+    fn edit(
+        &self,
+        alloc: Global,
+        classes: &[Class],
+        diagnosis: &Diagnosis,
+    ) -> Result<Option<Edit>, AllocError> {
+        let (message, help) = diagnosis.sentence_and_help();
+        let said = Said {
+            text: self.text,
+            span: self.span,
+            message,
+            help,
+            related: diagnosis.related,
+        };
+        edit_of(alloc, classes, self.code, said)
+    }
+
     /// Adds what is said of it. Another place, if one goes with the fault.
     fn tell(&self, alloc: Global, lines: &mut Lines, known: Known<'s>) -> Option<Related> {
         let classes = known.classes;

@@ -38,7 +38,7 @@ fn fresh_name(text: &str, but: usize) -> &'static str {
 }
 
 /// Whether the text contains the word, in any letter case.
-fn has_word(text: &[u8], word: &[u8]) -> bool {
+pub(crate) fn has_word(text: &[u8], word: &[u8]) -> bool {
     let mut start = 0;
     for index in 0..text.len().saturating_add(1) {
         if !is_part_of_name(text.get(index)) {
@@ -53,7 +53,8 @@ fn has_word(text: &[u8], word: &[u8]) -> bool {
     false
 }
 
-fn is_part_of_name(byte: Option<&u8>) -> bool {
+/// Whether there is a byte, and a name may have it.
+pub(crate) fn is_part_of_name(byte: Option<&u8>) -> bool {
     match byte {
         None => false,
         Some(byte) => byte.is_ascii_alphanumeric() || *byte == b'_',

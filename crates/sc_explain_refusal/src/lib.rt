@@ -5,12 +5,18 @@
 //! meant and what is written in place of what is left out (`class_helps`), a `redefine` that is missing and what a
 //! redefinition lacks (`redefinition`), and which root fits (`root`).
 //!
+//! If a help says what to write and where, the diagnosis has it as an [`Edit`] (`edits`).
+//!
 //! The sentences are for people: nothing of the answer, which is the refusal's line, depends on them.
 #![tactic(auto)]
 
+mod class_heads;
 mod class_helps;
 mod declared;
+mod declaring;
 mod diagnosis;
+mod edits;
+mod enclosing;
 mod fresh;
 mod helps;
 mod impurity;
@@ -19,6 +25,7 @@ mod redefinition;
 mod root;
 mod sentences;
 mod site;
+mod spellings;
 mod telling;
 mod told;
 mod types;
@@ -26,4 +33,5 @@ mod walk;
 mod words;
 
 pub use diagnosis::{Diagnosis, diagnose, diagnose_all};
+pub use edits::Edit;
 pub use sc_explain_text::Related;

@@ -222,7 +222,7 @@ impl<'s> Search<'s> {
 }
 
 /// The place of an instruction.
-fn span_of(instruction: &Instr) -> Span {
+pub(crate) fn span_of(instruction: &Instr) -> Span {
     match instruction {
         Instr::Assign(span, _, _) | Instr::PrintText(span, _) => *span,
         Instr::Call(call) => call.span,

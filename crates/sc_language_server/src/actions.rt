@@ -1,64 +1,61 @@
 //! The changes that helps tell of.
 
-use crate::findings::Finding;
-use crate::systems::{CheckedSystem, Part, Place};
-use crate::written::{push_quoted, push_range};
-use sc_explain_text::{Lines, is_slip};
-use std::alloc::Global;
+use crate::systems::{CheckedSystem, Joined, Place};
+use crate::written::{push_place, push_quoted};
+use sc_explain_refusal::Edit;
+use sc_explain_text::{Lines, word_at};
+use std::alloc::{AllocError, Global};
 
-/// Adds the changes that helps tell of at a place of a document.
-pub fn push_actions(
-    alloc: Global,
-    lines: &mut Lines,
-    system: &CheckedSystem,
-    part: &Part,
-    place: Place,
-) {
+/// Adds the changes that the helps at a place tell of.
+pub fn push_actions(alloc: Global, lines: &mut Lines, system: &CheckedSystem, place: Place) {
     lines.push("[");
     let mut before = "";
     for finding in &system.findings {
         if finding.touches(place)
-            && let Some(meant) = edit_of(finding, part.document.text())
+            && let Some(edit) = &finding.diagnosis.edit
         {
             lines.push(before);
-            push_edit(alloc, lines, part, finding.place, meant);
+            push_edit(alloc, lines, &system.joined, edit);
             before = ",";
         }
     }
     lines.push("]")
 }
 
-/// What the help with a finding says to write in place of what is found, in this text.
-fn edit_of<'f>(finding: &'f Finding, text: &str) -> Option<&'f str> {
-    let Some((_, help)) = finding.said().split_once("\nhelp: ") else {
-        return None;
-    };
-    let Place { start, end, .. } = finding.place;
-    match text.get(start..end) {
-        Some(part) => edit_by(help, part),
-        None => None,
-    }
-}
-
-/// What a help says to write in place of this part: the name that was meant, if the part is a slip for it.
-fn edit_by<'h>(help: &'h str, part: &str) -> Option<&'h str> {
-    if let Some(meant) = help.strip_prefix("did you mean `")
-        && let Some(meant) = meant.strip_suffix("`?")
-        && is_slip(meant.as_bytes(), part.as_bytes())
-    {
-        return Some(meant);
-    }
-    None
-}
-
-/// Adds the change that writes this name in a place of a document.
-fn push_edit(alloc: Global, lines: &mut Lines, part: &Part, place: Place, meant: &str) {
+/// Adds a change of a document.
+fn push_edit(alloc: Global, lines: &mut Lines, joined: &Joined, edit: &Edit) {
+    let place = joined.place_of(Some(edit.span));
     lines.push(r#"{"edit":{"changes":{"#);
-    push_quoted(alloc, lines, part.uri.as_str());
-    lines.fill_name(r#":[{"newText":"~","range":"#, meant);
-    push_range(lines, &part.document, place.start, place.end);
-    lines.fill_name(
-        r#"}]}},"isPreferred":true,"kind":"quickfix","title":"write `~`"}"#,
-        meant,
-    )
+    push_quoted(alloc, lines, joined.uri_of(place));
+    lines.push(r#":[{"newText":"#);
+    push_quoted(alloc, lines, edit.text());
+    lines.push(r#","range":"#);
+    push_place(lines, joined, place);
+    lines.push(r#"}]}},"isPreferred":true,"kind":"quickfix","title":"#);
+    push_title(alloc, lines, joined, edit);
+    lines.push("}")
+}
+
+/// Adds in quotes what a change does.
+fn push_title(alloc: Global, lines: &mut Lines, joined: &Joined, edit: &Edit) {
+    match title_of(alloc, joined, edit) {
+        Ok(title) => {
+            let title = str::from_utf8(title.as_slice()).unwrap_or("");
+            push_quoted(alloc, lines, title)
+        }
+        Err(_) => lines.lack(),
+    }
+}
+
+/// What a change writes, or else what it leaves out, on one line.
+fn title_of(alloc: Global, joined: &Joined, edit: &Edit) -> Result<Vec<u8>, AllocError> {
+    let (doing, shown) = match edit.text() {
+        "" => ("leave out `", word_at(joined.text.as_str(), edit.span)),
+        text => ("write `", text),
+    };
+    let mut title = Lines::new(alloc);
+    title.push(doing);
+    title.push_flat(shown);
+    title.push("`");
+    title.finish()
 }

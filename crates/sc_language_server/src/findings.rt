@@ -68,6 +68,7 @@ fn push_all(
         let diagnosis = told.next().unwrap_or(Diagnosis {
             lines: Vec::new(alloc),
             related: None,
+            edit: None,
         });
         push_refused(findings, joined, *one, diagnosis)?
     }
@@ -137,6 +138,9 @@ fn push_part(
     if let Some(Related { what, span }) = diagnosis.related {
         let span = moved_on(span, part.start);
         diagnosis.related = Some(Related { what, span });
+    }
+    if let Some(edit) = &mut diagnosis.edit {
+        edit.span = moved_on(edit.span, part.start);
     }
     let Refused { code, span } = refused;
     let span = match span {
@@ -219,6 +223,7 @@ fn push_warning(
         diagnosis: Diagnosis {
             lines,
             related: None,
+            edit: None,
         },
     })?;
     Ok(())

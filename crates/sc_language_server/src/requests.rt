@@ -86,7 +86,7 @@ fn answer_part(
         Request::Actions => {
             let place = place_in(index, part, range_in(member(params, "range")))?;
             if are_fixes_wanted(params) {
-                push_actions(alloc, lines, system, part, place)
+                push_actions(alloc, lines, system, place)
             } else {
                 lines.push("[]")
             }

@@ -2,8 +2,8 @@
 
 use crate::json::quoting::push_quoted;
 use sc_class::Root;
-use sc_explain_refusal::{Diagnosis, Related, diagnose_all};
-use sc_explain_text::{Lines, is_slip, word_at};
+use sc_explain_refusal::{Diagnosis, Edit, Related, diagnose_all};
+use sc_explain_text::Lines;
 use sc_frontend::Refused;
 use sc_places::Places;
 use sc_source::source::Place;
@@ -23,8 +23,8 @@ struct Finding<'f> {
     message: &'f str,
     /// What helps; nothing if it isn't known.
     help: &'f str,
-    /// What is to be written in place of the part, if it is known.
-    edit: Option<&'f str>,
+    /// What the help says to write, if it says what and where.
+    edit: Option<&'f Edit>,
     related: Option<Related>,
 }
 
@@ -76,12 +76,7 @@ fn push_diagnosis(
     diagnosis: &Diagnosis,
 ) {
     let Refused { code, span } = refused;
-    let said = str::from_utf8(diagnosis.lines.as_slice()).unwrap_or("");
-    let (message, help) = match said.split_once("\nhelp: ") {
-        Some(parts) => parts,
-        None => (said, ""),
-    };
-    let help = help.trim_end();
+    let (message, help) = diagnosis.sentence_and_help();
     push_finding(
         alloc,
         lines,
@@ -91,31 +86,12 @@ fn push_diagnosis(
             code: Some(code.code()),
             name: Some(code.name()),
             span,
-            message: message.trim_end(),
+            message,
             help,
-            edit: edit_by(help, part_at(places, span)),
+            edit: diagnosis.edit.as_ref(),
             related: diagnosis.related,
         },
     )
-}
-
-/// The text of a part of the source text; nothing if there is none.
-fn part_at<'s>(places: &Places<'s>, span: Option<Span>) -> &'s str {
-    match span {
-        Some(span) => word_at(places.source().text(), span),
-        None => "",
-    }
-}
-
-/// What a help says to write in place of this part: the name that was meant, if the part is a slip for it.
-fn edit_by<'h>(help: &'h str, part: &str) -> Option<&'h str> {
-    if let Some(meant) = help.strip_prefix("did you mean `")
-        && let Some(meant) = meant.strip_suffix("`?")
-        && is_slip(meant.as_bytes(), part.as_bytes())
-    {
-        return Some(meant);
-    }
-    None
 }
 
 /// Adds an element. Its members are in the order of their names.
@@ -129,7 +105,7 @@ fn push_finding(alloc: Global, lines: &mut Lines, places: &Places<'_>, finding: 
     push_begin(alloc, lines, places, finding.span);
     push_name(lines, r#","code":"#, finding.code);
     lines.push(r#","edit":"#);
-    push_edit(alloc, lines, places, finding);
+    push_edit(alloc, lines, places, finding.edit);
     lines.push(r#","end":"#);
     push_end(alloc, lines, places, finding.span);
     lines.push(r#","help":"#);
@@ -160,16 +136,16 @@ fn push_help(alloc: Global, lines: &mut Lines, help: &str) {
     }
 }
 
-/// Adds what is to be written in place of the part, or null.
-fn push_edit(alloc: Global, lines: &mut Lines, places: &Places<'_>, finding: Finding<'_>) {
-    match finding.edit {
-        Some(text) => {
+/// Adds what the help says to write, or null.
+fn push_edit(alloc: Global, lines: &mut Lines, places: &Places<'_>, edit: Option<&Edit>) {
+    match edit {
+        Some(edit) => {
             lines.push(r#"{"begin":"#);
-            push_begin(alloc, lines, places, finding.span);
+            push_begin(alloc, lines, places, Some(edit.span));
             lines.push(r#","end":"#);
-            push_end(alloc, lines, places, finding.span);
+            push_end(alloc, lines, places, Some(edit.span));
             lines.push(r#","text":"#);
-            push_quoted(alloc, lines, String::from_str(alloc, text));
+            push_quoted(alloc, lines, String::from_str(alloc, edit.text()));
             lines.push("}")
         }
         None => lines.push("null"),
