@@ -1,7 +1,7 @@
 //! Tests alone, of what the program doesn't show and no clause says.
 //!
-//! Tables of rows, each a text or some steps and what comes of it: all class faults ([`class_faults`]), a formula of 3,000 levels
-//! ([`formulas`]), a handler's store ([`stores`]) and its log ([`worklogs`]). Runs by several workers ([`together`]), audits with records that aren't a run's own
+//! Tables of rows, each a text or some steps and what comes of it: a formula of 3,000 levels ([`formulas`]), a handler's store
+//! ([`stores`]) and its log ([`worklogs`]). Runs by several workers ([`together`]), audits with records that aren't a run's own
 //! ([`audits`]), settlements beside what regions played ([`settling`]), and worlds that one thread plays ([`worlds`]). Calls that
 //! the program doesn't make ([`library`]).
 //!
@@ -11,8 +11,6 @@
 
 #[cfg(test)]
 mod audits;
-#[cfg(test)]
-mod class_faults;
 #[cfg(test)]
 mod formulas;
 #[cfg(test)]
