@@ -1,16 +1,17 @@
-//! Audits of what a run left with records that aren't its own: of other lines, of other texts, and of each text that is one
-//! in which a byte is altered.
+//! Audits of what a run left with its own record, with records of other lines, and with each text that differs from a record in
+//! one byte.
 //!
 //! The numbers of these are counted by hand. In a line of one digit, a space and one digit, nine other handlers and eight
 //! other numbers of turns make other records; in the first line the other version does; elsewhere no byte may be another.
 
 use crate::programs::program_of;
-use crate::rows::{expect_text, halves_of};
-use crate::runs::left_by_one;
+use crate::rows::{expect_lines, halves_of};
+use crate::runs::{NEVER, left_by};
 use crate::together::RELAY;
 use sc_audit::{ReadFault, Record, RecordLine, read_record};
 use sc_code::Program;
 use sc_driver::{AuditFault, audit};
+use sc_explain_text::Lines;
 use sc_lockpass::Version;
 use sc_plant::Left;
 use std::alloc::{AllocError, Global};
@@ -28,9 +29,8 @@ type Answer = Result<(), AuditFault>;
 enum Says {
     /// Lines of a record, each a handler and its turns. A row is a line.
     Lines(Version),
-    /// The text of a record. A line with a sign is between two rows.
-    Text,
-    /// The text of a record, with each byte in turn replaced by each other one.
+    /// The text of a record, which gets a yes. Its answers are those to the texts in which one byte is another. A line with a
+    /// sign is between two rows.
     Altered,
 }
 
@@ -39,62 +39,34 @@ enum Says {
 /// How many handlers, and lines, an answer may name.
 const NAMED: usize = 32;
 
-/// How many texts have each answer.
-#[derive(Drop)]
-struct Counts {
-    yes: u32,
-    /// By the handler that differs.
-    differs: [u32; NAMED],
-    /// By the line at fault.
-    bad: [u32; NAMED],
+/// How many texts have each answer: first a yes, then by the handler that differs, and by the line at fault.
+type Counts = [[u32; NAMED]; 3];
+
+/// Counts an answer.
+fn count(counts: &mut Counts, answer: Answer) -> Result<(), Fail> {
+    let (kind, named) = match answer {
+        Ok(()) => (0, 0),
+        Err(AuditFault::Differs { handler }) => (1, handler as usize),
+        Err(AuditFault::BadRecord { line }) => (2, line as usize),
+        Err(AuditFault::OutOfMemory) => return Err(Fail::from(AllocError)),
+    };
+    if let Some(numbers) = counts.get_mut(kind)
+        && let Some(number) = numbers.get_mut(named)
+    {
+        *number = number.saturating_add(1);
+        return Ok(());
+    }
+    Err(Fail::new("an answer that names too much"))
 }
 
-impl Counts {
-    fn add(&mut self, answer: Answer) -> Result<(), Fail> {
-        let is_counted = match answer {
-            Ok(()) => {
-                self.yes = self.yes.saturating_add(1);
-                true
-            }
-            Err(AuditFault::Differs { handler }) => count_at(&mut self.differs, handler as usize),
-            Err(AuditFault::BadRecord { line }) => count_at(&mut self.bad, line as usize),
-            Err(AuditFault::OutOfMemory) => return Err(Fail::from(AllocError)),
-        };
-        if is_counted {
-            Ok(())
-        } else {
-            Err(Fail::new("an answer that names too much"))
+/// Adds the answers that some text has, each with how many have it.
+fn tell_each(lines: &mut Lines, answer: &str, numbers: &[u32]) {
+    for (named, number) in numbers.iter().enumerate() {
+        if *number > 0 {
+            lines.fill_number(answer, named as u64);
+            lines.push_number(*number as u64);
         }
     }
-
-    /// The answers that some text has, each with how many have it.
-    fn told(&self, alloc: Global) -> Result<String, AllocError> {
-        let yes = self.yes;
-        let mut told = format!(in alloc; "yes: {yes}")?;
-        tell_each(&mut told, "differs", &self.differs)?;
-        tell_each(&mut told, "bad", &self.bad)?;
-        Ok(told)
-    }
-}
-
-/// Counts one more at a place, if there is such a place.
-fn count_at(counts: &mut [u32], place: usize) -> bool {
-    match counts.get_mut(place) {
-        Some(count) => {
-            *count = count.saturating_add(1);
-            true
-        }
-        None => false,
-    }
-}
-
-fn tell_each(told: &mut String, answer: &str, counts: &[u32]) -> Result<(), AllocError> {
-    for (number, count) in counts.iter().enumerate() {
-        if *count > 0 {
-            write!(told, ", {answer} {number}: {count}")?;
-        }
-    }
-    Ok(())
 }
 
 /// Adds the lines that these words name.
@@ -134,7 +106,7 @@ fn flip(text: &mut [u8], place: usize, bits: u8) {
     }
 }
 
-/// Counts the answers to the texts that are this one but for a byte.
+/// Counts the answers to the texts that are this one but for a byte. It gets a yes itself.
 fn count_altered(
     alloc: Global,
     program: &Program,
@@ -142,10 +114,11 @@ fn count_altered(
     counts: &mut Counts,
     text: &mut [u8],
 ) -> Result<(), Fail> {
+    answer_to(alloc, program, left, &*text)?;
     for place in 0..text.len() {
         for bits in 1..=u8::MAX {
             flip(text, place, bits);
-            counts.add(answer_to(alloc, program, left, &*text))?;
+            count(counts, answer_to(alloc, program, left, &*text))?;
             flip(text, place, bits);
         }
     }
@@ -154,54 +127,34 @@ fn count_altered(
 
 // ---- rows
 
-/// Counts what is answered to a row.
-fn count_row(
-    alloc: Global,
-    program: &Program,
-    left: &mut Left<'_>,
-    counts: &mut Counts,
-    says: Says,
-    words: &str,
-) -> Result<(), Fail> {
-    match says {
-        Says::Lines(version) => {
-            left.version = version;
-            left.lines.clear();
-            add_lines(&mut left.lines, words)?;
-            counts.add(audit(alloc, program, left))
-        }
-        Says::Text => counts.add(answer_to(alloc, program, left, words.as_bytes())),
-        Says::Altered => {
-            let mut text = Vec::from_slice(alloc, words.as_bytes())?;
-            count_altered(alloc, program, left, counts, &mut text)
-        }
-    }
-}
-
-fn expect_rows<R: Abort>(
+/// Compares what is answered to a row with what it wants.
+fn expect_row<R: Abort>(
     rt: &R,
     alloc: Global,
     program: &Program,
     left: &mut Left<'_>,
     says: Says,
-    rows: &str,
+    row: &str,
 ) -> Result<(), Fail> {
-    let between = if let Says::Lines(_) = says {
-        "\n"
-    } else {
-        "\n#\n"
-    };
-    for row in rows.split(between) {
-        let (words, wanted) = halves_of(row)?;
-        let mut counts = Counts {
-            yes: 0,
-            differs: [0; NAMED],
-            bad: [0; NAMED],
-        };
-        count_row(alloc, program, left, &mut counts, says, words)?;
-        expect_text(rt, &counts.told(alloc)?, wanted, words);
+    let (words, wanted) = halves_of(row)?;
+    let mut counts = [[0; NAMED]; 3];
+    match says {
+        Says::Lines(version) => {
+            left.version = version;
+            left.lines.clear();
+            add_lines(&mut left.lines, words)?;
+            count(&mut counts, audit(alloc, program, left))?;
+        }
+        Says::Altered => {
+            let mut text = Vec::from_slice(alloc, words.as_bytes())?;
+            count_altered(alloc, program, left, &mut counts, &mut text)?;
+        }
     }
-    Ok(())
+    let mut told = Lines::new(alloc);
+    told.fill_number("yes: ~", counts[0][0] as u64);
+    tell_each(&mut told, ", differs ~: ", &counts[1]);
+    tell_each(&mut told, ", bad ~: ", &counts[2]);
+    expect_lines(rt, told, wanted, words)
 }
 
 /// The audit of what a run of the system left answers so to the rows of a table.
@@ -212,9 +165,16 @@ fn expect<R: Abort + AllocGlobal + Threads + Wait + Clock + Sync>(
     rows: &str,
 ) -> Result<(), Fail> {
     let alloc = rt.alloc();
-    let program = program_of(alloc, source, "application", "make")?;
-    let mut left = left_by_one(rt, alloc, &program)?;
-    expect_rows(rt, alloc, &program, &mut left, says, rows)
+    let between = match says {
+        Says::Lines(_) => "\n",
+        Says::Altered => "\n#\n",
+    };
+    let program = program_of(alloc, source)?;
+    let mut left = left_by(rt, alloc, &program, 1, NEVER)?;
+    for row in rows.split(between) {
+        expect_row(rt, alloc, &program, &mut left, says, row)?;
+    }
+    Ok(())
 }
 
 /// A system whose run is five turns of handler 0.
@@ -282,33 +242,7 @@ fn altered_records_of_the_smallest_run(rt: HostRuntime) -> Result<(), Fail> {
 }
 
 /// The record of the run of RELAY on one worker: handlers take turns in the order of their numbers, and each goes on until it
-/// asks something.
-const RELAY_RECORD: &str = "scoop record 2
-0 2
-1 1
-0 1
-2 1
-0 1
-3 1
-0 1
-4 1
-0 1
-4 2
-1 2
-4 1
-1 1
-4 3
-0 2
-2 1
-2 2
-3 1
-3 2
-2 1
-0 1
-end 21
-|yes: 1";
-
-/// A record, and how many of the texts that differ from it in one byte have each answer.
+/// asks something. How many of the texts that differ from it in one byte have each answer.
 const RELAY_ALTERED: &str = "scoop record 2
 0 2
 1 1
@@ -340,7 +274,6 @@ end 21
 
 #[test]
 fn altered_records_of_a_failure_in_a_chain(rt: HostRuntime) -> Result<(), Fail> {
-    expect(&rt, RELAY, Says::Text, RELAY_RECORD)?;
     expect(&rt, RELAY, Says::Altered, RELAY_ALTERED)
 }
 

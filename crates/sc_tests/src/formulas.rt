@@ -4,7 +4,7 @@ ghost use Rattle.std.specs.Prelude.{[], IfOk};
 ghost use Rattle.sc_formula.specs.Fit.{IsFit};
 ghost use Rattle.sc_formula.specs.Plain.{plain_formula};
 
-use crate::rows::expect_that;
+use crate::rows::expect_equal;
 use sc_formula::{Formula, eval};
 use std::alloc::{AllocError, Global};
 use std::test::Fail;
@@ -29,7 +29,7 @@ fn deep_formulas(rt: HostRuntime) -> Result<(), Fail> {
         (3_001, false, "3,001 levels"),
     ] {
         let formula = nested(rt.alloc(), depth)?;
-        expect_that(&rt, eval(&formula, &[]) == Some(want), of);
+        expect_equal(&rt, eval(&formula, &[]), Some(want), of);
     }
     Ok(())
 }

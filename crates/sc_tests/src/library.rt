@@ -1,9 +1,9 @@
 //! The calls of the library that the program itself doesn't make: whoever builds on a crate may.
 
-use crate::programs::{program_of, root_of};
-use crate::rows::{expect_number, expect_text, expect_that};
+use crate::programs::{application, program_of};
+use crate::rows::{expect_equal, expect_that};
 use sc_check::check;
-use sc_class::{ClassId, tables};
+use sc_class::{ClassId, Tables, tables};
 use sc_lockpass::Version;
 use sc_lockpass::wait_conditions::{ClauseKind, ClauseResult, Entry, EntryVerdict, Release};
 use sc_lower::{Lowering, lower_within};
@@ -12,7 +12,7 @@ use sc_request::Core;
 use sc_source::{SourceFault, join_sources};
 use sc_text::lex;
 use sc_tree::System;
-use std::alloc::{AllocError, Global};
+use std::alloc::Global;
 use std::process::Abort;
 use std::test::Fail;
 
@@ -38,34 +38,29 @@ end
 
 // ---- entries
 
-/// An entry of handler 0 that has newly reserved handler 1.
-fn entry() -> Entry {
-    let mut entry = Entry::new(0);
-    entry.reserved.push(1);
-    entry
-}
-
-/// A clause that was evaluated, of this kind.
+/// A clause that was evaluated, and what its entry does if it is false.
 fn clause(kind: ClauseKind, holds: bool) -> ClauseResult {
     ClauseResult { kind, holds }
 }
 
-/// A clause is waited for if it names a handler that was newly reserved; the first false one decides.
+/// A clause is waited for if it names a handler that was newly reserved; the first false one decides. The entry is one of handler 0
+/// that has newly reserved handler 1.
 #[test]
 fn clauses_decide(rt: HostRuntime) {
-    let entry = entry();
-    let waits = ClauseKind::WaitCondition;
-    let refuses = ClauseKind::CorrectnessCondition;
+    let mut entry = Entry::new(0);
+    entry.reserved.push(1);
     let with_reserved = entry.clause_kind(&[None, Some(1)]);
-    let waited_for = matches!(with_reserved, ClauseKind::WaitCondition);
+    let is_waited = matches!(with_reserved, ClauseKind::WaitCondition);
     expect_that(
         &rt,
-        waited_for,
+        is_waited,
         "a clause on a reserved handler is waited for",
     );
     let with_others = entry.clause_kind(&[Some(0), None, Some(2)]);
-    let tested = matches!(with_others, ClauseKind::CorrectnessCondition);
-    expect_that(&rt, tested, "a clause on others is tested at once");
+    let is_tested = matches!(with_others, ClauseKind::CorrectnessCondition);
+    expect_that(&rt, is_tested, "a clause on others is tested at once");
+    let waits = ClauseKind::WaitCondition;
+    let refuses = ClauseKind::CorrectnessCondition;
     let all_hold = [clause(waits, true), clause(refuses, true)];
     let starts = matches!(Entry::verdict(&all_hold), EntryVerdict::Start);
     expect_that(&rt, starts, "it starts if all clauses hold");
@@ -74,17 +69,17 @@ fn clauses_decide(rt: HostRuntime) {
         clause(waits, false),
         clause(refuses, false),
     ];
-    let is_first = matches!(Entry::verdict(&one_waits), EntryVerdict::Wait);
+    let waits_on = matches!(Entry::verdict(&one_waits), EntryVerdict::Wait);
     expect_that(
         &rt,
-        is_first,
+        waits_on,
         "it waits if the first false clause is waited for",
     );
     let one_refuses = [clause(refuses, false), clause(waits, false)];
-    let is_first = matches!(Entry::verdict(&one_refuses), EntryVerdict::Refuse);
+    let is_refused = matches!(Entry::verdict(&one_refuses), EntryVerdict::Refuse);
     expect_that(
         &rt,
-        is_first,
+        is_refused,
         "it is refused if the first false clause is tested at once",
     );
 }
@@ -112,34 +107,32 @@ fn handlers_hold_themselves(rt: HostRuntime) -> Result<(), Fail> {
 /// How long the code is, and how many operands each routine has at most. An attribute is no routine.
 #[test]
 fn code_is_counted(rt: HostRuntime) -> Result<(), Fail> {
-    let program = program_of(rt.alloc(), SMALL, "application", "make")?;
-    expect_number(&rt, program.instructions() as u64, 9, "instructions");
-    expect_number(&rt, program.depth(0) as u64, 0, "operands of n");
-    expect_number(&rt, program.depth(1) as u64, 1, "operands of make");
-    expect_number(&rt, program.depth(2) as u64, 2, "operands of raise");
-    expect_number(&rt, program.depth(3) as u64, 0, "operands of no feature");
+    let program = program_of(rt.alloc(), SMALL)?;
+    expect_equal(&rt, program.instructions(), 9, "instructions");
+    expect_equal(&rt, program.depth(0), 0, "operands of n");
+    expect_equal(&rt, program.depth(1), 1, "operands of make");
+    expect_equal(&rt, program.depth(2), 2, "operands of raise");
+    expect_equal(&rt, program.depth(3), 0, "operands of no feature");
     Ok(())
+}
+
+/// The tables of a system's classes.
+fn tables_of<'s>(alloc: Global, system: &'s System) -> Result<Tables<'s>, Fail> {
+    let root = application(alloc)?;
+    Ok(tables(alloc, system, &root)?)
 }
 
 /// Code that is too long hands the system back, which can then be lowered within more.
 fn expect_too_long<R: Abort + AllocGlobal>(rt: &R, system: &System) -> Result<(), Fail> {
     let alloc = rt.alloc();
-    let root = root_of(alloc, "application", "make")?;
-    let checked = check(alloc, tables(alloc, system, &root)?)?;
+    let checked = check(alloc, tables_of(alloc, system)?)?;
     match lower_within(alloc, checked, 8) {
         Err(Lowering::CodeTooLong(checked)) => {
-            let Ok(program) = lower_within(alloc, checked, 9) else {
-                return Err(Fail::from(AllocError));
-            };
-            expect_number(
-                rt,
-                program.instructions() as u64,
-                9,
-                "instructions within nine",
-            );
+            let program = lower_within(alloc, checked, 9)?;
+            expect_equal(rt, program.instructions(), 9, "instructions within nine");
             Ok(())
         }
-        Err(Lowering::OutOfMemory(_)) => Err(Fail::from(AllocError)),
+        Err(fault) => Err(Fail::from(fault)),
         Ok(_) => Err(Fail::new("nine instructions within eight")),
     }
 }
@@ -155,15 +148,14 @@ fn long_code_is_refused(rt: HostRuntime) -> Result<(), Fail> {
 /// An heir's invariant has the clauses of its parent, too.
 fn expect_joined<R: Abort + AllocGlobal>(rt: &R, system: &System) -> Result<(), Fail> {
     let alloc = rt.alloc();
-    let root = root_of(alloc, "application", "make")?;
-    let tables = tables(alloc, system, &root)?;
+    let tables = tables_of(alloc, system)?;
     for &(class, wanted, of) in &[
         (ClassId::Declared(0), 1, "clauses of the parent"),
         (ClassId::Declared(1), 2, "clauses of the heir"),
         (ClassId::Any, 0, "clauses of ANY"),
     ] {
         let clauses = tables.invariant_of(alloc, class)?;
-        expect_number(rt, clauses.len() as u64, wanted, of);
+        expect_equal(rt, clauses.len(), wanted, of);
     }
     Ok(())
 }
@@ -189,7 +181,7 @@ fn system_of(alloc: Global, text: &str) -> Result<System, Fail> {
 fn sources_are_joined(rt: HostRuntime) -> Result<(), Fail> {
     let mut marked: [&[u8]; 2] = [b"\xef\xbb\xbfa", b"b"];
     let text = join_sources(rt.alloc(), &mut marked)?;
-    expect_text(&rt, text.as_str(), "a\nb\n", "two files");
+    expect_equal(&rt, text.as_str(), "a\nb\n", "two files");
     let mut broken: [&[u8]; 2] = [b"a", b"\xff"];
     match join_sources(rt.alloc(), &mut broken) {
         Err(SourceFault::NotUtf8 { file: 1 }) => Ok(()),

@@ -1,16 +1,16 @@
 //! Stores of a handler: what calls leave of one, step by step.
 
 use crate::programs::program_of;
-use crate::rows::{expect_text, halves_of, object_state};
-use sc_code::{ClassNumber, Program};
+use crate::rows::{expect_equal, expect_lines, halves_of, object_state, push_debug};
+use sc_explain_text::Lines;
 use sc_model::Cause;
-use sc_region::{Activation, ObjectNumber, Origin, Reference, Store, Value};
-use std::alloc::{AllocError, Global};
+use sc_region::{ObjectNumber, Origin, Reference, Store, Value};
+use std::alloc::AllocError;
 use std::process::Abort;
 use std::test::Fail;
 
-/// Three classes, and a routine without formals and a function of one in the first.
-const SOURCE: &str = "class LOW create run
+/// Three classes, with a routine without formals and a function of one in the first, and the root.
+const SOURCE: &str = "class LOW
 feature
     n: INTEGER
     run do end
@@ -19,7 +19,9 @@ invariant n < 8 end
 
 class SET feature n: INTEGER invariant n /= 0 end
 
-class FREE feature i: INTEGER b: BOOLEAN a: detachable FREE end";
+class FREE feature i: INTEGER b: BOOLEAN a: detachable FREE end
+
+class APPLICATION create make feature make do end end";
 
 /// Calls of a store without objects, and what they leave: the failure that it has ended in, if any, and the number of
 /// Current, if there is a frame; of each object whether it is settled, whether it meets its invariant, and its
@@ -69,26 +71,10 @@ born LOW run, push 1 ask 3, pop|1 RequestedCreation Runs at 0 [] None false fals
 
 // ---- calls
 
-/// A call of the store of handler 0.
-#[derive(Clone, Copy)]
-enum Step<'t> {
-    /// An object of the class is made by a request, and the routine entered on it, if there is one.
-    Born(u8, Option<u8>),
-    /// A routine makes an object, by this procedure or without one.
-    Make(u8, Option<u8>),
-    /// The routine is entered on the object of the number, with this actual, if there is one.
-    Push(u8, u8, Option<u8>),
-    Pop,
-    /// The first attribute of Current gets the value.
-    Set(u8),
-    Print(&'t str),
-    Fail,
-}
-
-/// The number that a word stands for, if there is a word: that of a class, that of a feature of the first class, or its own.
+/// The number that a word stands for, if there is one: that of a class, that of a feature of the first class, or its own.
 fn number_if_any(word: Option<&str>) -> Result<Option<u8>, Fail> {
     match word {
-        None => Ok(None),
+        None | Some("") => Ok(None),
         Some("LOW" | "n") => Ok(Some(0)),
         Some("SET" | "run") => Ok(Some(1)),
         Some("FREE" | "ask") => Ok(Some(2)),
@@ -96,216 +82,180 @@ fn number_if_any(word: Option<&str>) -> Result<Option<u8>, Fail> {
     }
 }
 
-/// The call that these words name.
-fn step_of(text: &str) -> Result<Step<'_>, Fail> {
-    let mut words = text.split(' ');
-    let verb = words.next().unwrap_or("");
+/// The numbers that at most three words stand for.
+fn numbers_of(words: &str) -> Result<[Option<u8>; 3], Fail> {
+    let mut words = words.split(' ');
+    let first = number_if_any(words.next())?;
+    let second = number_if_any(words.next())?;
+    let third = number_if_any(words.next())?;
+    Ok([first, second, third])
+}
+
+/// Makes a call of the store of handler 0, by its verb and the numbers after it. `born` makes an object of a class by a request,
+/// and `make` by a routine, and both enter a routine on it if it is named. `push` enters a routine on an object, with an actual
+/// if there is one. `set` gives the first attribute of Current a value. Returns whether there was memory.
+fn call(store: &mut Store<'_>, words: &str) -> Result<bool, Fail> {
+    let (verb, rest) = words.split_once(' ').unwrap_or((words, ""));
     if verb == "print" {
-        return Ok(Step::Print(words.next().unwrap_or("")));
+        return Ok(store.print(rest.as_bytes()).is_ok());
     }
-    let noun = number_if_any(words.next())?;
-    let routine = number_if_any(words.next())?;
-    let actual = number_if_any(words.next())?;
-    match (verb, noun, routine) {
-        ("born", Some(class), _) => Ok(Step::Born(class, routine)),
-        ("make", Some(class), _) => Ok(Step::Make(class, routine)),
-        ("push", Some(number), Some(routine)) => Ok(Step::Push(number, routine, actual)),
-        ("pop", None, _) => Ok(Step::Pop),
-        ("set", Some(value), None) => Ok(Step::Set(value)),
-        ("fail", None, _) => Ok(Step::Fail),
-        _ => Err(Fail::new("an unknown call")),
-    }
-}
-
-/// The number that the next object has; no row makes more than nine.
-fn next_number(store: &Store<'_>) -> ObjectNumber {
-    for number in 1..10 {
-        if store.class_of(number).is_none() {
-            return number;
-        }
-    }
-    10
-}
-
-fn object(number: ObjectNumber, class: ClassNumber) -> Reference {
-    Reference {
-        handler: 0,
-        number,
-        class,
-    }
-}
-
-fn call(store: &mut Store<'_>, step: Step<'_>) -> Result<(), AllocError> {
-    match step {
-        Step::Born(class, None) => store.birth(class as ClassNumber),
-        Step::Born(class, Some(routine)) => {
-            let target = object(next_number(store), class as ClassNumber);
+    let [noun, routine, actual] = numbers_of(rest)?;
+    let made = match (verb, noun, routine) {
+        ("born", Some(class), None) => store.birth(class),
+        ("born", Some(class), Some(routine)) => {
+            let made = u32::try_from(store.object_count()).unwrap_or(0);
+            let target = Reference {
+                handler: 0,
+                number: made.saturating_add(1),
+                class,
+            };
             store.birth_with(target, routine as usize, &[])
         }
-        Step::Make(class, None) => store.make_object(class as ClassNumber),
-        Step::Make(class, Some(routine)) => {
-            store.make_object_with(0, class as ClassNumber, routine as usize, &[])
+        ("make", Some(class), None) => store.make_object(class),
+        ("make", Some(class), Some(routine)) => {
+            store.make_object_with(0, class, routine as usize, &[])
         }
-        Step::Push(number, routine, actual) => {
+        ("push", Some(number), Some(routine)) => {
             let number = number as ObjectNumber;
-            let current = object(number, store.class_of(number).unwrap_or(0));
-            let routine = routine as usize;
+            let current = Reference {
+                handler: 0,
+                number,
+                class: store.class_of(number).unwrap_or(0),
+            };
             match actual {
-                None => store.push(current, routine, Origin::Qualified, &[]),
+                None => store.push(current, routine as usize, Origin::Qualified, &[]),
                 Some(actual) => {
                     let actual = Value::Integer(actual as i64);
-                    store.push(current, routine, Origin::Qualified, &[actual])
+                    store.push(current, routine as usize, Origin::Qualified, &[actual])
                 }
             }
         }
-        Step::Pop => {
-            store.pop();
-            Ok(())
-        }
-        Step::Set(value) => {
+        ("set", Some(value), None) => {
             store.write_current(0, Value::Integer(value as i64));
             Ok(())
         }
-        Step::Print(text) => store.print(text.as_bytes()),
-        Step::Fail => {
+        ("pop", None, None) => {
+            store.pop();
+            Ok(())
+        }
+        ("fail", None, None) => {
             store.fail(Cause::Check);
             Ok(())
         }
-    }
+        _ => return Err(Fail::new("an unknown call")),
+    };
+    Ok(made.is_ok())
 }
 
 // ---- what they leave
 
-fn tell_value(text: &mut String, value: Value) -> Result<(), AllocError> {
-    match value {
-        Value::Integer(number) => write!(text, " {number}"),
-        _ => write!(text, " {value:?}"),
+/// The text on a store.
+fn told_store(store: &Store<'_>) -> Lines {
+    let alloc = store.alloc();
+    let mut lines = Lines::new(alloc);
+    match store.failure() {
+        Some(why) => push_debug(alloc, &mut lines, "", &why),
+        None => lines.push("runs"),
     }
-}
-
-fn tell_object(
-    text: &mut String,
-    store: &Store<'_>,
-    number: ObjectNumber,
-) -> Result<(), AllocError> {
-    let state = object_state(store.settled(number), store.test_invariant(number));
-    write!(text, "; {state}")?;
-    for slot in 0..4 {
-        if let Some(value) = store.read(number, slot) {
-            tell_value(text, value)?;
-        }
-    }
-    Ok(())
-}
-
-fn told(alloc: Global, store: &Store<'_>) -> Result<String, Fail> {
-    let mut text = match store.failure() {
-        Some(why) => format!(in alloc; "{why:?}")?,
-        None => String::from_str(alloc, "runs")?,
-    };
     if let Some(current) = store.current() {
-        let number = current.number;
-        write!(text, " on {number}")?;
+        lines.fill_number(" on ~", current.number as u64);
     }
     for number in 1..10 {
-        if store.class_of(number).is_some() {
-            tell_object(&mut text, store, number)?;
+        if store.class_of(number).is_none() {
+            continue;
+        }
+        lines.push("; ");
+        lines.push(object_state(store.settled(number), store.test_invariant(number)));
+        for slot in 0..4 {
+            match store.read(number, slot) {
+                Some(Value::Integer(number)) => push_debug(alloc, &mut lines, " ", &number),
+                Some(value) => push_debug(alloc, &mut lines, " ", &value),
+                None => {}
+            }
         }
     }
     if !store.output().is_empty() {
-        let output = String::from_utf8_lossy(alloc, store.output())?;
-        write!(text, "; printed {output}")?;
+        lines.push("; printed ");
+        lines.push_bytes(store.output());
     }
-    Ok(text)
+    lines
 }
 
-fn told_frame(alloc: Global, store: &Store<'_>) -> Result<String, Fail> {
-    let Some(top) = store.top() else {
-        return Ok(String::from_str(alloc, "none")?);
-    };
-    let Activation {
-        routine,
-        origin,
-        stage,
-        place,
-        slots,
-        result,
-        olds,
-        operands,
-        ..
-    } = top;
-    let may_keep = !olds.is_full();
-    let may_push = !operands.is_full();
-    Ok(format!(in alloc;
-        "{routine} {origin:?} {stage:?} at {place} {slots:?} {result:?} {may_keep} {may_push}"
-    )?)
+/// The text on the topmost routine of a store.
+fn told_frame(store: &Store<'_>) -> Lines {
+    let alloc = store.alloc();
+    let mut lines = Lines::new(alloc);
+    match store.top() {
+        Some(top) => {
+            push_debug(alloc, &mut lines, "", &top.routine);
+            push_debug(alloc, &mut lines, " ", &top.origin);
+            push_debug(alloc, &mut lines, " ", &top.stage);
+            push_debug(alloc, &mut lines, " at ", &top.place);
+            push_debug(alloc, &mut lines, " ", &top.slots);
+            push_debug(alloc, &mut lines, " ", &top.result);
+            push_debug(alloc, &mut lines, " ", &!top.olds.is_full());
+            push_debug(alloc, &mut lines, " ", &!top.operands.is_full());
+        }
+        None => lines.push("none"),
+    }
+    lines
 }
 
 /// Makes a call. One that is refused memory has changed nothing, so it is made once more.
-fn expect_call<R: Abort + AllocGlobal>(
-    rt: &R,
-    store: &mut Store<'_>,
-    words: &str,
-) -> Result<(), Fail> {
-    let step = step_of(words)?;
-    let before = told(rt.alloc(), store)?;
-    if call(store, step).is_err() {
-        let after = told(rt.alloc(), store)?;
-        expect_text(rt, &after, &before, words);
-        call(store, step)?;
+fn expect_call<R: Abort>(rt: &R, store: &mut Store<'_>, words: &str) -> Result<(), Fail> {
+    let before = told_store(store).finish()?;
+    if call(store, words)? {
+        return Ok(());
     }
-    Ok(())
+    let after = told_store(store).finish()?;
+    expect_equal(rt, after.as_slice(), before.as_slice(), words);
+    if call(store, words)? {
+        return Ok(());
+    }
+    Err(Fail::from(AllocError))
 }
 
-/// Makes these calls.
-fn play<R: Abort + AllocGlobal>(rt: &R, store: &mut Store<'_>, steps: &str) -> Result<(), Fail> {
+/// Makes the calls of a row, one after the other, and compares what they leave with what the row wants.
+fn expect_row<R: Abort>(
+    rt: &R,
+    store: &mut Store<'_>,
+    row: &str,
+    is_of_frame: bool,
+) -> Result<(), Fail> {
+    let (steps, wanted) = halves_of(row)?;
     for words in steps.split(", ") {
         if words.is_empty() {
             break;
         }
         expect_call(rt, store, words)?;
     }
-    Ok(())
-}
-
-/// The text on the store after these calls, or on its topmost routine.
-fn told_after<R: Abort + AllocGlobal>(
-    rt: &R,
-    program: &Program,
-    steps: &str,
-    is_of_frame: bool,
-) -> Result<String, Fail> {
-    let mut store = Store::new(rt.alloc(), program);
-    play(rt, &mut store, steps)?;
-    if is_of_frame {
-        told_frame(rt.alloc(), &store)
+    let told = if is_of_frame {
+        told_frame(store)
     } else {
-        told(rt.alloc(), &store)
-    }
+        told_store(store)
+    };
+    expect_lines(rt, told, wanted, steps)
 }
 
 fn expect_rows<R: Abort + AllocGlobal>(
     rt: &R,
-    program: &Program,
     rows: &str,
     are_of_frames: bool,
 ) -> Result<(), Fail> {
+    let program = program_of(rt.alloc(), SOURCE)?;
     for row in rows.lines() {
-        let (steps, wanted) = halves_of(row)?;
-        let told = told_after(rt, program, steps, are_of_frames)?;
-        expect_text(rt, &told, wanted, steps);
+        let mut store = Store::new(rt.alloc(), &program);
+        expect_row(rt, &mut store, row, are_of_frames)?;
     }
     Ok(())
 }
 
 #[test]
 fn calls_leave_stores(rt: HostRuntime) -> Result<(), Fail> {
-    let program = program_of(rt.alloc(), SOURCE, "low", "run")?;
-    expect_rows(&rt, &program, STORES, false)
+    expect_rows(&rt, STORES, false)
 }
 
 #[test]
 fn routines_begin(rt: HostRuntime) -> Result<(), Fail> {
-    let program = program_of(rt.alloc(), SOURCE, "low", "run")?;
-    expect_rows(&rt, &program, FRAMES, true)
+    expect_rows(&rt, FRAMES, true)
 }

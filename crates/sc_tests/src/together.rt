@@ -25,9 +25,19 @@ handler 2 free refused 0 output 0
 stopped idle
 ";
 
+/// Handlers 1 and 2 wait for each other.
 #[test]
 fn two_at_once(rt: HostRuntime) -> Result<(), Fail> {
-    expect_report(&rt, TWO, 2, Waits::ForEachOther(0x6), TWO_REPORT)
+    expect_report(
+        &rt,
+        TWO,
+        2,
+        Waits {
+            handlers: 0x6,
+            ends: 0,
+        },
+        TWO_REPORT,
+    )
 }
 
 /// Eight handlers that a ninth one makes.
@@ -68,9 +78,19 @@ handler 8 free refused 0 output 0
 stopped idle
 ";
 
+/// Handlers 1 to 8 wait for each other.
 #[test]
 fn eight_at_once(rt: HostRuntime) -> Result<(), Fail> {
-    expect_report(&rt, EIGHT, 8, Waits::ForEachOther(0x1fe), EIGHT_REPORT)
+    expect_report(
+        &rt,
+        EIGHT,
+        8,
+        Waits {
+            handlers: 0x1fe,
+            ends: 0,
+        },
+        EIGHT_REPORT,
+    )
 }
 
 /// Locks that are passed twice, then a failure; and a handler that comes late.
@@ -107,7 +127,17 @@ handler 4 free refused 0 output 1
 stopped idle
 ";
 
+/// Handler 4 waits until handler 3 has ended twice.
 #[test]
 fn one_comes_late(rt: HostRuntime) -> Result<(), Fail> {
-    expect_report(&rt, RELAY, 2, Waits::UntilEndedTwice, RELAY_REPORT)
+    expect_report(
+        &rt,
+        RELAY,
+        2,
+        Waits {
+            handlers: 0x10,
+            ends: 2,
+        },
+        RELAY_REPORT,
+    )
 }

@@ -1,21 +1,21 @@
 //! A handler with its log: what jobs leave of it, and what is noted of them.
 
 use crate::programs::program_of;
-use crate::rows::{expect_number, expect_text, halves_of, object_state};
+use crate::rows::{expect_equal, expect_lines, halves_of, object_state};
 use arrayvec::ArrayVec;
 use sc_code::Program;
-use sc_lockpass::HandlerNumber;
-use sc_region::{Errand, Job, Reference, Request, Want};
+use sc_explain_text::Lines;
+use sc_region::{Errand, Job, Reference, Request, Value, Want};
 use sc_worklog::LoggedRegion;
 use std::alloc::Global;
 use std::process::Abort;
 use std::test::Fail;
 
 /// A class whose root counts to 2 by a routine of its own and prints, and one of another handler.
-const SOURCE: &str = "class ROOT create run
+const SOURCE: &str = "class APPLICATION create make
 feature
     n: INTEGER
-    run local c: separate CELL do from n := 0 until n = 2 loop step end print (n) create c ask (c) end
+    make local c: separate CELL do from n := 0 until n = 2 loop step end print (n) create c ask (c) end
     step do n := n + 1 end
     ask (c: separate CELL) do print (c.item) end
 invariant n < 8 end
@@ -42,48 +42,30 @@ make 1, make 1|0 Take 1 Continue, 0 Take 1 Continue; ; open meets";
 
 // ---- jobs
 
-/// The request to create an object of the first class on handler 0, by the root's procedure.
-fn creation(program: &Program) -> Request {
-    let name = program.root_procedure();
-    Request {
-        poster: None,
-        target: Reference {
-            handler: 0,
-            number: 1,
-            class: 0,
-        },
-        errand: Errand::Makes(Some(name)),
-        actuals: ArrayVec::new(),
-        is_waited: false,
-    }
-}
-
-/// The handler that was made last.
-fn granted() -> ArrayVec<HandlerNumber, 16> {
-    let mut handlers = ArrayVec::new();
-    handlers.push(1);
-    handlers
-}
-
-/// The job that these words name, and the most turns that it may take.
-fn job_of(program: &Program, text: &str) -> Result<(Job, u32), Fail> {
-    let mut words = text.split(' ');
-    let verb = words.next().unwrap_or("");
-    let number: Option<u32> = match words.next() {
-        None => None,
-        Some(word) => Some(word.parse()?),
-    };
-    let number = number.unwrap_or(100);
-    match verb {
-        "make" => Ok((Job::Take(creation(program)), number)),
-        "go" => Ok((Job::Go, number)),
-        "made" => Ok((Job::Made(1), number)),
-        "granted" => Ok((Job::Granted(granted()), number)),
-        "reply" => Ok((
-            Job::Reply(Some(sc_region::Value::Integer(i64::from(number)))),
-            100,
-        )),
-        "failed" => Ok((Job::Failed, number)),
+/// The job of a name. `make` is the request to create an object of the first class on handler 0, by the root's procedure. Made
+/// and granted is handler 1, and a reply is this number.
+fn job_of(program: &Program, name: &str, number: u32) -> Result<Job, Fail> {
+    match name {
+        "make" => Ok(Job::Take(Request {
+            poster: None,
+            target: Reference {
+                handler: 0,
+                number: 1,
+                class: 0,
+            },
+            errand: Errand::Makes(Some(program.root_procedure())),
+            actuals: ArrayVec::new(),
+            is_waited: false,
+        })),
+        "go" => Ok(Job::Go),
+        "made" => Ok(Job::Made(1)),
+        "granted" => {
+            let mut handlers = ArrayVec::new();
+            handlers.push(1);
+            Ok(Job::Granted(handlers))
+        }
+        "reply" => Ok(Job::Reply(Some(Value::Integer(i64::from(number))))),
+        "failed" => Ok(Job::Failed),
         _ => Err(Fail::new("an unknown job")),
     }
 }
@@ -116,49 +98,52 @@ fn want_name(want: &Want) -> &'static str {
     }
 }
 
-fn told(alloc: Global, region: &LoggedRegion<'_>) -> Result<String, Fail> {
-    let mut told = String::new(alloc);
+fn told(alloc: Global, region: &LoggedRegion<'_>) -> Lines {
+    let mut told = Lines::new(alloc);
     let log = region.log();
     for place in 0..log.len() {
         let Some(entry) = log.get(place) else {
-            return Err(Fail::new("no entry"));
+            told.push("no entry");
+            break;
         };
-        let (handler, turns) = (entry.handler, entry.turns);
-        let (job, want) = (job_name(&entry.job), want_name(&entry.want));
-        let comma = if place > 0 { ", " } else { "" };
-        write!(told, "{comma}{handler} {job} {turns} {want}")?;
+        let handler = if place > 0 { ", ~ " } else { "~ " };
+        told.fill_number(handler, entry.handler as u64);
+        told.push(job_name(&entry.job));
+        told.fill_number(" ~ ", entry.turns as u64);
+        told.push(want_name(&entry.want));
     }
-    let output = str::from_utf8(region.output())?;
-    let object = told_object(region);
-    write!(told, "; {output}; {object}")?;
-    Ok(told)
+    told.push("; ");
+    told.push_bytes(region.output());
+    told.push("; ");
+    told.push(match region.object_count() {
+        0 => "no object",
+        _ => object_state(region.settled(1), region.test_invariant(1)),
+    });
+    told
 }
 
-fn told_object(region: &LoggedRegion<'_>) -> &'static str {
-    if region.object_count() == 0 {
-        return "no object";
-    }
-    object_state(region.settled(1), region.test_invariant(1))
-}
-
-/// Plays the job. If memory is refused to its first turn, nothing is noted, and it is played once more. If it is
-/// refused to a later one, the job ends before that, and the row is out of memory.
+/// Plays the job that these words name. It takes at most as many turns as they say, or a hundred. If memory is refused to its
+/// first turn, nothing is noted, and it is played once more. If it is refused to a later one, the job ends before that, and the
+/// row is out of memory.
 fn play<R: Abort>(
     rt: &R,
+    program: &Program,
     region: &mut LoggedRegion<'_>,
-    job: &Job,
-    limit: u32,
+    words: &str,
 ) -> Result<(), Fail> {
+    let (name, number) = words.split_once(' ').unwrap_or((words, "100"));
+    let number: u32 = number.parse()?;
+    let limit = if name == "reply" { 100 } else { number };
     if limit == 0 {
         return Err(Fail::new("a job without turns"));
     }
+    let job = job_of(program, name, number)?;
     let before = region.log().len();
-    let outcome = match region.play(job, limit) {
+    let outcome = match region.play(&job, limit) {
         Ok(outcome) => outcome,
         Err(_) => {
-            let noted = region.log().len() as u64;
-            expect_number(rt, noted, before as u64, "jobs that are noted");
-            region.play(job, limit)?
+            expect_equal(rt, region.log().len(), before, "jobs that are noted");
+            region.play(&job, limit)?
         }
     };
     if outcome.turns < limit && matches!(outcome.want, Want::Continue) {
@@ -167,38 +152,29 @@ fn play<R: Abort>(
     Ok(())
 }
 
-/// Plays the jobs that these words name, one after the other.
-fn play_jobs<R: Abort>(
+/// Plays the jobs of a row, one after the other, and compares the text on the handler with what the row wants.
+fn expect_row<R: Abort + AllocGlobal>(
     rt: &R,
     program: &Program,
     region: &mut LoggedRegion<'_>,
-    steps: &str,
+    row: &str,
 ) -> Result<(), Fail> {
+    let (steps, wanted) = halves_of(row)?;
     for words in steps.split(", ") {
         if words.is_empty() {
             break;
         }
-        let (job, limit) = job_of(program, words)?;
-        play(rt, region, &job, limit)?;
+        play(rt, program, region, words)?;
     }
-    Ok(())
-}
-
-/// Compares the text on a handler after the jobs of a row with what the row wants.
-fn expect_log<R: Abort + AllocGlobal>(rt: &R, program: &Program, row: &str) -> Result<(), Fail> {
-    let (steps, wanted) = halves_of(row)?;
-    let mut region = LoggedRegion::new(rt.alloc(), program, 0);
-    play_jobs(rt, program, &mut region, steps)?;
-    let told = told(rt.alloc(), &region)?;
-    expect_text(rt, &told, wanted, steps);
-    Ok(())
+    expect_lines(rt, told(rt.alloc(), region), wanted, steps)
 }
 
 #[test]
 fn jobs_are_noted(rt: HostRuntime) -> Result<(), Fail> {
-    let program = program_of(rt.alloc(), SOURCE, "root", "run")?;
+    let program = program_of(rt.alloc(), SOURCE)?;
     for row in LOGS.lines() {
-        expect_log(&rt, &program, row)?;
+        let mut region = LoggedRegion::new(rt.alloc(), &program, 0);
+        expect_row(&rt, &program, &mut region, row)?;
     }
     Ok(())
 }

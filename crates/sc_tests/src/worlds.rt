@@ -1,7 +1,7 @@
 //! Worlds that one thread plays, number by number, where memory is refused to a turn.
 
 use crate::programs::program_of;
-use crate::rows::{expect_text, text_of};
+use crate::rows::expect_bytes;
 use crate::together::{RELAY, RELAY_REPORT};
 use sc_lockpass::{HandlerNumber, Version};
 use sc_world::World;
@@ -104,7 +104,7 @@ fn expect_report<R: Abort + AllocGlobal>(
     handlers: &[HandlerNumber],
     report: &str,
 ) -> Result<(), Fail> {
-    let program = program_of(rt.alloc(), text, "application", "make")?;
+    let program = program_of(rt.alloc(), text)?;
     let mut world = World::open(rt.alloc(), &program, Version::One)?;
     expect_reported(rt, &mut world, handlers, report)
 }
@@ -119,9 +119,7 @@ fn expect_reported<R: Abort>(
     if result.is_err() {
         world.turns(handlers.get(made..).unwrap_or(&[]))?;
     }
-    let told = text_of(world.report()?)?;
-    expect_text(rt, &told, report, "the turns");
-    Ok(())
+    expect_bytes(rt, &world.report()?, report, "the turns")
 }
 
 #[test]
