@@ -156,7 +156,7 @@ ends_on n s h (f ∷ below) objects d = by f.stage refl d
 -- ---- what the core has of it
 
 -- where a handler stands that has no frames, or whose topmost frame awaits an answer
-idle_empty : (stack : List machine.Frame) → IsTop stack Idle → stack ≡ []
+pub idle_empty : (stack : List machine.Frame) → IsTop stack Idle → stack ≡ []
 idle_empty [] e = refl
 idle_empty (f ∷ below) e = by f.stage e
   where

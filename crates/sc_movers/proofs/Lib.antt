@@ -1,10 +1,11 @@
+pub mod ChangedJobs
+pub mod ChangedKept
+pub mod ChangedStates
+pub mod ChangedTurns
 pub mod Ended
 pub mod Failed
-pub mod FreedJobs
-pub mod FreedKept
-pub mod FreedStates
-pub mod FreedTurns
 pub mod Kept
+pub mod MoveChanges
 pub mod MoverStates
 pub mod MoverTurns
 pub mod Movers

@@ -1,9 +1,11 @@
--- What a handler gives back is its own, in each world that turns lead to from the opening of a program.
-use Rattle.std.proofs.Common.{◌≡◌, ◌∙◌, ◌<◌, ℕ, Bool, List, [], Some, false, refl, sym, subst, arith}
+-- What a handler gives back is its own, and nobody may push on an idle handler, in each world that turns lead to from the opening of
+-- a program.
+use Rattle.std.proofs.Common.{◌≡◌, ◌∙◌, ◌<◌, ℕ, Bool, List, [], Some, false, refl, sym, ap, subst, arith}
 use Rattle.sc_tree.specs.Plain.{System}
 use Rattle.sc_class.specs.ClassNames.{Root}
 use Rattle.sc_class.specs.Faults.ClassRules.{IsFaultless}
 use Rattle.sc_rules.specs.SystemRules.{WellFormed}
+use Rattle.sc_lockpass.specs.Rights.{Rights}
 use Rattle.sc_lockpass.specs.Versions.{most_handlers}
 use Rattle.sc_lockpass.specs.declared.version.Version.{Version}
 use Rattle.sc_model.specs.Handlers as machine
@@ -16,12 +18,13 @@ use Rattle.sc_code.specs.RequestRoom.{FitsRequests}
 use Rattle.sc_region.specs.Stores.{PlainStore, new_store}
 use Rattle.sc_region.specs.declared.job.Job.{Job}
 use Rattle.sc_region.specs.declared.job.Want.{Want}
-use Rattle.sc_handler.specs.Handlers.{State}
+use Rattle.sc_handler.specs.Handlers.{Idle, State}
 use Rattle.sc_handler.specs.Picking.{job_of}
 use Rattle.sc_request.specs.Asked.{Numbering, asked}
-use Rattle.sc_request.specs.Halves.{IsHalfOf}
+use Rattle.sc_request.specs.Halves.{IsHalfOf, IsTop}
 use Rattle.sc_request.specs.Laws.{PicksWhereTurns}
 use Rattle.sc_play.specs.Turns.{FirstTurn, Turns, first, more}
+use Rattle.sc_machine_laws.specs.RequestLaws.{IdleHasNoTop}
 use Rattle.sc_machine_laws.specs.SettledObjects.{SettledMeetWhereReached}
 use Rattle.sc_machine_laws.specs.settlements.Reached.{EntriesAreRemembered, HalvesWhereReached}
 use Rattle.sc_world.specs.Turning.{Makes, Runs}
@@ -40,8 +43,8 @@ use Rattle.sc_refines_world.proofs.RefinedRuns.{core, remembered, start}
 use Rattle.sc_refines_world.proofs.RequestNames.{are_named}
 use Rattle.sc_refines_world.proofs.WorldTurns.{Beside, CreatedAreNew, HalvesMeet, OthersKeep, RegionsAskSo, RegionsFollow, SettledMeet, StoresTurn, TurnsEndThere, along}
 use Rattle.sc_refines_world.proofs.Worlds.{Needs, Placed, stores_turn}
-use Rattle.sc_movers.specs.Returned.{AllReturnOwn}
-use Rattle.sc_movers.proofs.Ended.{returns_own}
+use Rattle.sc_movers.specs.Returned.{AllReturnOwn, NoIdleIsPushed}
+use Rattle.sc_movers.proofs.Ended.{idle_empty, returns_own}
 
 turns_some : (h : ℕ) (b : Bool) (j : Job) (x : PlainStore) (n : ℕ) (y : PlainStore) (w : Want) → Turns h b j x n y w → 0 < n
 turns_some h b j x _ _ _ (first {y} {w} t) = omega arith
@@ -141,3 +144,14 @@ module _ (functional : FirstTurnsAreFunctional) (keeps : FirstTurnsKeepExact) (p
       let b = stands s root faultless well p v program fits hs x played.1 in
       returns_own (most_handlers v) s root w reached (numbering_by (names_in p)) x.center.state b.1 h j m.settles.outcome.want is_job
       (want_is s root faultless well p v program fits h w x y j reached b.1 b.0 is_job m)
+
+  -- A handler that has no frames has none in the machine either, so nobody may push there.
+  pub no_idle_is_pushed : IdleHasNoTop → NoIdleIsPushed
+  no_idle_is_pushed tops s root faultless well p v program fits x played k alive idle =
+      let hs = played.0 in
+      let w : machine.World = run (most_handlers v) s hs (opening s root) in
+      let half = (stands s root faultless well p v program fits hs x played.1).1 in
+      let of = half.handlers k in
+      ap (λ (r : Rights). r.top k) half.rights
+      ∙ tops (most_handlers v) s root w (record { numbers = hs; run_is = refl }) k (sym of.failure ∙ alive)
+      (idle_empty (w.handlers k).stack (subst (IsTop (w.handlers k).stack) idle of.stage))

@@ -1,15 +1,17 @@
 -- Turns that may be played at once, before any turn of other handlers: movers.
-use Rattle.std.specs.Prelude.{◌≡◌, ℕ, Bool, true, false, Some}
+use Rattle.std.specs.Prelude.{◌≡◌, ◌&&◌, ℕ, Bool, not, true, false, Some}
+use Rattle.sc_lockpass.specs.Rights.{is_handler}
+use Rattle.sc_lockpass.specs.wait_conditions.Reservations.{is_idle}
 use Rattle.sc_lockpass.specs.declared.version.Version.{Version}
 use Rattle.sc_code.specs.declared.program.Image.{Image}
 use Rattle.sc_code.specs.Programs.{IsProgramOf}
 use Rattle.sc_code.specs.RequestRoom.{FitsRequests}
 use Rattle.sc_region.specs.declared.job.Job.TheVariants as job
 use Rattle.sc_region.specs.declared.job.Want.{Want}
-use Rattle.sc_region.specs.declared.job.Want.TheVariants.{Continue, Release, Wait}
-use Rattle.sc_handler.specs.Handlers.{State}
+use Rattle.sc_region.specs.declared.job.Want.TheVariants.{Continue, Reserve, Post, Ask, Release, Wait}
+use Rattle.sc_handler.specs.Handlers.{State, standing_in}
 use Rattle.sc_handler.specs.Picking.{job_of}
-use Rattle.sc_request.specs.Settling.{may_post_to_all}
+use Rattle.sc_request.specs.Settling.{are_handlers, may_ask, may_post_to_all}
 use Rattle.sc_machine_laws.specs.states.Values.{WhereAccepted}
 use Rattle.sc_orders.specs.Movers.{AreMovers, IsMachine}
 use Rattle.sc_world.specs.Kept.{PlainKept, kept}
@@ -18,11 +20,24 @@ use Rattle.sc_world.specs.Worlds.{PlainWorld}
 use Rattle.sc_refines_world.specs.Anew.{IsPlayed}
 use Rattle.sc_movers.specs.Kept.{IsReached, Turn, has_failed, has_turn, never}
 
+-- The handler has no frames and no requests, and hasn't failed.
+abbrev pub is_free : ℕ → State → Bool
+is_free k s = is_idle (standing_in s k) && not (standing_in s k).has_requests
+
+-- The handler h asks the other one, which is free, and to which it alone may post.
+abbrev pub asks_free : ℕ → ℕ → State → Bool
+asks_free h k s = is_handler h (s.rights.queue k) && is_free k s
+
 -- The turn of a handler that goes on with its routine is a mover if it wants this: nothing, as it prints, goes round in a
--- loop, starts a body, or makes, reads or calls an object of its own; or to release handlers that are its own, at the end
--- of a block or of a call of its own; or to wait, since a wait condition is false, which releases what is its own.
+-- loop, starts a body, or makes, reads or calls an object of its own; or to stand before its reserve step; or to release
+-- handlers that are its own, at the end of a block or of a call of its own; or to wait, since a wait condition is false,
+-- which releases what is its own; or to ask a free handler, without lock passing.
 abbrev pub is_mover : ℕ → Want → State → Bool
 is_mover h Continue s = true
+is_mover h (Reserve ks) s = are_handlers ks.items s
+is_mover h (Post r) s = may_ask h (Post r) s && asks_free h r.target.handler s
+is_mover h (Ask r true) s = false
+is_mover h (Ask r false) s = may_ask h (Ask r false) s && asks_free h r.target.handler s
 is_mover h (Release ks) s = may_post_to_all h ks.items s
 is_mover h (Wait ks) s = may_post_to_all h ks.items s
 is_mover h want s = false

@@ -1,5 +1,5 @@
 -- What a handler gives back at the end of a request, or once a handler was made for it, is its own.
-use Rattle.std.specs.Prelude.{◌≡◌, ℕ, Bool, List, ◌∷◌, Option, Some, true}
+use Rattle.std.specs.Prelude.{◌≡◌, ℕ, Bool, List, ◌∷◌, Option, Some, None, true}
 use Rattle.arrayvec.specs.ArrayVec.{ArrayVec}
 use Rattle.sc_lockpass.specs.Passing.{Passed}
 use Rattle.sc_lockpass.specs.declared.version.Version.{Version}
@@ -11,7 +11,7 @@ use Rattle.sc_region.specs.declared.job.Job.{Job}
 use Rattle.sc_region.specs.declared.job.Job.TheVariants as job
 use Rattle.sc_region.specs.declared.job.Want.{Want}
 use Rattle.sc_region.specs.declared.job.Want.TheVariants as want
-use Rattle.sc_handler.specs.Handlers.{Awaits, Service, State}
+use Rattle.sc_handler.specs.Handlers.{Awaits, Idle, Service, State}
 use Rattle.sc_handler.specs.Fits.{fits_first}
 use Rattle.sc_handler.specs.Picking.{job_of}
 use Rattle.sc_request.specs.Settling.{begun}
@@ -29,6 +29,17 @@ pub record ReturnsOwn (h : ℕ) (j : Job) (w : Want) (s : State) : Type 0 where
       (e : Service) (es : List Service) → ((begun h j s).handlers h).services ≡ e ∷ es →
       (p : Passed) → e.posted.passed ≡ Some p →
       (k : ℕ) (o : Option ℕ) → p.queue k ≡ Some o → s.rights.queue k ≡ Some h
+
+-- Nobody may push on the waiting stack of a handler that has no frames and hasn't failed.
+abbrev pub IdleHasNoTop : State → Type 0
+IdleHasNoTop s = (k : ℕ) → (s.handlers k).failure ≡ None → (s.handlers k).stage ≡ Idle → s.rights.top k ≡ None
+
+-- So it is in each world that turns lead to from the opening of the program.
+abbrev pub IdleHaveNoTops : Image → Version → Type 0
+IdleHaveNoTops p v = (x : PlainWorld) → IsPlayed p v x → IdleHasNoTop x.center.state
+
+abbrev pub NoIdleIsPushed : Type 0
+NoIdleIsPushed = WhereAccepted λ s root. (p : Image) (v : Version) → IsProgramOf s root p → FitsRequests p → IdleHaveNoTops p v
 
 -- So it is in each world that turns lead to from the opening of the program.
 abbrev pub ReturnsAreOwn : Image → Version → Type 0

@@ -1,8 +1,9 @@
 //! Laws of movers, each the contract of a function that does nothing.
 ghost use Rattle.sc_movers.specs.Movers.{TurnsAreMovers};
-ghost use Rattle.sc_movers.specs.Returned.{AllReturnOwn};
+ghost use Rattle.sc_movers.specs.Returned.{AllReturnOwn, NoIdleIsPushed};
 
 use sc_machine_laws::invariant_laws::settled_objects_meet;
+use sc_machine_laws::request_laws::idle_has_no_top;
 use sc_machine_laws::settlements::laws::{
     core_settles_as_half_where_reached, entries_are_remembered,
 };
@@ -40,8 +41,29 @@ pub fn what_returns_is_own()
     sound_jobs_are_taken();
 }
 
-/// In the program of an accepted system the turns that ask nothing of other handlers, and those that release what is their
-/// handler's own, are movers: they may be played at once, before any turn of others.
+/// In the program of an accepted system, nobody may push on the waiting stack of a handler that has no frames and hasn't failed.
+pub fn no_idle_handler_is_pushed()
+    ensures { NoIdleIsPushed }
+{
+    idle_has_no_top();
+    first_turns_are_functional();
+    first_turns_keep_exact();
+    core_picks_where_the_machine_turns();
+    core_settles_as_half_where_reached();
+    entries_are_remembered();
+    settled_objects_meet();
+    regions_follow();
+    regions_ask();
+    others_keep_halves();
+    created_are_new();
+    openings_are_in_order();
+    turns_keep_order();
+    new_stores_are_sound();
+    sound_jobs_are_taken();
+}
+
+/// In the program of an accepted system the turns that ask nothing of other handlers, those that release what is their
+/// handler's own, and those that ask a free handler are movers: they may be played at once, before any turn of others.
 pub fn turns_are_movers()
     ensures { TurnsAreMovers }
 {
@@ -50,4 +72,5 @@ pub fn turns_are_movers()
     runs_stay_of_their_program();
     runs_are_functional();
     what_returns_is_own();
+    no_idle_handler_is_pushed();
 }

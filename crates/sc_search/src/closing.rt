@@ -1,7 +1,7 @@
 //! The search over all turns.
 //!
-//! A turn that asks nothing of other handlers, or releases what is its handler's own, may be joined with the one before it: it does the
-//! same before and after the turns of others. Only the state that joined turns lead to is kept.
+//! A turn that asks nothing of other handlers, releases what is its handler's own, or asks a free handler may be joined with the one
+//! before it: it does the same before and after the turns of others. Only the state that joined turns lead to is kept.
 ghost use Rattle.std.specs.Prelude.{◌≡◌, ◌≤◌, ◌<◌, IfNone, IfOk, IfSome, length};
 ghost use Rattle.sc_world.specs.Views.{world_in};
 ghost use Rattle.sc_world.specs.Worlds.{opened};

@@ -5,15 +5,18 @@ ghost use Rattle.sc_region.specs.declared.job.Job.TheVariants as job;
 ghost use Rattle.sc_request.specs.Cores.{center_of};
 ghost use Rattle.sc_lockpass.specs.Rights.{is_handler};
 ghost use Rattle.sc_request.specs.Logs.{pick_for};
-ghost use Rattle.sc_request.specs.Settling.{may_post_to_all};
+ghost use Rattle.sc_request.specs.Settling.{are_handlers, may_post_to_all};
+ghost use Rattle.sc_handler.specs.Fits.{is_request_of};
 ghost use Rattle.sc_world.specs.Kept.{IsOf};
 ghost use Rattle.sc_world.specs.Views.{world_in};
-ghost use Rattle.sc_search.specs.Joined.{FollowsAtOnce, GoesOnUpTo, WantsToFollow, may_follow};
+ghost use Rattle.sc_search.specs.Joined.{FollowsAtOnce, GoesOnUpTo, WantsToFollow, asks_free, is_free, may_follow};
 ghost use Rattle.sc_search.specs.Stops.{Moves};
 
+use sc_handler::is_request_of;
 use sc_lockpass::HandlerNumber;
+use sc_model::Status;
 use sc_play::Region;
-use sc_region::{Job, Want};
+use sc_region::{Job, Request, Want};
 use sc_request::Core;
 use sc_world::Configuration;
 use sc_world::laws::runs_stay_of_their_program;
@@ -107,14 +110,47 @@ fn wants_to_follow(
     Ok(may_follow(core, handler, &outcome.want))
 }
 
-/// Whether a turn that wants this asks nothing of others, or releases what is its handler's own.
+/// Whether a turn that wants this asks nothing of others but a free handler, or releases what is its handler's own.
 fn may_follow(core: &Core, handler: HandlerNumber, asked: &Want) -> bool
-    ensures { result ≡ may_follow handler asked.now (center_of core.now).state }
+    ensures { result ≡ true → may_follow handler asked.now (center_of core.now).state ≡ true }
 {
     match asked {
         Want::Continue => true,
+        Want::Reserve(handlers) => are_there(core, handlers.as_slice()),
+        Want::Post(request) => !request.is_waited && asks_free(core, handler, request),
+        Want::Ask {
+            request,
+            passes: false,
+        } => request.is_waited && asks_free(core, handler, request),
         Want::Release(handlers) => are_own(core, handler, handlers.as_slice()),
         Want::Wait(handlers) => are_own(core, handler, handlers.as_slice()),
+        _ => false,
+    }
+}
+
+/// Whether there are all of these handlers.
+fn are_there(core: &Core, handlers: &[HandlerNumber]) -> bool
+    ensures { result ≡ are_handlers handlers.now (center_of core.now).state }
+{
+    handlers
+        .iter()
+        .all(|handler| (*handler as usize) < core.handler_count())
+}
+
+/// Whether a request of a handler goes to a free one, to which its poster alone may post.
+fn asks_free(core: &Core, poster: HandlerNumber, request: &Request) -> bool
+    ensures { result ≡ true → (is_request_of poster request.now ≡ true) × (asks_free poster request.target.handler (center_of core.now).state ≡ true) }
+{
+    let target = request.target.handler;
+    is_request_of(poster, request) && is_own(core, poster, target) && is_free(core, target)
+}
+
+/// Whether a handler has no frames and no requests, and hasn't failed.
+fn is_free(core: &Core, handler: HandlerNumber) -> bool
+    ensures { result ≡ true → is_free handler (center_of core.now).state ≡ true }
+{
+    match core.status(handler) {
+        Some(Status::Free) => core.queue_len(handler) == 0,
         _ => false,
     }
 }

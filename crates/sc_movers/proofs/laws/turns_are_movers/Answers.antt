@@ -9,3 +9,4 @@ returns c =
     c.runs_stay_of_their_program.ensures
     c.runs_are_functional.ensures
     c.what_returns_is_own.ensures
+    c.no_idle_handler_is_pushed.ensures

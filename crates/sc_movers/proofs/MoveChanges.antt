@@ -1,0 +1,284 @@
+-- What a mover's turn changes: what its handler stands at, whom it releases, and the queue of a free handler.
+use Rattle.std.proofs.Common.{◌≡◌, ◌∙◌, ◌<◌, ◌≤◌, ◌+◌, ◌==◌, ◌&&◌, ◌||◌, not, ℕ, Bool, true, false, List, Option, Some, None, length, refl, sym, ap, subst, arith}
+use Rattle.std.proofs.lemmas.Bool.{ne_eqb}
+use Rattle.std.specs.Prelude.{if◌then◌else◌, is_some}
+use Rattle.std.specs.Option.{is_none}
+use Rattle.sc_lockpass.specs.Rights.{is_among}
+use Rattle.sc_lockpass.specs.wait_conditions.Reservations.{is_idle, may_be_reserved}
+use Rattle.sc_handler.specs.Changes.{answered, placed, session_ended, told}
+use Rattle.sc_handler.specs.Handlers.{Answer, Posted, Handler, HandlerStage, State, has_frames, has_requests, new_handler, standing_in}
+use Rattle.sc_movers.proofs.ChangedStates.{Change, Harmless, true_false}
+use Rattle.sc_movers.proofs.ChangedTurns.{and_left, and_right}
+use Rattle.sc_movers.proofs.ChangedJobs.{Loosens}
+
+-- ---- what is changed
+
+-- where the handler stands then, and what its last reserve step was for
+pub record Stand : Type 0 where
+  pub stage : HandlerStage
+  pub entry : List ℕ
+
+abbrev pub stands_as : Option Stand → Handler → Handler
+stands_as None x = x
+stands_as (Some o) x = record x { stage = o.stage; entry = o.entry }
+
+-- a request at a handler
+pub record Sent : Type 0 where
+  pub target : ℕ
+  pub posted : Posted
+
+abbrev pub for : ℕ → Option Sent → Option Posted
+for k None = None
+for k (Some q) = if k == q.target then Some q.posted else None
+
+abbrev pub sent_as : Option Posted → Handler → Handler
+sent_as None x = x
+sent_as (Some p) x = placed false p x
+
+abbrev pub is_target : ℕ → Option Sent → Bool
+is_target k None = false
+is_target k (Some q) = k == q.target
+
+-- What the handler g changes: it stands so, releases these, which ends a session of each, or none, and sends this.
+pub record Move : Type 0 where
+  pub stand : Option Stand
+  pub ends : Bool
+  pub frees : List ℕ
+  pub sent : Option Sent
+
+abbrev pub stand_for : ℕ → ℕ → Option Stand → Option Stand
+stand_for g k o = if k == g then o else None
+
+abbrev pub change : ℕ → Move → Change
+change g m = record {
+  at = λ k x. stands_as (stand_for g k m.stand) (session_ended (m.ends && is_among k m.frees) (sent_as (for k m.sent) x));
+  frees = m.frees;
+}
+
+-- whose queue is closed to others, and over whom no other has the right to post
+abbrev pub is_closed : Move → ℕ → Bool
+is_closed m k = is_target k m.sent
+
+abbrev pub is_safe : Move → ℕ → Bool
+is_safe m k = is_among k m.frees || is_target k m.sent
+
+abbrev pub nobody : ℕ → Bool
+nobody k = false
+
+-- ---- it is harmless
+
+ended_so : (o : Option Stand) (d b : Bool) (q : Option Posted) (x : Handler) →
+    session_ended b (stands_as o (session_ended d (sent_as q x))) ≡ stands_as o (session_ended d (sent_as q (session_ended b x)))
+ended_so o d false q x = refl
+ended_so None true true None x = refl
+ended_so None false true None x = refl
+ended_so None true true (Some p) x = refl
+ended_so None false true (Some p) x = refl
+ended_so (Some s) true true None x = refl
+ended_so (Some s) false true None x = refl
+ended_so (Some s) true true (Some p) x = refl
+ended_so (Some s) false true (Some p) x = refl
+
+told_so : (o : Option Stand) (d b : Bool) (q : Option Posted) (x : Handler) →
+    told b (stands_as o (session_ended d (sent_as q x))) ≡ stands_as o (session_ended d (sent_as q (told b x)))
+told_so o d false q x = refl
+told_so None true true None x = refl
+told_so None false true None x = refl
+told_so None true true (Some p) x = refl
+told_so None false true (Some p) x = refl
+told_so (Some s) true true None x = refl
+told_so (Some s) false true None x = refl
+told_so (Some s) true true (Some p) x = refl
+told_so (Some s) false true (Some p) x = refl
+
+called_so : (o : Option Stand) (d : Bool) (q : Option Posted) (p : Posted) (x : Handler) →
+    placed true p (stands_as o (session_ended d (sent_as q x))) ≡ stands_as o (session_ended d (sent_as q (placed true p x)))
+called_so None true None p x = refl
+called_so None false None p x = refl
+called_so None true (Some r) p x = refl
+called_so None false (Some r) p x = refl
+called_so (Some s) true None p x = refl
+called_so (Some s) false None p x = refl
+called_so (Some s) true (Some r) p x = refl
+called_so (Some s) false (Some r) p x = refl
+
+posted_so : (o : Option Stand) (d : Bool) (p : Posted) (x : Handler) → placed false p (stands_as o (session_ended d x)) ≡ stands_as o (session_ended d (placed false p x))
+posted_so None true p x = refl
+posted_so None false p x = refl
+posted_so (Some s) true p x = refl
+posted_so (Some s) false p x = refl
+
+room_so : (o : Option Stand) (d : Bool) (x : Handler) → length (stands_as o (session_ended d x)).queue ≡ length x.queue
+room_so None true x = refl
+room_so None false x = refl
+room_so (Some s) true x = refl
+room_so (Some s) false x = refl
+
+answered_so : (o : Option Stand) (d : Bool) (q : Option Posted) (a : Answer) (x : Handler) →
+    answered a (stands_as o (session_ended d (sent_as q x))) ≡ stands_as o (session_ended d (sent_as q (answered a x)))
+answered_so None true None a x = refl
+answered_so None false None a x = refl
+answered_so None true (Some p) a x = refl
+answered_so None false (Some p) a x = refl
+answered_so (Some s) true None a x = refl
+answered_so (Some s) false None a x = refl
+answered_so (Some s) true (Some p) a x = refl
+answered_so (Some s) false (Some p) a x = refl
+
+pub failure_so : (o : Option Stand) (d : Bool) (q : Option Posted) (x : Handler) → (stands_as o (session_ended d (sent_as q x))).failure ≡ x.failure
+failure_so None true None x = refl
+failure_so None false None x = refl
+failure_so None true (Some p) x = refl
+failure_so None false (Some p) x = refl
+failure_so (Some s) true None x = refl
+failure_so (Some s) false None x = refl
+failure_so (Some s) true (Some p) x = refl
+failure_so (Some s) false (Some p) x = refl
+
+pub refused_so : (o : Option Stand) (d : Bool) (q : Option Posted) (x : Handler) → (stands_as o (session_ended d (sent_as q x))).refused ≡ x.refused
+refused_so None true None x = refl
+refused_so None false None x = refl
+refused_so None true (Some p) x = refl
+refused_so None false (Some p) x = refl
+refused_so (Some s) true None x = refl
+refused_so (Some s) false None x = refl
+refused_so (Some s) true (Some p) x = refl
+refused_so (Some s) false (Some p) x = refl
+
+pub stage_so : (d : Bool) (q : Option Posted) (x : Handler) → (session_ended d (sent_as q x)).stage ≡ x.stage
+stage_so true None x = refl
+stage_so false None x = refl
+stage_so true (Some p) x = refl
+stage_so false (Some p) x = refl
+
+grows_so : (o : Option Stand) (d : Bool) (q : Option Posted) (x : Handler) → x.sessions ≤ (stands_as o (session_ended d (sent_as q x))).sessions
+grows_so None true None x = omega arith
+grows_so None false None x = omega arith
+grows_so None true (Some p) x = omega arith
+grows_so None false (Some p) x = omega arith
+grows_so (Some s) true None x = omega arith
+grows_so (Some s) false None x = omega arith
+grows_so (Some s) true (Some p) x = omega arith
+grows_so (Some s) false (Some p) x = omega arith
+
+count_so : (o : Option Stand) (q : Option Posted) (x : Handler) → (stands_as o (session_ended false (sent_as q x))).sessions ≡ x.sessions
+count_so None None x = refl
+count_so None (Some p) x = refl
+count_so (Some s) None x = refl
+count_so (Some s) (Some p) x = refl
+
+queue_so : (o : Option Stand) (d : Bool) (x : Handler) → (stands_as o (session_ended d x)).queue ≡ x.queue
+queue_so None true x = refl
+queue_so None false x = refl
+queue_so (Some s) true x = refl
+queue_so (Some s) false x = refl
+
+not_target : (k : ℕ) (o : Option Sent) → is_target k o ≡ false → for k o ≡ None
+not_target k None e = refl
+not_target k (Some q) e = ap (λ (b : Bool). if b then Some q.posted else None) e
+
+pub or_left : (a b : Bool) → a ≡ true → (a || b) ≡ true
+or_left true b e = refl
+or_left false b e = true_false (sym e)
+
+pub or_right : (a b : Bool) → b ≡ true → (a || b) ≡ true
+or_right true b e = refl
+or_right false b e = e
+
+or_none : (a b : Bool) → (a || b) ≡ false → a ≡ false
+or_none true b e = true_false e
+or_none false b e = refl
+
+-- What is the handler's: over these it has the right to post, and they are there.
+pub record AreIts (g : ℕ) (m : Move) (s : State) : Type 0 where
+  pub there : g < s.count
+  pub its : (k : ℕ) → is_safe m k ≡ true → s.rights.queue k ≡ Some g
+  pub few : (k : ℕ) → is_safe m k ≡ true → k < s.count
+
+module _ (g h n : ℕ) (m : Move) (apart : h ≡ g → ⊥) (other : is_target h m.sent ≡ false) (there : g < n) (few : (k : ℕ) → is_safe m k ≡ true → k < n) where
+  never : (b : Bool) → (b && false) ≡ false
+  never true = refl
+  never false = refl
+
+  not_safe : (k : ℕ) → n ≤ k → is_safe m k ≡ false
+  not_safe k past = by (is_safe m k) refl
+    where
+      by : (b : Bool) → is_safe m k ≡ b → is_safe m k ≡ false
+      by true e = let less = few k e in absurd (omega (arith, less, past))
+      by false e = e
+
+  or_last : (a b : Bool) → (a || b) ≡ false → b ≡ false
+  or_last true b e = true_false e
+  or_last false b e = e
+
+  pub harmless : Harmless h n (is_safe m) (is_closed m) nobody (change g m)
+  harmless = record {
+    over = m.ends && is_among h m.frees;
+    own = λ x.
+        ap (λ (b : Bool). stands_as (if b then m.stand else None) (session_ended (m.ends && is_among h m.frees) (sent_as (for h m.sent) x))) (ne_eqb h g apart)
+        ∙ ap (λ (q : Option Posted). session_ended (m.ends && is_among h m.frees) (sent_as q x)) (not_target h m.sent other);
+    ended = λ k b x. ended_so (stand_for g k m.stand) (m.ends && is_among k m.frees) b (for k m.sent) x;
+    told = λ k b x. told_so (stand_for g k m.stand) (m.ends && is_among k m.frees) b (for k m.sent) x;
+    called = λ k p x. called_so (stand_for g k m.stand) (m.ends && is_among k m.frees) (for k m.sent) p x;
+    posted = λ k e p x.
+        subst (λ (q : Option Posted). placed false p (stands_as (stand_for g k m.stand) (session_ended (m.ends && is_among k m.frees) (sent_as q x)))
+        ≡ stands_as (stand_for g k m.stand) (session_ended (m.ends && is_among k m.frees) (sent_as q (placed false p x))))
+        (sym (not_target k m.sent e)) (posted_so (stand_for g k m.stand) (m.ends && is_among k m.frees) p x);
+    room = λ k e x.
+        ap (λ (q : Option Posted). length (stands_as (stand_for g k m.stand) (session_ended (m.ends && is_among k m.frees) (sent_as q x))).queue) (not_target k m.sent e)
+        ∙ room_so (stand_for g k m.stand) (m.ends && is_among k m.frees) x;
+    answered = λ k e a x. answered_so (stand_for g k m.stand) (m.ends && is_among k m.frees) (for k m.sent) a x;
+    failure = λ k x. failure_so (stand_for g k m.stand) (m.ends && is_among k m.frees) (for k m.sent) x;
+    freed = λ k e. or_left (is_among k m.frees) (is_target k m.sent) e;
+    shut = λ k e. or_right (is_among k m.frees) (is_target k m.sent) e;
+    beyond = λ k past.
+        ap (λ (b : Bool). stands_as (if b then m.stand else None) (session_ended (m.ends && is_among k m.frees) (sent_as (for k m.sent) new_handler)))
+        (ne_eqb k g (λ e. omega (arith, there, past, e)))
+        ∙ ap (λ (q : Option Posted). session_ended (m.ends && is_among k m.frees) (sent_as q new_handler))
+        (not_target k m.sent (or_last (is_among k m.frees) (is_target k m.sent) (not_safe k past)))
+        ∙ ap (λ (b : Bool). session_ended (m.ends && b) new_handler) (or_none (is_among k m.frees) (is_target k m.sent) (not_safe k past))
+        ∙ ap (λ (b : Bool). session_ended b new_handler) (never m.ends);
+  }
+
+  -- counts of others stay
+  pub counts_stay : (k : ℕ) → is_safe m k ≡ false → (x : Handler) → ((change g m).at k x).sessions ≡ x.sessions
+  counts_stay k e x =
+      ap (λ (b : Bool). (stands_as (stand_for g k m.stand) (session_ended (m.ends && b) (sent_as (for k m.sent) x))).sessions) (or_none (is_among k m.frees) (is_target k m.sent) e)
+      ∙ ap (λ (b : Bool). (stands_as (stand_for g k m.stand) (session_ended b (sent_as (for k m.sent) x))).sessions) (never m.ends)
+      ∙ count_so (stand_for g k m.stand) (for k m.sent) x
+
+-- ---- those that may be reserved may be so still
+
+module _ (g : ℕ) (m : Move) (s : State) (are : AreIts g m s) (running : has_frames (s.handlers g).stage ≡ true) where
+  nobodys : (k : ℕ) → may_be_reserved (standing_in s k) (s.rights.queue k) ≡ true → is_none (s.rights.queue k) ≡ true
+  nobodys k e = and_right (is_idle (standing_in s k) && not (standing_in s k).has_requests) (is_none (s.rights.queue k)) e
+
+  not_own : (k : ℕ) → may_be_reserved (standing_in s k) (s.rights.queue k) ≡ true → k ≡ g → ⊥
+  not_own k e same =
+      by (has_frames (s.handlers k).stage) (is_some (s.handlers k).failure)
+      (and_left (is_idle (standing_in s k)) (not (standing_in s k).has_requests) (and_left (is_idle (standing_in s k) && not (standing_in s k).has_requests) (is_none (s.rights.queue k)) e))
+      (ap (λ (i : ℕ). has_frames (s.handlers i).stage) same ∙ running)
+    where
+      by : (a b : Bool) → (not a && not b) ≡ true → a ≡ true → ⊥
+      by true b i t = true_false (sym i)
+      by false b i t = true_false (sym t)
+
+  not_sent : (k : ℕ) → may_be_reserved (standing_in s k) (s.rights.queue k) ≡ true → is_target k m.sent ≡ false
+  not_sent k e = by (is_target k m.sent) refl
+    where
+      by : (b : Bool) → is_target k m.sent ≡ b → is_target k m.sent ≡ false
+      by true i = true_false (sym (sym (ap is_none (are.its k (or_right (is_among k m.frees) (is_target k m.sent) i))) ∙ nobodys k e))
+      by false i = i
+
+  pub loosens : Loosens (change g m) s
+  loosens = record {
+    frames = λ k e.
+        ap (λ (b : Bool). has_frames (stands_as (if b then m.stand else None) (session_ended (m.ends && is_among k m.frees) (sent_as (for k m.sent) (s.handlers k)))).stage)
+        (ne_eqb k g (not_own k e))
+        ∙ ap has_frames (stage_so (m.ends && is_among k m.frees) (for k m.sent) (s.handlers k));
+    requests = λ k e.
+        ap (λ (q : Option Posted). has_requests (stands_as (stand_for g k m.stand) (session_ended (m.ends && is_among k m.frees) (sent_as q (s.handlers k)))).queue)
+        (not_target k m.sent (not_sent k e))
+        ∙ ap has_requests (queue_so (stand_for g k m.stand) (m.ends && is_among k m.frees) (s.handlers k));
+    grows = λ k. grows_so (stand_for g k m.stand) (m.ends && is_among k m.frees) (for k m.sent) (s.handlers k);
+  }
