@@ -4,7 +4,7 @@ use Rattle.std.proofs.lemmas.Bool.{cases_eq, eq-eqb, eqb-true, lt-ltb, ltb-true,
 use Rattle.std.specs.Prelude.{if◌then◌else◌, is_some, nat_lt}
 use Rattle.std.specs.List.{list_all, list_any}
 use Rattle.std.specs.Option.{is_none}
-use Rattle.sc_lockpass.specs.Rights.{is_among, is_handler}
+use Rattle.sc_lockpass.specs.Rights.{Rights, is_among, is_handler}
 use Rattle.sc_lockpass.specs.wait_conditions.Reservations.{is_idle, may_be_reserved, mark_allows, mark_of, may_reserve, reserve_fails}
 use Rattle.sc_lockpass.specs.declared.wait_conditions.mark.Marked.{Marked}
 use Rattle.sc_model.specs.declared.cause.Cause.{Cause}
@@ -196,7 +196,7 @@ module _ (g : ℕ) (s : State) where
         send false k p t ≡ changed (change g (sending o r w)) s
     sent_so o t count rights stand =
         same_states (send false k p t) (changed (change g (sending o r w)) s) count (λ j. by j (cases_eq j k))
-        (λ j. ap (λ (a : _). a.queue j) rights) (λ j. ap (λ (a : _). a.top j) rights)
+        (λ j. ap (λ (a : Rights). a.queue j) rights) (λ j. ap (λ (a : Rights). a.top j) rights)
       where
         by : (j : ℕ) → (j ≡ k) ⊎ (j ≡ k → ⊥) →
             (if j == k then placed false p (t.handlers k) else t.handlers j) ≡ stands_as (stand_for g j o) (sent_as (if j == k then Some p else None) (s.handlers j))
