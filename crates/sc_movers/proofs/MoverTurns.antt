@@ -107,7 +107,7 @@ module _ (g : ℕ) (m : Move) (h : ℕ) (apart : h ≡ g → ⊥) (s : State) (a
   abbrev pick : Job → State
   pick j = record s { rights = granted h j s.rights }
 
-  plain : (j : Job) (w : Want) → ((ls : ArrayVec ℕ) → j ≡ job.Granted ls → ⊥) → ReturnsOwn h j w s → Beside h (is_safe m) nobody j w (pick j)
+  plain : (j : Job) (w : Want) → ((ls : ArrayVec ℕ) → j ≡ job.Granted ls → ⊥) → ReturnsOwn h j w s → Beside h (is_safe m) nobody j w s
   plain j w never r = record {
     granted = λ ls e. absurd (never ls e);
     made = λ i k c at e. not_mine i (r.made i k c at e);
