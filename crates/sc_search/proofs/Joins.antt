@@ -1,18 +1,19 @@
 -- Turns that are joined one after the other.
-use Rattle.std.proofs.Common.{◌≡◌, ◌≤◌, ◌+◌, ◌∙◌, ◌&&◌, ◌||◌, not, ℕ, suc, Bool, true, false, List, [], ◌∷◌, Option, Some, None, Result, Ok, Err, length, slice_get, refl, ap, subst, arith}
-use Rattle.std.specs.Prelude.{IfOk, if◌then◌else◌, is_some, nat_lt}
-use Rattle.sc_model.specs.declared.cause.Cause.{Cause}
-use Rattle.sc_model.specs.declared.status.Status.{Status}
-use Rattle.sc_model.specs.declared.status.Status.TheVariants.{Free}
+use Rattle.std.proofs.Common.{◌≡◌, ◌≤◌, ◌+◌, ◌∙◌, ◌&&◌, not, ℕ, suc, Bool, true, false, Some, Result, Ok, Err, slice_get, refl, sym, ap, subst, arith}
+use Rattle.std.specs.Prelude.{IfOk, is_some}
+use Rattle.sc_lockpass.specs.Rights.{is_handler}
 use Rattle.sc_region.specs.declared.job.Job.TheVariants as job
 use Rattle.sc_region.specs.declared.job.Outcome.{Outcome}
-use Rattle.sc_handler.specs.Handlers.{Posted, Handler, HandlerStage, Idle, Runs, HasMade, Reserves, Awaits, State, has_frames, has_requests}
-use Rattle.sc_handler.specs.Picking.{job_of, status_with}
+use Rattle.sc_region.specs.declared.job.Want.{Want}
+use Rattle.sc_region.specs.declared.job.Want.TheVariants as want
+use Rattle.sc_handler.specs.Canonical.{canon, canon_stage, sessions_in}
+use Rattle.sc_handler.specs.Handlers.{HandlerStage, Idle, Runs, HasMade, Reserves, Awaits, State, has_frames, has_requests}
 use Rattle.sc_play.specs.Regions.{PlainRegion, Plays}
-use Rattle.sc_request.specs.Logs.{Center, pick_for, status_for, status_in}
+use Rattle.sc_request.specs.Logs.{Center, pick_for}
+use Rattle.sc_request.specs.Settling.{may_ask}
 use Rattle.sc_world.specs.Turning.{IsTurn}
 use Rattle.sc_world.specs.Worlds.{PlainWorld}
-use Rattle.sc_search.specs.Joined.{FollowsAtOnce, GoesOnUpTo, WantsToFollow, is_free, may_follow}
+use Rattle.sc_search.specs.Joined.{FollowsAtOnce, GoesOnUpTo, WantsToFollow, asks_free, may_follow}
 
 pub goes_none : (h : ℕ) (x : PlainWorld) → GoesOnUpTo 0 h x x
 goes_none h x = record { turns = 0; few = omega arith; goes_on = refl }
@@ -28,45 +29,35 @@ goes_within n m h x y le on =
     let few = on.few in
     record { turns = on.turns; few = omega (arith, few, le); goes_on = on.goes_on }
 
--- ---- a free handler
+-- ---- what may follow at once
 
-free_stage : (o : Option Cause) (b : Bool) (stage : HandlerStage) → status_with o b stage ≡ Free → (o ≡ None) × (stage ≡ Idle)
-free_stage (Some why) b stage e = cc
-free_stage None true stage e = cc
-free_stage None false Idle e = (refl, refl)
-free_stage None false Runs e = cc
-free_stage None false (HasMade k) e = cc
-free_stage None false (Reserves ks mark) e = cc
-free_stage None false (Awaits k c) e = cc
+-- it is the same in states that are read alike
+frames_canon : (sessions : ℕ → ℕ) (stage : HandlerStage) → has_frames (canon_stage sessions stage) ≡ has_frames stage
+frames_canon sessions Idle = refl
+frames_canon sessions Runs = refl
+frames_canon sessions (HasMade k) = refl
+frames_canon sessions (Reserves ks mark) = refl
+frames_canon sessions (Awaits k c) = refl
 
-status_there : (b : Bool) (x : Status) → (if b then Some x else None) ≡ Some Free → x ≡ Free
-status_there true x e = cc
-status_there false x e = cc
+asks_canon : (h k : ℕ) (s : State) → asks_free h k (canon s) ≡ asks_free h k s
+asks_canon h k s =
+    ap (λ (b : Bool). is_handler h (s.rights.queue k) && ((not b && not (is_some (s.handlers k).failure)) && not (has_requests (s.handlers k).queue)))
+    (frames_canon (sessions_in s) (s.handlers k).stage)
 
-none_asked : (ps : List Posted) → length ps ≡ 0 → not (has_requests ps) ≡ true
-none_asked [] e = refl
-none_asked (p ∷ ps) e = absurd (omega (arith, e))
+follow_canon : (h : ℕ) (w : Want) (s : State) → may_follow h w (canon s) ≡ may_follow h w s
+follow_canon h want.Continue s = refl
+follow_canon h (want.Release ks) s = refl
+follow_canon h (want.Wait ks) s = refl
+follow_canon h (want.Reserve ks) s = refl
+follow_canon h (want.Post r) s = ap (λ (b : Bool). may_ask h (want.Post r) s && b) (asks_canon h r.target.handler s)
+follow_canon h (want.Ask r true) s = refl
+follow_canon h (want.Ask r false) s = ap (λ (b : Bool). may_ask h (want.Ask r false) s && b) (asks_canon h r.target.handler s)
+follow_canon h (want.Create class procedure actuals passes) s = refl
+follow_canon h (want.Done v ks refused) s = refl
+follow_canon h (want.Fail why) s = refl
 
--- its status is so, and its queue is empty
-pub free_so : (k : ℕ) (c : Center) → status_for k c ≡ Some Free → length (c.state.handlers k).queue ≡ 0 → is_free k c.state ≡ true
-free_so k c told empty =
-    let x : Handler = c.state.handlers k in
-    let is = free_stage x.failure (is_some (c.out k) || is_some (job_of k c.state)) x.stage (status_there (nat_lt k c.state.count) (status_in k c) told) in
-    ap (λ (t : HandlerStage). (not (has_frames t) && not (is_some x.failure)) && not (has_requests x.queue)) is.1
-    ∙ ap (λ (o : Option Cause). not (is_some o) && not (has_requests x.queue)) is.0
-    ∙ none_asked x.queue empty
-
-pub both : (a b : Bool) → a ≡ true → b ≡ true → (a && b) ≡ true
-both true b e f = f
-both false b e f = cc
-
-pub first_of : (a b : Bool) → (a && b) ≡ true → a ≡ true
-first_of true b e = refl
-first_of false b e = cc
-
-pub second_of : (a b : Bool) → (a && b) ≡ true → b ≡ true
-second_of true b e = e
-second_of false b e = cc
+pub same_follow : (h : ℕ) (w : Want) (s t : State) → canon s ≡ canon t → may_follow h w s ≡ may_follow h w t
+same_follow h w s t same = sym (follow_canon h w s) ∙ ap (may_follow h w) same ∙ follow_canon h w t
 
 -- ---- whether the next turn may follow at once
 

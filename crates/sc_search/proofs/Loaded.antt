@@ -1,18 +1,11 @@
 -- Worlds that are loaded, and the worlds that were reached.
-use Rattle.std.proofs.Common.{◌≡◌, ◌⊎◌, ◌<◌, ◌++◌, ◌∷◌, [], ◌∙◌, ◌&&◌, not, ℕ, zero, suc, Bool, true, false, List, Option, Some, get_or, length, slice_get, refl, sym, ap, subst, append_assoc}
-use Rattle.std.specs.Prelude.{is_some}
+use Rattle.std.proofs.Common.{◌≡◌, ◌⊎◌, ◌<◌, ◌++◌, ◌∷◌, [], ◌∙◌, ℕ, zero, suc, List, Option, Some, get_or, length, slice_get, refl, sym, ap, subst, append_assoc}
 use Rattle.std.proofs.lemmas.List.{append-nil}
 use Rattle.std.proofs.lemmas.Option.{get_or_from_slice_get}
 use Rattle.sc_lockpass.specs.Versions.{most_handlers}
 use Rattle.sc_lockpass.specs.declared.version.Version.{Version}
 use Rattle.sc_model.specs.declared.status.Status.{Status}
 use Rattle.sc_code.specs.declared.program.Image.{Image}
-use Rattle.sc_lockpass.specs.Rights.{is_handler}
-use Rattle.sc_region.specs.declared.job.Want.{Want}
-use Rattle.sc_region.specs.declared.job.Want.TheVariants as want
-use Rattle.sc_handler.specs.Canonical.{canon, canon_stage, sessions_in}
-use Rattle.sc_handler.specs.Handlers.{HandlerStage, Idle, Runs, HasMade, Reserves, Awaits, State, has_frames, has_requests}
-use Rattle.sc_request.specs.Settling.{may_ask}
 use Rattle.sc_play.specs.Regions.{PlainRegion}
 use Rattle.sc_world.specs.Free.{OpeningsAreLinked, RunsStayLinked}
 use Rattle.sc_world.specs.Kept.{AreKeptAlike, IsOf, KeptAlikeReadAlike, KeptAlikeTurnAlike, OpeningsAreOf, PlainKept, RunsStayOf, kept}
@@ -23,43 +16,16 @@ use Rattle.sc_world.proofs.KeptWorlds.{regions_are}
 use Rattle.sc_world.proofs.Runs.{runs-more}
 use Rattle.sc_search.specs.declared.aims.Aim.{Aim}
 use Rattle.sc_search.specs.Aims.{IsMet}
-use Rattle.sc_search.specs.Joined.{FollowsAtOnce, GoesOn, GoesOnUpTo, asks_free, may_follow}
+use Rattle.sc_search.specs.Joined.{FollowsAtOnce, GoesOn, GoesOnUpTo}
 use Rattle.sc_search.specs.Steps.{Keeps, Tries}
 use Rattle.sc_search.specs.Stops.{AreReached, MeetsAfter}
 use Rattle.sc_search.specs.Stored.{IsAlikeAfter, IsBacked}
 use Rattle.sc_search.specs.Views.{Met}
 use Rattle.sc_search.specs.Waiting.{IsPlayed}
+use Rattle.sc_search.proofs.Joins.{same_follow}
 use Rattle.sc_search.proofs.KeptStates.{met_alike}
 use Rattle.sc_search.proofs.Reasons.{there_is}
 use Rattle.sc_search.proofs.TriedTurns.{plays_on, tries}
-
--- what may follow at once is the same in states that are read alike
-frames_canon : (sessions : ℕ → ℕ) (stage : HandlerStage) → has_frames (canon_stage sessions stage) ≡ has_frames stage
-frames_canon sessions Idle = refl
-frames_canon sessions Runs = refl
-frames_canon sessions (HasMade k) = refl
-frames_canon sessions (Reserves ks mark) = refl
-frames_canon sessions (Awaits k c) = refl
-
-asks_canon : (h k : ℕ) (s : State) → asks_free h k (canon s) ≡ asks_free h k s
-asks_canon h k s =
-    ap (λ (b : Bool). is_handler h (s.rights.queue k) && ((not b && not (is_some (s.handlers k).failure)) && not (has_requests (s.handlers k).queue)))
-    (frames_canon (sessions_in s) (s.handlers k).stage)
-
-follow_canon : (h : ℕ) (w : Want) (s : State) → may_follow h w (canon s) ≡ may_follow h w s
-follow_canon h want.Continue s = refl
-follow_canon h (want.Release ks) s = refl
-follow_canon h (want.Wait ks) s = refl
-follow_canon h (want.Reserve ks) s = refl
-follow_canon h (want.Post r) s = ap (λ (b : Bool). may_ask h (want.Post r) s && b) (asks_canon h r.target.handler s)
-follow_canon h (want.Ask r true) s = refl
-follow_canon h (want.Ask r false) s = ap (λ (b : Bool). may_ask h (want.Ask r false) s && b) (asks_canon h r.target.handler s)
-follow_canon h (want.Create class procedure actuals passes) s = refl
-follow_canon h (want.Done v ks refused) s = refl
-follow_canon h (want.Fail why) s = refl
-
-same_follow : (h : ℕ) (w : Want) (s t : State) → canon s ≡ canon t → may_follow h w s ≡ may_follow h w t
-same_follow h w s t same = sym (follow_canon h w s) ∙ ap (may_follow h w) same ∙ follow_canon h w t
 
 module _ (open_of : OpeningsAreOf) (stay_of : RunsStayOf) (p : Image) (v : Version) where
   pub of_reached : (order : List ℕ) (w : PlainWorld) → Runs order (opened p v) w → IsOf p (most_handlers v) w

@@ -139,7 +139,7 @@ fn are_there(core: &Core, handlers: &[HandlerNumber]) -> bool
 
 /// Whether a request of a handler goes to a free one, to which its poster alone may post.
 fn asks_free(core: &Core, poster: HandlerNumber, request: &Request) -> bool
-    ensures { result ≡ true → (is_request_of poster request.now ≡ true) × (asks_free poster request.target.handler (center_of core.now).state ≡ true) }
+    ensures { result ≡ true → (is_request_of poster request.now ≡ true) × (asks_free poster request.now.target.handler (center_of core.now).state ≡ true) }
 {
     let target = request.target.handler;
     is_request_of(poster, request) && is_own(core, poster, target) && is_free(core, target)
