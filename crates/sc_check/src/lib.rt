@@ -16,7 +16,7 @@ mod purity;
 
 pub use checked::{Checked, check};
 pub use declarations::ClassText;
-pub use declarations::formulas::{clause_span, may_be_formula};
+pub use declarations::formulas::{clause_span, is_same_span, may_be_formula};
 pub use instructions::blocks::judge_head;
 pub use instructions::conditions::{judge_clause, judge_condition, judge_if_condition};
 pub use instructions::judge_instruction;

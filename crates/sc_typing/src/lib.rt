@@ -15,12 +15,13 @@ mod routine_context;
 pub use declarations::assignee::{Assignee, variable_span};
 pub use declarations::names::{Entity, add_formals, add_locals, block_type, blocks};
 pub use declarations::types::{declared_type, is_own, judge_type, result_type};
+pub use expressions::actuals::{known_handler, named_formal, names_untyped};
 pub use expressions::calls::{CallContext, judge_receiver};
 pub use expressions::operators::is_boolean;
 pub use expressions::positions::{operand_context, operand_position};
 pub use expressions::typing::{
     JudgedActual, Typing, as_check_result, is_foreign_type, judge_binary, judge_result,
-    judge_unary, judged_type, keep_fault, simple_typing,
+    judge_unary, judged_type, keep_fault, may_pass, simple_typing,
 };
 pub use fault::{CheckFault, refusal, required};
 pub use purity::{Marks, Numbering, Purity};

@@ -167,7 +167,7 @@ fn is_late(rule: Rule) -> bool
 }
 
 /// Whether two places are equal.
-fn is_same_span(one: Span, other: Span) -> bool
+pub fn is_same_span(one: Span, other: Span) -> bool
     ensures { result ≡ judging_system.is_same_span one other }
 {
     one.start == other.start && one.end == other.end

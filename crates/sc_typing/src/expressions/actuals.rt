@@ -80,7 +80,7 @@ pub fn count(formals: Formals) -> usize
 }
 
 /// The formal that a formal's tag names.
-fn named_formal(tag: Tag) -> Option<usize>
+pub fn named_formal(tag: Tag) -> Option<usize>
     ensures { result ≡ spec.named_formal tag }
 {
     match tag {
@@ -101,7 +101,7 @@ fn is_untyped(found: &[JudgedActual], number: usize) -> bool
 
 /// Whether the formal that a tag names, if it names one, has such an actual: then nothing can be combined with it. Where
 /// its actual is missing, the tag names no handler.
-fn names_untyped(found: &[JudgedActual], named: Option<usize>) -> bool
+pub fn names_untyped(found: &[JudgedActual], named: Option<usize>) -> bool
     ensures { result ≡ spec.names_untyped (types_in found.now) named }
 {
     match named {
@@ -111,7 +111,7 @@ fn names_untyped(found: &[JudgedActual], named: Option<usize>) -> bool
 }
 
 /// What is known of the handler of an actual of this type, if it has one.
-fn known_handler(actual: Option<EntityType>) -> Known
+pub fn known_handler(actual: Option<EntityType>) -> Known
     ensures { result ≡ spec.known_handler actual }
 {
     match actual {
