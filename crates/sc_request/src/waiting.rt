@@ -63,6 +63,13 @@ impl Core {
         }
     }
 
+    /// What the core keeps of a handler, if there is one of this number.
+    pub fn kept_at(&self, handler: HandlerNumber) -> Option<&Handler>
+        ensures { option_map (λ kept. kept.now) result ≡ slice_get self.now.state.handlers.items handler }
+    {
+        self.state.handlers.get(handler as usize)
+    }
+
     /// The number of requests in the queue of a handler.
     pub fn queue_len(&self, handler: HandlerNumber) -> usize
         ensures { result ≡ length ((state_of self.now).handlers handler).queue }
