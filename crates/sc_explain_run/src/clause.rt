@@ -3,6 +3,7 @@
 use crate::evaluation::{Evaluation, Goal, Start, push_evaluated};
 use crate::places::{push_place, span_in, written};
 use crate::scene::Scene;
+use crate::values::push_expanded;
 use sc_code::{FeatureCode, NameNumber, Program, RoutineText, SiteKind};
 use sc_explain_text::Lines;
 use sc_lockpass::HandlerNumber;
@@ -172,16 +173,10 @@ fn is_new<'r>(lines: &mut Lines, told: &mut Vec<&'r str>, name: &'r str) -> bool
     true
 }
 
+/// Adds that something has this value, unless that is an object.
 fn push_value(lines: &mut Lines, value: Value) {
-    let word = match value {
-        Value::Integer(value) => {
-            let template = if value < 0 { " = -~" } else { " = ~" };
-            return lines.fill_number(template, value.unsigned_abs());
-        }
-        Value::Boolean(true) => " = True",
-        Value::Boolean(false) => " = False",
-        Value::Void => " = Void",
-        Value::Attached(_) => "",
-    };
-    lines.push(word)
+    if !matches!(value, Value::Attached(_)) {
+        lines.push(" = ");
+        push_expanded(lines, value)
+    }
 }

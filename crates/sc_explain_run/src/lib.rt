@@ -29,6 +29,7 @@ mod steps;
 mod supplier;
 mod telling;
 mod tracer;
+mod values;
 mod waiting;
 mod waits;
 mod words;

@@ -1,18 +1,19 @@
 //! What one turn did, in words.
 
-use crate::history::{Ended, Sent, turn_by};
+use crate::history::{Begun, Ended, Sent, Turn, turn_by};
 use crate::listing::Listing;
-use crate::naming::Named;
+use crate::naming::{Asked, Named, asked_by};
 use crate::places::{part_behind_of, part_of, push_place, span_in};
 use crate::printed::push_printed;
 use crate::scene::Scene;
+use crate::values::{push_call, push_shown};
 use crate::waiting::Waiting;
 use crate::waits::{is_kept, keeper_of};
-use sc_code::ClassNumber;
+use sc_code::{ClassNumber, NameNumber};
 use sc_explain_text::{Lines, find};
 use sc_lockpass::HandlerNumber;
 use sc_model::{Cause, Status};
-use sc_region::{Errand, Job, Point, Reference};
+use sc_region::{Errand, Job, Point, Reference, Value, Want};
 use sc_request::Core;
 use sc_text::Span;
 use sc_world::code_of;
@@ -29,6 +30,8 @@ pub struct Earlier {
     stand: Option<Span>,
     /// The place of its routine's name.
     routine: Option<Span>,
+    /// The request that it served.
+    served: Option<Asked>,
 }
 
 impl Earlier {
@@ -46,7 +49,19 @@ impl Earlier {
                 Some(standing) => Some(standing.text.name),
                 None => None,
             },
+            served: served_by(scene.core, handler),
         }
+    }
+}
+
+/// The request that a handler serves, the one taken last.
+fn served_by(core: &Core, handler: HandlerNumber) -> Option<Asked> {
+    if let Some(kept) = core.kept_at(handler)
+        && let Some(posting) = kept.services.front()
+    {
+        Some(asked_by(&posting.request.to_request()))
+    } else {
+        None
     }
 }
 
@@ -119,7 +134,8 @@ impl<'o> MadeTurn<'o> {
                 self.tell_granted(lines, scene, granted.as_slice(), waiting)
             }
             let turn = turn_by(&settlement, place);
-            self.tell_ended(lines, scene, turn.ended, waiting);
+            self.tell_ended(lines, scene, turn.ended, &settlement.want, waiting);
+            self.tell_answer(lines, turn, &settlement.want);
             self.tell_failed(lines, turn.is_behind)
         }
     }
@@ -157,20 +173,40 @@ impl<'o> MadeTurn<'o> {
         lines: &mut Lines,
         scene: &Scene<'o>,
         ended: Ended,
+        want: &Want,
         waiting: &mut Waiting,
     ) {
         let made = self.earlier.handlers;
         match ended {
             Ended::Asks(sent) => {
                 let Reference { handler, class, .. } = sent.target;
-                let feature = match sent.errand {
-                    Errand::Calls(name) => self.listing.name(name),
-                    Errand::Makes(_) => "",
-                };
-                self.tell_sent(lines, scene, template_of(sent), feature, handler, class)
+                self.begin(lines, words_before(sent));
+                if let Errand::Calls(name) = sent.errand {
+                    push_call(
+                        lines,
+                        &self.listing,
+                        self.listing.name(name),
+                        actuals_of(want),
+                    )
+                }
+                lines.push(words_after(sent));
+                self.push_receiver(lines, scene, handler, class);
+                self.end_sent(lines, scene)
             }
             Ended::Creates(class) if made < scene.handlers => {
-                self.tell_sent(lines, scene, " creates ", "", made, class)
+                self.begin(lines, " creates ");
+                self.push_receiver(lines, scene, made, class);
+                if let Some(name) = procedure_of(want) {
+                    lines.push(" by `");
+                    push_call(
+                        lines,
+                        &self.listing,
+                        self.listing.name(name),
+                        actuals_of(want),
+                    );
+                    lines.push("`")
+                }
+                self.end_sent(lines, scene)
             }
             Ended::Reserves => self.tell_wait(lines, scene, self.handler, waiting),
             Ended::Waits => {
@@ -186,27 +222,43 @@ impl<'o> MadeTurn<'o> {
         }
     }
 
-    /// Adds what was sent to a handler, by a text in which this feature takes the place of `~`. One that has no root
-    /// object yet is named by this class, of which an object is asked or is to be made.
-    fn tell_sent(
+    /// Adds the handler to which something was sent. One that has no root object yet is named by this class, of which
+    /// an object is asked or is to be made.
+    fn push_receiver(
         &self,
         lines: &mut Lines,
         scene: &Scene<'o>,
-        template: &str,
-        feature: &str,
         handler: HandlerNumber,
         class: ClassNumber,
     ) {
         let class = scene.root_class(handler).unwrap_or(class);
-        self.begin(lines, "");
-        lines.fill_name(template, feature);
-        Named::of(&self.listing, handler, Some(class)).push_class_first(lines);
-        // the handler waits there, or has gone on
+        Named::of(&self.listing, handler, Some(class)).push_class_first(lines)
+    }
+
+    /// Ends a line on what was sent, with the place: the handler waits there, or has gone on.
+    fn end_sent(&self, lines: &mut Lines, scene: &Scene<'o>) {
         let part = match scene.core.awaits(self.handler) {
             Some(_) => self.stand,
             None => self.behind,
         };
         self.end(lines, part)
+    }
+
+    /// Adds what the turn has answered to a query of another handler.
+    fn tell_answer(&self, lines: &mut Lines, turn: Turn, want: &Want) {
+        let served = match turn.begun {
+            Begun::Takes(served) => Some(served.asked),
+            _ => self.earlier.served,
+        };
+        if let Some(value) = reply_of(want)
+            && let Some(asked) = served
+            && let Errand::Calls(name) = asked.errand
+        {
+            self.begin(lines, "");
+            lines.fill_name(" answers `~` = ", self.listing.name(name));
+            push_shown(lines, &self.listing, value);
+            self.end(lines, self.listing.asked_feature(asked))
+        }
     }
 
     /// Adds which handlers one waits for that it is to reserve, if it can't have all of them now.
@@ -274,13 +326,48 @@ fn needs_some(core: &Core, handler: HandlerNumber, granted: &[HandlerNumber]) ->
     false
 }
 
-/// What is sent to another handler: `~` is the feature that is called.
-fn template_of(sent: Sent) -> &'static str {
+/// What is sent to another handler, up to the feature that is called.
+fn words_before(sent: Sent) -> &'static str {
     match (sent.errand, sent.is_waited) {
-        (Errand::Makes(_), true) => " asks for its creation of ",
-        (Errand::Makes(_), false) => " posts its creation to ",
-        (Errand::Calls(_), true) => " asks for `~` of ",
-        (Errand::Calls(_), false) => " posts `~` to ",
+        (Errand::Makes(_), true) => " asks for its creation",
+        (Errand::Makes(_), false) => " posts its creation",
+        (Errand::Calls(_), true) => " asks for `",
+        (Errand::Calls(_), false) => " posts `",
+    }
+}
+
+/// What is sent to another handler, from the feature that is called on.
+fn words_after(sent: Sent) -> &'static str {
+    match (sent.errand, sent.is_waited) {
+        (Errand::Makes(_), true) => " of ",
+        (Errand::Makes(_), false) => " to ",
+        (Errand::Calls(_), true) => "` of ",
+        (Errand::Calls(_), false) => "` to ",
+    }
+}
+
+/// The actuals that a turn sends which wants this.
+fn actuals_of(want: &Want) -> &[Value] {
+    match want {
+        Want::Post(request) | Want::Ask { request, .. } => request.actuals.as_slice(),
+        Want::Create { actuals, .. } => actuals.as_slice(),
+        _ => &[],
+    }
+}
+
+/// The creation procedure of the object that a new handler is to make, if it is made by one.
+fn procedure_of(want: &Want) -> Option<NameNumber> {
+    match want {
+        Want::Create { procedure, .. } => *procedure,
+        _ => None,
+    }
+}
+
+/// The value of a query that ends.
+fn reply_of(want: &Want) -> Option<Value> {
+    match want {
+        Want::Done { reply, .. } => *reply,
+        _ => None,
     }
 }
 
