@@ -47,7 +47,7 @@ use Rattle.sc_typing.specs.declared.fault.CheckFault.{CheckFault}
 use Rattle.sc_typing.specs.declared.fault.CheckFault.TheVariants.{Refused}
 use Rattle.sc_typing.specs.Views.{typing_of}
 use Rattle.sc_typing.specs.Judges.{Faults, Judges, Knows, Passes}
-use Rattle.sc_faults.specs.Internal.Adding.{AddsFaults, AddsWhereKnown}
+use Rattle.sc_faults.specs.Internal.Adding.{AddsFaults}
 use Rattle.sc_faults.specs.Internal.Listing.{with_first, faults_at, where_known, faults_of_tested, judge_before, judge_passed, judge_passed_to, judge_named, judge_old, judge_place, faults_in, faults_in_target, faults_in_actuals, faults_of, faults_of_call, judge_made, faults_in_creation, created_type, faults_in_instr}
 use Rattle.sc_faults.proofs.Adding.{both_if_ok, named_if_ok, nothing_added, next, end}
 use Rattle.sc_faults.proofs.ExpressionFaults.{none_within}
@@ -148,9 +148,9 @@ module _ (h : RoutineContext) (c : Context) (k : Position) (n : Entities) (e : E
 
   module _ (s : Span) (op : BinaryOperator) (a b : Box Expr Global) (q : e ≡ expr.Binary s op a b) (x y : Expr) (d1 : x ≡ a.value)
       (d2 : y ≡ b.value) (mid : List Fault) where
-    abbrev joint : Expr → Expr → List Fault
-    joint x y =
-        faults_of h c Condition n (expr_of x) ++ where_known (judge_given h c n (expr_of x)) (λ m. faults_of h c Condition m (expr_of y))
+    abbrev joint : Expr → Expr → Expr → List Fault
+    joint x z y =
+        faults_of h c Condition n (expr_of x) ++ where_known (judge_given h c n (expr_of z)) (λ m. faults_of h c Condition m (expr_of y))
 
     abbrev apart : Position → Expr → Expr → List Fault
     apart side x y = faults_of h c side n (expr_of x) ++ faults_of h c side n (expr_of y)
@@ -163,19 +163,19 @@ module _ (h : RoutineContext) (c : Context) (k : Position) (n : Entities) (e : E
         formed (plain.Binary s op (expr_of a.value) (expr_of b.value)) (apart side x y) (ap expr_of q ∙ expr_of-binary s op a b)
         (ap (λ side. apart side x y) o ∙ ap (λ (x : Expr). apart (operand_position op) x y) d1
         ∙ ap (λ (y : Expr). apart (operand_position op) a.value y) d2
-        ∙ where_false (shares_names k op) (joint a.value b.value) (apart (operand_position op) a.value b.value) i)
+        ∙ where_false (shares_names k op) (joint a.value a.value b.value) (apart (operand_position op) a.value b.value) i)
         (both_if_ok r old mid new (faults_of h c side n (expr_of x)) (faults_of h c side n (expr_of y)) p1 p2)
 
-    pub joint_added : (given : Result Unit CheckFault) (known : Entities) → shares_names k op ≡ true →
-        Knows (judge_given h c n (expr_of x)) given known → mid ≡ old ++ faults_of h c Condition n (expr_of x) →
-        AddsWhereKnown h c given known (expr_of y) r mid new → OnOk r (new ≡ old ++ faults_in h c k n (expr_of e))
+    pub joint_added : (z : Expr) → z ≡ a.value → shares_names k op ≡ true → mid ≡ old ++ faults_of h c Condition n (expr_of x) →
+        OnOk r (new ≡ mid ++ where_known (judge_given h c n (expr_of z)) (λ m. faults_of h c Condition m (expr_of y))) →
+        OnOk r (new ≡ old ++ faults_in h c k n (expr_of e))
     unfolding faults_in
-    joint_added given known i g p1 p2 =
-        formed (plain.Binary s op (expr_of a.value) (expr_of b.value)) (joint x y) (ap expr_of q ∙ expr_of-binary s op a b)
-        (ap (λ (x : Expr). joint x y) d1 ∙ ap (λ (y : Expr). joint a.value y) d2
-        ∙ where_true (shares_names k op) (joint a.value b.value) (apart (operand_position op) a.value b.value) i)
+    joint_added z d3 i p1 p2 =
+        formed (plain.Binary s op (expr_of a.value) (expr_of b.value)) (joint x z y) (ap expr_of q ∙ expr_of-binary s op a b)
+        (ap (λ (x : Expr). joint x z y) d1 ∙ ap (λ (z : Expr). joint a.value z y) d3 ∙ ap (λ (y : Expr). joint a.value a.value y) d2
+        ∙ where_true (shares_names k op) (joint a.value a.value b.value) (apart (operand_position op) a.value b.value) i)
         (both_if_ok r old mid new (faults_of h c Condition n (expr_of x))
-        (where_known (judge_given h c n (expr_of x)) (λ m. faults_of h c Condition m (expr_of y))) p1 (p2 (judge_given h c n (expr_of x)) g))
+        (where_known (judge_given h c n (expr_of z)) (λ m. faults_of h c Condition m (expr_of y))) p1 p2)
 
 -- ---- where names are known
 

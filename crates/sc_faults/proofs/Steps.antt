@@ -5,7 +5,6 @@ use Rattle.std.specs.declared.alloc.AllocError.{AllocError}
 use Rattle.sc_text.specs.declared.token.Span.{Span}
 use Rattle.sc_tree.specs.declared.declaration.DeclaredType.{DeclaredType}
 use Rattle.sc_tree.specs.declared.declaration.Declaration.{Declaration}
-use Rattle.sc_tree.specs.declared.instruction.Instr.{Instr}
 use Rattle.sc_tree.specs.declared.instruction.Clause.{Clause}
 use Rattle.sc_tree.specs.declared.expression.Name.{Name}
 use Rattle.sc_tree.specs.declared.system.Feature.{Feature}
@@ -18,9 +17,7 @@ use Rattle.sc_tree.specs.Plain.{System}
 use Rattle.sc_tree.specs.View.{class_of, clause_of, declaration_of, feature_of, instrs_of, kind_of, name_of, routine_of, type_if_any, type_of}
 use Rattle.sc_class.proofs.Anys.{at, drop_end}
 use Rattle.sc_rules.specs.declared.fault.Fault.{Fault}
-use Rattle.sc_rules.specs.declared.position.Context.{Context}
 use Rattle.sc_rules.specs.declared.position.Context.TheVariants as context
-use Rattle.sc_rules.specs.declared.position.Position.{Position}
 use Rattle.sc_rules.specs.Names.{RoutineName, RoutineContext, Entities, routine_context, formals_known, locals_known}
 use Rattle.sc_rules.specs.declared.rule.Rule.TheVariants.{InvariantForm}
 use Rattle.sc_rules.specs.Judging.{Judged, required}
@@ -29,8 +26,8 @@ use Rattle.sc_typing.specs.declared.fault.CheckFault.{CheckFault}
 use Rattle.sc_typing.specs.declared.fault.CheckFault.TheVariants.{Refused}
 use Rattle.sc_typing.specs.Judges.{Faults, Knows, Passes}
 use Rattle.sc_faults.specs.Internal.Adding.{AddsFaults, AddsForm, AddsUnder}
-use Rattle.sc_faults.specs.Internal.Listing.{with_first, faults_at, faults_of, faults_of_each, faults_of_clause, faults_of_instrs, faults_under, faults_of_type, faults_of_types, faults_of_result, faults_of_body, faults_of_text, faults_of_kind, faults_of_features, faults_of_creator, faults_of_form, faults_of_invariant, faults_of_class, faults_of_classes}
-use Rattle.sc_faults.proofs.Adding.{both_if_ok, named, named_if_ok, nothing_added, next, end}
+use Rattle.sc_faults.specs.Internal.Listing.{with_first, faults_at, faults_of_each, faults_of_clause, faults_of_instrs, faults_under, faults_of_type, faults_of_types, faults_of_result, faults_of_body, faults_of_text, faults_of_kind, faults_of_features, faults_of_creator, faults_of_form, faults_of_invariant, faults_of_class, faults_of_classes}
+use Rattle.sc_faults.proofs.Adding.{both_if_ok, named_if_ok, nothing_added, next, end}
 
 -- ---- a site
 
@@ -76,17 +73,13 @@ module _ (judged : Result Unit CheckFault) (j : Judged (Unit {0})) (b : Bool) (p
       named_if_ok r old new (faults_at (required b InvariantForm p) []) (faults_of_form j b p) (sym (listed e f false q w s k)) a
 
 -- then the form of a clause
-pub form_added : (j : Judged (Unit {0})) (listed : List Fault) (b : Bool) (p : Span) (judged : Result Unit CheckFault)
-    (r : Result Unit AllocError) (operands start of_form old mid new : List Fault) → operands ≡ listed → Passes j judged → start ≡ [] →
-    AddsForm judged b p (Ok tt) start of_form → AddsFaults judged operands (Ok tt) old mid → OnOk r (new ≡ mid ++ of_form) →
-    OnOk r (new ≡ old ++ (faults_at j listed ++ faults_of_form j b p))
-form_added j listed b p judged r operands start of_form old mid new o q e f a n =
-    both_if_ok r old mid new (faults_at j listed) (faults_of_form j b p) (a j q ∙ ap (λ os. old ++ faults_at j os) o)
-    (named_if_ok r mid new of_form (faults_of_form j b p) (f j q ∙ ap (λ os. os ++ faults_of_form j b p) e) n)
-
-pub in_context : (h g : RoutineContext) (c : Context) (k : Position) (n : Entities) (e : plain.Expr) (old new : List Fault) → h ≡ g →
-    new ≡ old ++ faults_of h c k n e → new ≡ old ++ faults_of g c k n e
-in_context h g c k n e old new q p = named old new (faults_of h c k n e) (faults_of g c k n e) (ap (λ h. faults_of h c k n e) q) p
+pub form_added : (j : Judged (Unit {0})) (operands : List Fault) (b c : Bool) (p q : Span) (judged : Result Unit CheckFault)
+    (r : Result Unit AllocError) (old mid new : List Fault) → b ≡ c → p ≡ q → Passes j judged → AddsFaults judged operands (Ok tt) old mid →
+    AddsForm judged b p r mid new → OnOk r (new ≡ old ++ (faults_at j operands ++ faults_of_form j c q))
+form_added j operands b c p q judged r old mid new bq pq k a f =
+    both_if_ok r old mid new (faults_at j operands) (faults_of_form j c q) (a j k)
+    (named_if_ok r mid new (faults_of_form j b p) (faults_of_form j c q)
+    (ap (λ b. faults_of_form j b p) bq ∙ ap (λ p. faults_of_form j c p) pq) (f j k))
 
 -- ---- names
 
@@ -142,42 +135,29 @@ text_added h pre post locals is r old first second new known kq p1 p2 p3 =
     (both_if_ok r old first new (requires known) ((types ++ body known) ++ ensures known) p1
     (both_if_ok r first second new (types ++ body known) (ensures known) p2 p3))
 
-module _ (s : System) (pure : RoutineName → Bool) (k : ℕ) (r : Routine) (h : RoutineContext)
-    (first second third locals : List Declaration) (pre post : List Clause) (is : List Instr)
-    (q1 : first ≡ r.formals.items) (q2 : second ≡ r.formals.items) (q3 : third ≡ r.formals.items)
-    (pq : pre ≡ r.precondition.items) (lq : locals ≡ r.locals.items) (iq : is ≡ r.body.items) (oq : post ≡ r.postcondition.items)
-    (hq : h ≡ routine_context s pure k (map declaration_of third) (type_if_any r.result_type)) where
-  abbrev types_of : List Declaration → List Declaration → List Fault
-  types_of fs ds = faults_of_types s (map declaration_of fs) (map declaration_of ds)
+module _ (s : System) (pure : RoutineName → Bool) (k : ℕ) (r : Routine) (h : RoutineContext) (formals : List Declaration) (q : formals ≡ r.formals.items)
+    (hq : h ≡ routine_context s pure k (map declaration_of formals) (type_if_any r.result_type)) where
+  abbrev types_of : List Declaration → List Fault
+  types_of ds = faults_of_types s (map declaration_of ds) (map declaration_of ds)
 
-  abbrev text_of : RoutineContext → List Clause → List Declaration → List Instr → List Clause → List Fault
-  text_of h pre ds is post = faults_of_text h (map clause_of pre) (map declaration_of ds) (instrs_of is) (map clause_of post)
+  abbrev text_of : RoutineContext → List Fault
+  text_of h =
+      faults_of_text h (map clause_of r.precondition.items) (map declaration_of r.locals.items) (instrs_of r.body.items)
+      (map clause_of r.postcondition.items)
 
   abbrev result : List Fault
   result = faults_of_result s (type_if_any r.result_type)
 
-  all_named : types_of first second ++ (result ++ text_of h pre locals is post) ≡ faults_of_kind s pure k (plain.Routine (routine_of r))
+  all_named : types_of formals ++ (result ++ text_of h) ≡ faults_of_kind s pure k (plain.Routine (routine_of r))
   all_named =
-      let formals : List Declaration = r.formals.items in
-      let g : RoutineContext = routine_context s pure k (map declaration_of formals) (type_if_any r.result_type) in
-      ap (λ (ds : List Declaration). types_of ds second ++ (result ++ text_of h pre locals is post)) q1
-      ∙ ap (λ (ds : List Declaration). types_of formals ds ++ (result ++ text_of h pre locals is post)) q2
-      ∙ ap (λ h. types_of formals formals ++ (result ++ text_of h pre locals is post))
-      (hq ∙ ap (λ (ds : List Declaration). routine_context s pure k (map declaration_of ds) (type_if_any r.result_type)) q3)
-      ∙ ap (λ (cs : List Clause). types_of formals formals ++ (result ++ text_of g cs locals is post)) pq
-      ∙ ap (λ (ds : List Declaration). types_of formals formals ++ (result ++ text_of g r.precondition.items ds is post)) lq
-      ∙ ap (λ (is : List Instr). types_of formals formals ++ (result ++ text_of g r.precondition.items r.locals.items is post)) iq
-      ∙ ap (λ (cs : List Clause). types_of formals formals ++ (result ++ text_of g r.precondition.items r.locals.items r.body.items cs)) oq
+      ap (λ h. types_of formals ++ (result ++ text_of h)) hq
+      ∙ ap (λ (ds : List Declaration). types_of ds ++ (result ++ text_of (routine_context s pure k (map declaration_of ds) (type_if_any r.result_type)))) q
 
-  pub routine_added : (o : Result Unit AllocError) (old mid later new : List Fault) → mid ≡ old ++ types_of first second →
-      later ≡ mid ++ result → OnOk o (new ≡ later ++ text_of h pre locals is post) →
-      OnOk o (new ≡ old ++ faults_of_kind s pure k (plain.Routine (routine_of r)))
+  pub routine_added : (o : Result Unit AllocError) (old mid later new : List Fault) → mid ≡ old ++ types_of formals → later ≡ mid ++ result →
+      OnOk o (new ≡ later ++ text_of h) → OnOk o (new ≡ old ++ faults_of_kind s pure k (plain.Routine (routine_of r)))
   routine_added o old mid later new p1 p2 p3 =
-      named_if_ok o old new (types_of first second ++ (result ++ text_of h pre locals is post))
-      (faults_of_kind s pure k (plain.Routine (routine_of r)))
-      all_named
-      (both_if_ok o old mid new (types_of first second) (result ++ text_of h pre locals is post) p1
-      (both_if_ok o mid later new result (text_of h pre locals is post) p2 p3))
+      named_if_ok o old new (types_of formals ++ (result ++ text_of h)) (faults_of_kind s pure k (plain.Routine (routine_of r))) all_named
+      (both_if_ok o old mid new (types_of formals) (result ++ text_of h) p1 (both_if_ok o mid later new result (text_of h) p2 p3))
 
 module _ (s : System) (pure : RoutineName → Bool) (k : ℕ) (x : FeatureKind) (r : Result Unit AllocError) (old new : List Fault) where
   pub attribute_added : (d : DeclaredType) → x ≡ kind.Attribute d → OnOk r (new ≡ old ++ faults_of_type s [] (type_of d)) →

@@ -45,8 +45,10 @@ pub fn judge_before<'s>(
         (expr_of target.now)) result }
 {
     let found = routine.expression(context, Position::Plain, names, target)?;
-    judge_receiver(target.span(), found)?;
-    Ok(())
+    match judge_receiver(target.span(), found) {
+        Ok(_) => Ok(()),
+        Err(fault) => Err(fault),
+    }
 }
 
 /// The type of what is before the dot of a call, or of Current if there is no dot, as far as it has one.
@@ -122,8 +124,10 @@ pub fn judge_name(
         judged: Ok(untyped()),
     };
     let found = vec![in routine.alloc; unknown; actuals]?;
-    routine.judge_actuals_and_name(site, meaning, &found, untyped())?;
-    Ok(())
+    match routine.judge_actuals_and_name(site, meaning, &found, untyped()) {
+        Ok(_) => Ok(()),
+        Err(fault) => Err(fault),
+    }
 }
 
 // ---- creations

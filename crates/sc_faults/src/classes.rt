@@ -1,22 +1,26 @@
 //! The faults of classes, and of a system.
 
-ghost use Rattle.std.specs.Prelude.{◌≡◌, ◌++◌, IfOk, OnOk, map};
-ghost use Rattle.sc_tree.specs.View.{class_of, clause_of, feature_of, name_of};
+ghost use Rattle.std.specs.Prelude.{◌≡◌, ◌++◌, [], IfOk, OnOk, map};
+ghost use Rattle.sc_tree.specs.View.{class_of, clause_of, expr_of, feature_of, name_of};
 ghost use Rattle.sc_class.specs.SystemIn.{system_in};
+ghost use Rattle.sc_rules.specs.declared.position.Context.TheVariants.{Invariant};
+ghost use Rattle.sc_rules.specs.declared.position.Position.TheVariants.{Plain};
 ghost use Rattle.sc_rules.specs.Purity.{IsPurity};
+ghost use Rattle.sc_rules.specs.SystemRules.{invariant_context};
 ghost use Rattle.sc_typing.specs.Marks.{is_marked};
 ghost use Rattle.sc_faults.specs.FaultLists.{IsFaultList};
+ghost use Rattle.sc_faults.specs.Internal.Adding.{AddsFaults};
 ghost use Rattle.sc_faults.specs.Internal.Listing as listing;
 
-use crate::expressions::add_expression;
+use crate::expressions::add_site;
 use crate::features::{add_feature, context_of};
 use crate::formulas::add_form;
-use crate::found::{add, add_alone};
+use crate::found::add_alone;
 use sc_check::{ClassText, clause_span, may_be_formula, pure_functions};
 use sc_class::Tables;
 use sc_rules::{Context, Fault, Position};
-use sc_tree::{Class, Clause, Feature, Name};
-use sc_typing::Purity;
+use sc_tree::{Class, Clause, Expr, Feature, Name};
+use sc_typing::{CheckFault, Purity};
 use std::alloc::{AllocError, Global};
 
 /// Adds the fault of each name that the class lists under `create`.
@@ -51,6 +55,29 @@ fn add_features<'s>(
     Ok(())
 }
 
+/// Adds the fault that judging a clause of the invariant has reported, if it has reported one, then those of its condition.
+fn add_judged<'s>(
+    class: &ClassText<'_, 's>,
+    judged: &Result<(), CheckFault>,
+    condition: &'s Expr,
+    faults: &mut Vec<Fault>,
+) -> Result<(), AllocError>
+    ensures { AddsFaults judged.now (listing.faults_of (invariant_context (system_in class.now.tables.now)
+        (is_marked class.now.purity.now) class.now.class) Invariant Plain [] (expr_of condition.now)) result faults.old.items
+        faults.new.items }
+{
+    let routine = context_of(class, &[], &None);
+    add_site(
+        &routine,
+        Context::Invariant,
+        Position::Plain,
+        &[],
+        condition,
+        judged,
+        faults,
+    )
+}
+
 /// Adds the faults of a clause of the invariant.
 #[tactic(auto, unfolding(sc_tree::specs::View::clause_of))]
 fn add_invariant<'s>(
@@ -61,22 +88,10 @@ fn add_invariant<'s>(
     ensures { OnOk result (faults.new.items ≡ faults.old.items ++ listing.faults_of_invariant
         (system_in class.now.tables.now) (is_marked class.now.purity.now) class.now.class (clause_of clause.now)) }
 {
-    let routine = context_of(class, &[], &None);
-    let mut operands = Vec::new(class.alloc);
-    add_expression(
-        &routine,
-        Context::Invariant,
-        Position::Plain,
-        &[],
-        &clause.condition,
-        &mut operands,
-    )?;
     let judged = class.judge_invariant(clause);
+    add_judged(class, &judged, &clause.condition, faults)?;
     let is_formula = may_be_formula(class.tables, class.class, &clause.condition);
-    let mut of_form = Vec::new(class.alloc);
-    add_form(&judged, is_formula, clause_span(clause), &mut of_form)?;
-    add(judged, &mut operands, faults)?;
-    faults.append(&mut of_form)
+    add_form(&judged, is_formula, clause_span(clause), faults)
 }
 
 /// Adds the faults of the clauses of the invariant.
@@ -121,13 +136,14 @@ fn add_classes<'t, 's>(
 {
     let classes = tables.classes();
     for class in 0..classes.len() {
+        let declared = &classes[class];
         let text = ClassText {
             alloc,
             tables,
             purity,
             class,
         };
-        add_class(&text, &classes[class], faults)?;
+        add_class(&text, declared, faults)?;
     }
     Ok(())
 }

@@ -8,8 +8,7 @@ ghost use Rattle.sc_typing.specs.Views.{entity_of, routine_in};
 ghost use Rattle.sc_typing.specs.Judges.{Passes};
 ghost use Rattle.sc_faults.specs.Internal.Listing as listing;
 
-use crate::expressions::add_expression;
-use crate::found::add;
+use crate::expressions::add_site;
 use sc_check::{judge_condition, judge_head, judge_if_condition};
 use sc_rules::{Context, Fault, Position};
 use sc_tree::{Clause, Expr, Head};
@@ -26,19 +25,15 @@ pub fn add_if_condition<'s>(
     ensures { OnOk result (faults.new.items ≡ faults.old.items ++ listing.faults_of_condition (routine_in routine.now)
         Body Condition (map entity_of names.now) (expr_of condition.now)) }
 {
-    let mut operands = Vec::new(routine.alloc);
-    add_expression(
+    let mut known = Vec::from_slice(routine.alloc, names)?;
+    let judged = judge_if_condition(routine, &mut known, condition);
+    add_site(
         routine,
         Context::Body,
         Position::Condition,
         names,
         condition,
-        &mut operands,
-    )?;
-    let mut known = Vec::from_slice(routine.alloc, names)?;
-    add(
-        judge_if_condition(routine, &mut known, condition),
-        &mut operands,
+        &judged,
         faults,
     )
 }
@@ -54,18 +49,14 @@ pub fn add_condition<'s>(
     ensures { OnOk result (faults.new.items ≡ faults.old.items ++ listing.faults_of_condition (routine_in routine.now)
         context Plain (map entity_of names.now) (expr_of condition.now)) }
 {
-    let mut operands = Vec::new(routine.alloc);
-    add_expression(
+    let judged = judge_condition(routine, context, names, condition);
+    add_site(
         routine,
         context,
         Position::Plain,
         names,
         condition,
-        &mut operands,
-    )?;
-    add(
-        judge_condition(routine, context, names, condition),
-        &mut operands,
+        &judged,
         faults,
     )
 }
@@ -96,8 +87,10 @@ fn judge_value<'s>(
 ) -> Result<(), CheckFault>
     ensures { Passes (listing.judge_value (routine_in routine.now) (map entity_of names.now) (head_of head.now)) result }
 {
-    judge_head(routine, names, 0, head)?;
-    Ok(())
+    match judge_head(routine, names, 0, head) {
+        Ok(_) => Ok(()),
+        Err(fault) => Err(fault),
+    }
 }
 
 /// Adds the faults of a head of a block.
@@ -111,16 +104,16 @@ fn add_head<'s>(
     ensures { OnOk result (faults.new.items ≡ faults.old.items ++ listing.faults_of_head (routine_in routine.now)
         (map entity_of names.now) (head_of head.now)) }
 {
-    let mut operands = Vec::new(routine.alloc);
-    add_expression(
+    let judged = judge_value(routine, names, head);
+    add_site(
         routine,
         Context::Body,
         Position::Plain,
         names,
         &head.value,
-        &mut operands,
-    )?;
-    add(judge_value(routine, names, head), &mut operands, faults)
+        &judged,
+        faults,
+    )
 }
 
 /// Adds the faults of the heads of a block.

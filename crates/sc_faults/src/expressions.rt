@@ -3,12 +3,13 @@
 ghost use Rattle.std.specs.Prelude.{◌≡◌, ◌++◌, OnOk, map};
 ghost use Rattle.sc_tree.specs.View.{expr_of, exprs_of, name_of, target_of};
 ghost use Rattle.sc_class.specs.SystemIn.{system_in};
+ghost use Rattle.sc_rules.specs.declared.position.Position.TheVariants.{Condition};
 ghost use Rattle.sc_rules.specs.Judging as judging;
 ghost use Rattle.sc_rules.specs.Positions as positions;
 ghost use Rattle.sc_typing.specs.Views.{entity_of, formals_in, meaning_in, routine_in, types_in, typing_of};
 ghost use Rattle.sc_typing.specs.Judges.{Judges, Passes};
 ghost use Rattle.sc_faults.specs.Internal.Listing as listing;
-ghost use Rattle.sc_faults.specs.Internal.Adding.{AddsWhereKnown};
+ghost use Rattle.sc_faults.specs.Internal.Adding.{AddsFaults, AddsWhereKnown};
 
 use crate::calls::{
     formals_of, found_actuals, judge_before, judge_name, receiver_type, target_type, untyped,
@@ -62,8 +63,10 @@ fn shares_names(position: Position, operator: BinaryOperator) -> bool
 fn judge_old(context: Context, span: Span, operator: UnaryOperator) -> Result<(), CheckFault>
     ensures { Passes (listing.judge_old context operator span) result }
 {
-    judge_unary(context, span, operator, untyped())?;
-    Ok(())
+    match judge_unary(context, span, operator, untyped()) {
+        Ok(_) => Ok(()),
+        Err(fault) => Err(fault),
+    }
 }
 
 /// Judges the place of an object test, whatever its operand is.
@@ -100,6 +103,25 @@ pub fn add_expression<'s>(
     }
 }
 
+/// Adds the fault that judging a site has reported, if it has reported one, then those of the expression at the site.
+#[cycle(expressions)]
+pub fn add_site<'s>(
+    routine: &RoutineContext<'_, 's>,
+    context: Context,
+    position: Position,
+    names: &[Entity<'s>],
+    e: &'s Expr,
+    judged: &Result<(), CheckFault>,
+    faults: &mut Vec<Fault>,
+) -> Result<(), AllocError>
+    ensures { AddsFaults judged.now (listing.faults_of (routine_in routine.now) context position (map entity_of names.now)
+        (expr_of e.now)) result faults.old.items faults.new.items }
+{
+    let mut operands = Vec::new(routine.alloc);
+    add_expression(routine, context, position, names, e, &mut operands)?;
+    add(judged, &mut operands, faults)
+}
+
 /// Adds the faults of the parts of an expression, with those of its own that don't depend on what its operands are.
 #[cycle(expressions)]
 fn add_operands<'s>(
@@ -128,9 +150,7 @@ fn add_operands<'s>(
         Expr::Binary(_, operator, left, right) => {
             if shares_names(position, *operator) {
                 add_expression(routine, context, Position::Condition, names, left, faults)?;
-                let mut known = Vec::from_slice(routine.alloc, names)?;
-                let given = give_names(routine, context, &mut known, left);
-                add_where_known(routine, context, given, &known, right, faults)
+                add_right(routine, context, names, right, left, faults)
             } else {
                 let side = operand_position(*operator);
                 add_expression(routine, context, side, names, left, faults)?;
@@ -143,6 +163,26 @@ fn add_operands<'s>(
             add_alone(judge_place(position, *span), faults)
         }
     }
+}
+
+/// Adds the faults of the right operand of an `and then` in a condition, in which the names are known that the left one
+/// gives.
+#[cycle(expressions)]
+fn add_right<'s>(
+    routine: &RoutineContext<'_, 's>,
+    context: Context,
+    names: &[Entity<'s>],
+    right: &'s Expr,
+    left: &'s Expr,
+    faults: &mut Vec<Fault>,
+) -> Result<(), AllocError>
+    ensures { OnOk result (faults.new.items ≡ faults.old.items ++ listing.where_known (judging.judge_given
+        (routine_in routine.now) context (map entity_of names.now) (expr_of left.now)) (λ known. listing.faults_of
+        (routine_in routine.now) context Condition known (expr_of right.now))) }
+{
+    let mut known = Vec::from_slice(routine.alloc, names)?;
+    let given = give_names(routine, context, &mut known, left);
+    add_where_known(routine, context, given, &known, right, faults)
 }
 
 /// Adds the faults of the right operand of an `and then` in a condition, if what the left one gives is known.
@@ -180,18 +220,14 @@ fn add_target<'s>(
     match target {
         None => Ok(()),
         Some(target) => {
-            let mut operands = Vec::new(routine.alloc);
-            add_expression(
+            let judged = judge_before(routine, context, names, target);
+            add_site(
                 routine,
                 context,
                 Position::Plain,
                 names,
                 target,
-                &mut operands,
-            )?;
-            add(
-                judge_before(routine, context, names, target),
-                &mut operands,
+                &judged,
                 faults,
             )
         }
@@ -215,18 +251,14 @@ fn add_actuals<'s>(
 {
     for number in 0..actuals.len() {
         let actual = &actuals[number];
-        let mut operands = Vec::new(routine.alloc);
-        add_expression(
+        let judged = passing.judge(routine, context, names, number, actual);
+        add_site(
             routine,
             context,
             Position::Source,
             names,
             actual,
-            &mut operands,
-        )?;
-        add(
-            passing.judge(routine, context, names, number, actual),
-            &mut operands,
+            &judged,
             faults,
         )?;
     }

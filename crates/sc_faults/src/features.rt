@@ -15,7 +15,7 @@ use crate::types::add_type;
 use sc_check::ClassText;
 use sc_class::Tables;
 use sc_rules::{Context, Fault};
-use sc_tree::{Clause, Declaration, DeclaredType, FeatureKind, Instr, Routine};
+use sc_tree::{Declaration, DeclaredType, FeatureKind, Instr, Routine};
 use sc_typing::{Entity, RoutineContext, add_formals, add_locals, result_type};
 use std::alloc::{AllocError, Global};
 
@@ -98,22 +98,31 @@ fn add_body<'s>(
 /// Adds the faults of a routine's text after its types: precondition, locals, body and postcondition.
 fn add_text<'s>(
     routine: &RoutineContext<'_, 's>,
-    precondition: &'s [Clause],
-    locals: &'s [Declaration],
-    body: &'s [Instr],
-    postcondition: &'s [Clause],
+    declared: &'s Routine,
     faults: &mut Vec<Fault>,
 ) -> Result<(), AllocError>
     ensures { OnOk result (faults.new.items ≡ faults.old.items ++ listing.faults_of_text (routine_in routine.now)
-        (map clause_of precondition.now) (map declaration_of locals.now) (instrs_of body.now)
-        (map clause_of postcondition.now)) }
+        (map clause_of declared.now.precondition.items) (map declaration_of declared.now.locals.items)
+        (instrs_of declared.now.body.items) (map clause_of declared.now.postcondition.items)) }
 {
     let mut names = Vec::new(routine.alloc);
     add_formals(routine.tables, routine.formals, &mut names)?;
     let known = names.as_slice();
-    add_clauses(routine, Context::Require, known, precondition, faults)?;
-    add_body(routine, known, locals, body, faults)?;
-    add_clauses(routine, Context::Ensure, known, postcondition, faults)
+    add_clauses(
+        routine,
+        Context::Require,
+        known,
+        &declared.precondition,
+        faults,
+    )?;
+    add_body(routine, known, &declared.locals, &declared.body, faults)?;
+    add_clauses(
+        routine,
+        Context::Ensure,
+        known,
+        &declared.postcondition,
+        faults,
+    )
 }
 
 /// Adds the faults of a routine: of its types, precondition, locals, body and postcondition.
@@ -131,14 +140,7 @@ fn add_routine<'s>(
     add_types(class.alloc, class.tables, formals, formals, faults)?;
     add_result_type(class.alloc, class.tables, &declared.result_type, faults)?;
     let routine = context_of(class, formals, &declared.result_type);
-    add_text(
-        &routine,
-        &declared.precondition,
-        &declared.locals,
-        &declared.body,
-        &declared.postcondition,
-        faults,
-    )
+    add_text(&routine, declared, faults)
 }
 
 /// Adds the faults of a feature.

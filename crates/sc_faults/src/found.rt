@@ -45,15 +45,15 @@ pub fn add_first(
 
 /// Adds the fault that judging a site has reported, if it has reported one, then those of its operands.
 pub fn add(
-    judged: Result<(), CheckFault>,
+    judged: &Result<(), CheckFault>,
     operands: &mut Vec<Fault>,
     faults: &mut Vec<Fault>,
 ) -> Result<(), AllocError>
-    ensures { AddsFaults judged operands.old.items result faults.old.items faults.new.items }
+    ensures { AddsFaults judged.now operands.old.items result faults.old.items faults.new.items }
 {
     match judged {
         Ok(()) => faults.append(operands),
-        Err(CheckFault::Refused(fault)) => add_first(fault, operands, faults),
+        Err(CheckFault::Refused(fault)) => add_first(*fault, operands, faults),
         Err(CheckFault::OutOfMemory) => Err(AllocError),
     }
 }

@@ -128,11 +128,8 @@ fn add_simple<'s>(
     let mut operands = Vec::new(routine.alloc);
     add_operands(routine, names, instruction, &mut operands)?;
     let mut known = Vec::from_slice(routine.alloc, names)?;
-    add(
-        judge_instruction(routine, &mut known, instruction),
-        &mut operands,
-        faults,
-    )
+    let judged = judge_instruction(routine, &mut known, instruction);
+    add(&judged, &mut operands, faults)
 }
 
 /// Adds the faults of an instruction.

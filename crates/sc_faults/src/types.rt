@@ -75,7 +75,8 @@ pub fn add_type(
 {
     let mut of_tag = Vec::new(alloc);
     add_alone(judge_tag(formals, declared), &mut of_tag)?;
-    add(judge_type(tables, formals, declared), &mut of_tag, faults)
+    let judged = judge_type(tables, formals, declared);
+    add(&judged, &mut of_tag, faults)
 }
 
 /// Adds the faults of the type that an object test tests for, if one is written.

@@ -6,20 +6,12 @@ use Rattle.sc_rules.specs.JudgingText.{judge_condition}
 use Rattle.sc_typing.specs.declared.declarations.names.Entity.{Entity}
 use Rattle.sc_typing.specs.Views.{routine_in, entity_of}
 use Rattle.sc_typing.specs.Judges.{Passes}
-use Rattle.sc_faults.specs.Internal.Listing.{faults_of}
-use Rattle.sc_faults.proofs.Adding.{from_none}
-use Rattle.sc_faults.proofs.Steps.{site_added}
 use Rattle.sc_faults.proofs.conditions.add_if_condition.Goals as goal
 
 pub returns : goal.returns
 returns c =
     let h = routine_in c.args.routine.now in
-    let n = map entity_of c.args.names.now in
     let e = expr_of c.args.condition.now in
-    site_added (judge_condition h context.Body Condition n e) (faults_of h context.Body Condition n e) c.judge_if_condition.result c.add.result
-    c.add_expression.new.faults.items c.args.faults.now.items c.add.new.faults.items
-    (from_none c.new-operands.result.items (faults_of h context.Body Condition n e) c.add_expression.new.faults.items
-    c.new-operands.ensures.items c.in_ok-add_expression.ensures)
-    (subst (λ (ns : List Entity). Passes (judge_condition h context.Body Condition (map entity_of ns) e) c.judge_if_condition.result)
-    c.in_ok-known.ensures.items c.judge_if_condition.ensures.judged)
-    c.add.ensures
+    c.add_site.ensures (judge_condition h context.Body Condition (map entity_of c.args.names.now) e)
+    (subst (λ (ns : List Entity). Passes (judge_condition h context.Body Condition (map entity_of ns) e) c.judge_if_condition-judged.result)
+    c.in_ok-known.ensures.items c.judge_if_condition-judged.ensures.judged)

@@ -1,15 +1,17 @@
-use Rattle.std.proofs.Common.{◌≡◌, ◌++◌, List, length, Ok, map, ap, sym, subst, ◌∙◌}
+use Rattle.std.proofs.Common.{◌≡◌, ◌++◌, List, length, Ok, map, refl, ap, sym, subst, ◌∙◌}
 use Rattle.sc_tree.specs.declared.expression.Expr.{Expr}
 use Rattle.sc_tree.specs.View.{expr_of, exprs_of, name_of, target_of}
 use Rattle.sc_class.specs.SystemIn.{system_in}
 use Rattle.sc_rules.specs.declared.position.Position.TheVariants.{Plain, Source}
-use Rattle.sc_rules.specs.Judging.{formals_of, judge_given}
+use Rattle.sc_rules.specs.Names.{Entities}
+use Rattle.sc_rules.specs.Judging.{Judged, formals_of, judge_given, judged_types}
+use Rattle.sc_rules.specs.Typing.{known_handlers}
+use Rattle.sc_typing.specs.declared.expressions.typing.JudgedActual.{JudgedActual}
 use Rattle.sc_typing.specs.Views.{routine_in, entity_of, formals_in, meaning_in, types_in}
-use Rattle.sc_typing.specs.Judges.{Knows}
 use Rattle.sc_faults.specs.Internal.Listing.{judge_passed, judge_passed_to, faults_in, faults_in_actuals, faults_of}
 use Rattle.sc_faults.proofs.Adding.{from_none}
-use Rattle.sc_faults.proofs.Steps.{knows_at}
-use Rattle.sc_faults.proofs.ExpressionSteps.{typed_added, untyped_added, integer_added, boolean_added, void_added, current_added, result_added, call_added, unary_added, test_added, apart_added, joint_added, known_added, no_target_added, target_added, actuals_next, actuals_end, call_steps}
+use Rattle.sc_faults.proofs.Steps.{knows_at, site_added}
+use Rattle.sc_faults.proofs.ExpressionSteps.{typed_added, untyped_added, integer_added, boolean_added, void_added, current_added, result_added, call_added, unary_added, test_added, apart_added, joint_added, known_added, no_target_added, target_added, actuals_next, actuals_end, arguments_added, call_steps}
 use Rattle.sc_faults.proofs.expressions.+expressions.Goals as goal
 
 pub add_expression-returns-in-Ok : goal.add_expression-returns-in-Ok
@@ -67,25 +69,23 @@ add_operands-returns-in_ok-add_expression-in-Binary-2 t c =
     c.add_expression-else-shares_names.new.faults.items c.operand_position-side.result (sym c.shares_names.ensures ∙ c.if-shares_names.false)
     c.operand_position-side.ensures c.in_ok-add_expression-in-Binary-2.ensures c.add_expression-else-shares_names-2.ensures
 
-pub add_operands-returns-in_ok-known-in-Binary : goal.add_operands-returns-in_ok-known-in-Binary
-add_operands-returns-in_ok-known-in-Binary t c =
-    let h = routine_in c.args.routine.now in
-    let n = map entity_of c.args.names.now in
-    let x = c.deref-then-shares_names.result.now in
-    let known = c.in_ok-known-in-Binary.known.items in
-    joint_added h c.args.context c.args.position n c.args.e.now
-    c.add_where_known.result c.args.faults.now.items c.add_where_known.new.faults.items
+pub add_operands-returns-in_ok-add_expression-in-Binary : goal.add_operands-returns-in_ok-add_expression-in-Binary
+add_operands-returns-in_ok-add_expression-in-Binary t c =
+    joint_added (routine_in c.args.routine.now) c.args.context c.args.position (map entity_of c.args.names.now) c.args.e.now
+    c.add_right.result c.args.faults.now.items c.add_right.new.faults.items
     c.in-Binary.field-0 c.in-Binary.operator c.in-Binary.left c.in-Binary.right c.in-Binary.is
-    x c.deref-then-shares_names-4.result.now c.deref-then-shares_names.ensures c.deref-then-shares_names-4.ensures
-    c.add_expression-then-shares_names.new.faults.items c.give_names-given.result (map entity_of c.deref-then-shares_names-3.result.now)
+    c.deref-then-shares_names.result.now c.deref-then-shares_names-2.result.now c.deref-then-shares_names.ensures c.deref-then-shares_names-2.ensures
+    c.add_expression-then-shares_names.new.faults.items c.deref-then-shares_names-3.result.now c.deref-then-shares_names-3.ensures
     (sym c.shares_names.ensures ∙ c.if-shares_names.true)
-    (knows_at (λ m. judge_given h c.args.context m (expr_of x)) c.give_names-given.result n (map entity_of known)
-    (map entity_of c.give_names-given.new.names.items) (map entity_of c.deref-then-shares_names-3.result.now)
-    (ap (map entity_of) c.in_ok-known-in-Binary.ensures.items) (ap (map entity_of) c.deref-then-shares_names-3.ensures.value)
-    (subst (λ (e : Expr). Knows (judge_given h c.args.context (map entity_of known) (expr_of e)) c.give_names-given.result
-    (map entity_of c.give_names-given.new.names.items))
-    (c.deref-then-shares_names-2.ensures ∙ sym c.deref-then-shares_names.ensures) c.give_names-given.ensures))
-    c.in_ok-add_expression-in-Binary.ensures c.add_where_known.ensures
+    c.in_ok-add_expression-in-Binary.ensures c.add_right.ensures
+
+pub add_right-returns : goal.add_right-returns
+add_right-returns t c =
+    let names_given : Entities → Judged Entities = λ m. judge_given (routine_in c.args.routine.now) c.args.context m (expr_of c.args.left.now) in
+    c.add_where_known.ensures (names_given (map entity_of c.args.names.now))
+    (knows_at names_given c.give_names-given.result (map entity_of c.args.names.now) (map entity_of c.in_ok-known.known.items)
+    (map entity_of c.give_names-given.new.names.items) (map entity_of c.deref.result.now)
+    (ap (map entity_of) c.in_ok-known.ensures.items) (ap (map entity_of) c.deref.ensures.value) c.give_names-given.ensures)
 
 pub add_where_known-returns-in-Ok : goal.add_where_known-returns-in-Ok
 add_where_known-returns-in-Ok t c = λ j k.
@@ -112,15 +112,21 @@ add_operands-returns-in_ok-add_expression-in-ObjectTest t c =
     c.add_expression-in-ObjectTest.new.faults.items c.judge_place.result c.in-ObjectTest.is c.deref-in-ObjectTest.ensures
     c.in_ok-add_tested-in-ObjectTest.ensures c.in_ok-add_expression-in-ObjectTest.ensures c.judge_place.ensures c.add_alone-in-ObjectTest.ensures
 
-pub add_target-returns-in_ok-add_expression-in-Some : goal.add_target-returns-in_ok-add_expression-in-Some
-add_target-returns-in_ok-add_expression-in-Some t c =
+pub add_target-returns-in-Some : goal.add_target-returns-in-Some
+add_target-returns-in-Some t c =
     let h = routine_in c.args.routine.now in
     let n = map entity_of c.args.names.now in
-    target_added h c.args.context n c.args.target.now c.in-Some.target c.deref.result.now c.deref-in-Some.result.now c.judge_before.result
-    c.add_expression.new.faults.items c.add.result c.args.faults.now.items c.add.new.faults.items c.in-Some.is c.deref.ensures c.deref-in-Some.ensures
-    (from_none c.new-operands.result.items (faults_of h c.args.context Plain n (expr_of c.deref.result.now)) c.add_expression.new.faults.items
-    c.new-operands.ensures.items c.in_ok-add_expression-in-Some.ensures)
-    c.judge_before.ensures c.add.ensures
+    target_added h c.args.context n c.args.target.now c.in-Some.target c.deref-in-Some.result.now c.deref.result.now c.judge_before-judged.result
+    (faults_of h c.args.context Plain n (expr_of c.deref-in-Some.result.now)) c.add_site.result c.args.faults.now.items c.add_site.new.faults.items
+    c.in-Some.is c.deref-in-Some.ensures c.deref.ensures refl c.judge_before-judged.ensures c.add_site.ensures
+
+-- whatever it was that judged the site
+pub add_site-returns : goal.add_site-returns
+add_site-returns t c = λ j p.
+    let listed = faults_of (routine_in c.args.routine.now) c.args.context c.args.position (map entity_of c.args.names.now) (expr_of c.args.e.now) in
+    site_added j listed c.args.judged.now c.add.result c.add_expression.new.faults.items c.args.faults.now.items c.add.new.faults.items
+    (from_none c.new-operands.result.items listed c.add_expression.new.faults.items c.new-operands.ensures.items c.in_ok-add_expression.ensures)
+    p c.add.ensures
 
 pub add_actuals-loop-number-preserved : goal.add_actuals-loop-number-preserved
 add_actuals-loop-number-preserved t c =
@@ -131,10 +137,8 @@ add_actuals-loop-number-preserved t c =
     let x = c.index-actuals-number.result in
     actuals_next h c.args.context n pass fs c.args.actuals.now c.loop-number.number x
     (c.args.faults.now.items ++ faults_in_actuals h c.args.context n pass fs (exprs_of c.args.actuals.now)) c.loop-number.faults.items
-    c.add.new.faults.items c.add_expression.new.faults.items c.judge.result c.loop-number-test.true c.index-actuals-number.is c.loop-number.invariant
-    (from_none c.new-operands.result.items (faults_of h c.args.context Source n (expr_of x)) c.add_expression.new.faults.items
-    c.new-operands.ensures.items c.in_ok-add_expression.ensures)
-    c.judge.ensures c.in_ok-add.ensures
+    c.add_site.new.faults.items (faults_of h c.args.context Source n (expr_of x)) c.judge-judged.result c.loop-number-test.true
+    c.index-actuals-number.is c.loop-number.invariant refl c.judge-judged.ensures c.in_ok-add_site.ensures
 
 pub add_actuals-returns : goal.add_actuals-returns
 add_actuals-returns t c =
@@ -145,6 +149,24 @@ add_actuals-returns t c =
     actuals_end h c.args.context n pass fs c.args.actuals.now c.loop-number.number
     (c.args.faults.now.items ++ faults_in_actuals h c.args.context n pass fs (exprs_of c.args.actuals.now)) c.loop-number.faults.items
     c.loop-number-test.false c.loop-number.invariant
+
+pub add_arguments-invariant_of-passing : goal.add_arguments-invariant_of-passing
+add_arguments-invariant_of-passing t c =
+    record {
+      is_known =
+          c.deref-3.ensures.value ∙ c.in_ok-known.ensures
+          ∙ ap (λ (fs : List JudgedActual). known_handlers (types_in fs)) (c.deref.ensures.value ∙ sym c.deref-2.ensures.value);
+    }
+
+pub add_arguments-returns : goal.add_arguments-returns
+add_arguments-returns t c =
+    let h = routine_in c.args.routine.now in
+    let n = map entity_of c.args.names.now in
+    let s = system_in c.args.routine.now.tables.now in
+    arguments_added h c.args.context n c.args.receiver (meaning_in s c.args.meaning.now) (exprs_of c.args.actuals.now) c.target_type.result
+    (types_in c.deref-2.result.now) (formals_in s c.formals_of.result) c.add_actuals.result c.args.faults.now.items c.add_actuals.new.faults.items
+    (c.target_type.ensures s) (ap types_in c.deref-2.ensures.value ∙ ap judged_types c.in_ok-found.ensures) (c.formals_of.ensures s)
+    c.add_actuals.ensures
 
 pub add_call-returns : goal.add_call-returns
 add_call-returns t c =

@@ -14,9 +14,9 @@ returns c =
     let h = routine_in c.args.routine.now in
     let n = map entity_of c.args.names.now in
     let i = instr_of c.args.instruction.now in
-    site_added (judge_instr h n i) (faults_in_instr h n i) c.judge_instruction.result c.add.result
+    site_added (judge_instr h n i) (faults_in_instr h n i) c.judge_instruction-judged.result c.add.result
     c.add_operands.new.faults.items c.args.faults.now.items c.add.new.faults.items
     (from_none c.new-operands.result.items (faults_in_instr h n i) c.add_operands.new.faults.items c.new-operands.ensures.items c.in_ok-add_operands.ensures)
-    (subst (λ (ns : List Entity). Passes (judge_instr h (map entity_of ns) i) c.judge_instruction.result) c.in_ok-known.ensures.items
-    c.judge_instruction.ensures.judged)
+    (subst (λ (ns : List Entity). Passes (judge_instr h (map entity_of ns) i) c.judge_instruction-judged.result) c.in_ok-known.ensures.items
+    c.judge_instruction-judged.ensures.judged)
     c.add.ensures

@@ -12,8 +12,8 @@ returns c =
     let s = system_in c.args.tables.now in
     let formals = map declaration_of c.args.formals.now in
     let d = type_of c.args.declared.now in
-    site_added (judge_type s formals d) (faults_at (judge_tag formals d) []) c.judge_type.result c.add.result
+    site_added (judge_type s formals d) (faults_at (judge_tag formals d) []) c.judge_type-judged.result c.add.result
     c.add_alone.new.faults.items c.args.faults.now.items c.add.new.faults.items
     (from_none c.new-of_tag.result.items (faults_at (judge_tag formals d) []) c.add_alone.new.faults.items
     c.new-of_tag.ensures.items (c.in_ok-add_alone.ensures (judge_tag formals d) c.judge_tag.ensures))
-    c.judge_type.ensures c.add.ensures
+    c.judge_type-judged.ensures c.add.ensures
