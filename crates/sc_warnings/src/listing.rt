@@ -74,8 +74,6 @@ fn add_routine(
     ensures { OnOk result (warnings.new.items ≡ warnings.old.items ++ spec.warnings_of_routine (map site_of calls.now)
         feature.now (routine_of routine.now)) }
 {
-    let mut body = Vec::new(alloc);
-    add_body(alloc, routine, &mut body)?;
     add_require(
         alloc,
         calls,
@@ -84,6 +82,8 @@ fn add_routine(
         &routine.precondition,
         warnings,
     )?;
+    let mut body = Vec::new(alloc);
+    add_body(alloc, routine, &mut body)?;
     add_after_require(&body, routine, warnings)
 }
 
