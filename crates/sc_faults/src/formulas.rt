@@ -1,21 +1,13 @@
 //! The form of a clause of a class's invariant (ECMA-367, 8.9).
 
-ghost use Rattle.std.specs.Prelude.{◌≡◌};
-ghost use Rattle.sc_rules.specs.JudgingSystem as judging_system;
 ghost use Rattle.sc_faults.specs.Internal.Adding.{AddsForm};
 
 use crate::found::add_alone;
+use sc_check::is_same_span;
 use sc_rules::{Fault, Rule};
 use sc_text::Span;
 use sc_typing::{CheckFault, required};
 use std::alloc::AllocError;
-
-/// Whether two places are equal.
-fn is_same_span(one: Span, other: Span) -> bool
-    ensures { result ≡ judging_system.is_same_span one other }
-{
-    one.start == other.start && one.end == other.end
-}
 
 /// Adds the fault of a clause at this place that is no formula, unless the fault that judging it reported is there.
 pub fn add_form(

@@ -1,12 +1,11 @@
 //! Actuals and formals (ECMA-367, 8.23): whether an actual may be passed, whatever the others are.
 
-ghost use Rattle.std.specs.Prelude.{◌≡◌, IfOk, Some, drop, map, slice_get};
+ghost use Rattle.std.specs.Prelude.{◌≡◌, IfOk, Some, drop, map};
 ghost use Rattle.sc_tree.specs.View.{expr_of};
 ghost use Rattle.sc_class.specs.SystemIn.{system_in};
 ghost use Rattle.sc_rules.specs.declared.position.Position.TheVariants.{Source};
 ghost use Rattle.sc_rules.specs.Judging as judging;
 ghost use Rattle.sc_rules.specs.Names as names;
-ghost use Rattle.sc_rules.specs.Positions as positions;
 ghost use Rattle.sc_rules.specs.Positions.{span_of};
 ghost use Rattle.sc_rules.specs.Typing as typing;
 ghost use Rattle.sc_typing.specs.Judges.{Passes};
@@ -14,24 +13,14 @@ ghost use Rattle.sc_typing.specs.Views.{entity_of, formals_in, routine_in, types
 ghost use Rattle.sc_faults.specs.Internal.Listing as listing;
 
 use sc_class::Tables;
-use sc_rules::entity_types::{EntityType, Known, Reserved, Tag, combine_argument, conforms};
+use sc_rules::entity_types::{EntityType, Known, combine_argument, conforms};
 use sc_rules::{Context, Position, Rule};
 use sc_tree::Expr;
 use sc_typing::{
-    CheckFault, Entity, Formals, JudgedActual, RoutineContext, declared_type, is_foreign_type,
-    judged_type, required,
+    CheckFault, Entity, Formals, JudgedActual, RoutineContext, declared_type, judged_type,
+    known_handler, may_pass, named_formal, names_untyped, required,
 };
 use std::alloc::{AllocError, Global};
-
-/// What is known of the handler of an actual of this type, if it has one.
-fn known_handler(actual: Option<EntityType>) -> Known
-    ensures { result ≡ typing.known_handler actual }
-{
-    match actual {
-        None => Known::Neither,
-        Some(actual) => Known::of(actual.tag),
-    }
-}
 
 /// What is known of the handlers of the actuals.
 pub fn known_handlers(alloc: Global, found: &[JudgedActual]) -> Result<Vec<Known>, AllocError>
@@ -42,54 +31,6 @@ pub fn known_handlers(alloc: Global, found: &[JudgedActual]) -> Result<Vec<Known
         known.push(known_handler(judged_type(actual.judged)))?;
     }
     Ok(known)
-}
-
-/// Whether there is an actual at a number, and it has no type.
-fn is_untyped(found: &[JudgedActual], number: usize) -> bool
-    ensures { result ≡ typing.is_untyped (slice_get (types_in found.now) number) }
-{
-    match found.get(number) {
-        None => false,
-        Some(actual) => judged_type(actual.judged).is_none(),
-    }
-}
-
-/// Whether the formal that a tag names, if it names one, has such an actual.
-fn names_untyped(found: &[JudgedActual], tag: Tag) -> bool
-    ensures { result ≡ typing.names_untyped (types_in found.now) (typing.named_formal tag) }
-{
-    match tag {
-        Tag::With(Reserved::Formal(number)) => is_untyped(found, number),
-        Tag::With(Reserved::BlockName(_)) | Tag::Own | Tag::Any | Tag::None => false,
-    }
-}
-
-/// Whether it is a precondition.
-fn is_require(context: Context) -> bool
-    ensures { result ≡ positions.is_require context }
-{
-    match context {
-        Context::Require => true,
-        _ => false,
-    }
-}
-
-/// Whether it is no reference, as far as there is a type.
-fn is_value(actual: Option<EntityType>) -> bool
-    ensures { result ≡ typing.is_value actual }
-{
-    match actual {
-        None => true,
-        Some(actual) => actual.is_expanded(),
-    }
-}
-
-/// Whether a call with a target of this type may pass an actual of that type: in a precondition a separate call passes
-/// no references.
-fn may_pass(context: Context, target: Option<EntityType>, actual: Option<EntityType>) -> bool
-    ensures { result ≡ judging.may_pass context target actual }
-{
-    !(is_require(context) && is_foreign_type(target)) || is_value(actual)
 }
 
 /// The actuals of a call, with what is known of their handlers, and what they are judged by.
@@ -111,7 +52,7 @@ impl<'a, 's> Passing<'a, 's> {
         ensures { result ≡ typing.takes (system_in tables.now) self.now.target (types_in self.now.found.now)
             (names.of_type formal) actual }
     {
-        names_untyped(self.found, formal.tag)
+        names_untyped(self.found, named_formal(formal.tag))
             || conforms(
                 tables,
                 actual,
