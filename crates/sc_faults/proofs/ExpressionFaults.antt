@@ -26,7 +26,7 @@ use Rattle.sc_rules.proofs.Sound.{told as told_expression, told_given}
 use Rattle.sc_rules.proofs.ToldActuals.{up, here, TargetFails, in_target, at_target, ActualsFail, in_actual}
 use Rattle.sc_rules.proofs.TextComplete.{refused}
 use Rattle.sc_rules.proofs.TextSound.{tells_required}
-use Rattle.sc_faults.specs.Internal.Listing.{faults_at, where_known, faults_of_tested, judge_before, judge_passed, meant, judge_old, judge_place, faults_in, faults_in_target, faults_in_actuals, faults_of}
+use Rattle.sc_faults.specs.Internal.Listing.{faults_at, where_known, faults_of_type_if_any, judge_before, judge_passed, meant, judge_old, judge_place, faults_in, faults_in_target, faults_in_actuals, faults_of}
 use Rattle.sc_faults.proofs.ReportedFaults.{Holds, all_more, joined, none_left, at_all, known_all}
 use Rattle.sc_faults.proofs.TypeFaults.{tested_all}
 use Rattle.sc_faults.proofs.CallFaults.{tells_before, tells_passed, later_fails, call_all}
@@ -104,7 +104,7 @@ mutual
       (of_all h c side n b P (λ r q f. up (right_part j) r q f) (in_all h c side n b)))
   in_all h c k n (ObjectTest p d a x) =
       let P : Rule → Span → Type 0 = Fails h (expression c k n (ObjectTest p d a x)) in
-      joined P (faults_of_tested h d) (faults_of h c Plain n a ++ faults_at (judge_place k p) [])
+      joined P (faults_of_type_if_any h.system h.formals d) (faults_of h c Plain n a ++ faults_at (judge_place k p) [])
       (tested_all h d P (λ t e r q f. subst (λ d. Fails h (expression c k n (ObjectTest p d a x)) r q) (sym e) (here (tested_type f))))
       (joined P (faults_of h c Plain n a) (faults_at (judge_place k p) [])
       (of_all h c Plain n a P (λ r q f. up tested_part r q f) (in_all h c Plain n a))

@@ -48,7 +48,7 @@ use Rattle.sc_typing.specs.declared.fault.CheckFault.TheVariants.{Refused}
 use Rattle.sc_typing.specs.Views.{typing_of}
 use Rattle.sc_typing.specs.Judges.{Faults, Judges, Knows, Passes}
 use Rattle.sc_faults.specs.Internal.Adding.{AddsFaults}
-use Rattle.sc_faults.specs.Internal.Listing.{with_first, faults_at, where_known, faults_of_tested, judge_before, judge_passed, judge_passed_to, judge_named, judge_old, judge_place, faults_in, faults_in_target, faults_in_actuals, faults_of, faults_of_call, judge_made, faults_in_creation, created_type, faults_in_instr}
+use Rattle.sc_faults.specs.Internal.Listing.{with_first, faults_at, where_known, faults_of_type_if_any, judge_before, judge_passed, judge_passed_to, judge_named, judge_old, judge_place, faults_in, faults_in_target, faults_in_actuals, faults_of, faults_of_call, judge_made, faults_in_creation, created_type, faults_in_instr}
 use Rattle.sc_faults.proofs.Adding.{both_if_ok, named_if_ok, nothing_added, next, end}
 use Rattle.sc_faults.proofs.ExpressionFaults.{none_within}
 
@@ -125,11 +125,11 @@ module _ (h : RoutineContext) (c : Context) (k : Position) (n : Entities) (e : E
 
   pub test_added : (s : Span) (t : Option DeclaredType) (a : Box Expr Global) (y : Name) (x : Expr) (mid later : List Fault)
       (judged : Result Unit CheckFault) → e ≡ expr.ObjectTest s t a y → x ≡ a.value →
-      mid ≡ old ++ faults_of_tested h (type_if_any t) → later ≡ mid ++ faults_of h c Plain n (expr_of x) →
+      mid ≡ old ++ faults_of_type_if_any h.system h.formals (type_if_any t) → later ≡ mid ++ faults_of h c Plain n (expr_of x) →
       Passes (judge_place k s) judged → AddsFaults judged [] r later new → OnOk r (new ≡ old ++ faults_in h c k n (expr_of e))
   unfolding faults_in
   test_added s t a y x mid later judged q d p1 p2 j p3 =
-      let of_type : List Fault = faults_of_tested h (type_if_any t) in
+      let of_type : List Fault = faults_of_type_if_any h.system h.formals (type_if_any t) in
       let after : List Fault = faults_at (judge_place k s) [] in
       formed (plain.ObjectTest s (type_if_any t) (expr_of a.value) (name_of y)) (of_type ++ (faults_of h c Plain n (expr_of x) ++ after))
       (ap expr_of q ∙ expr_of-object_test s t a y) (ap (λ (x : Expr). of_type ++ (faults_of h c Plain n (expr_of x) ++ after)) d)

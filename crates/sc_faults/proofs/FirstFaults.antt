@@ -25,7 +25,7 @@ use Rattle.sc_rules.proofs.Refusals.{Refused, stops, Gave, refuses}
 use Rattle.sc_rules.proofs.Sound.{told_given}
 use Rattle.sc_rules.proofs.TextComplete.{refused}
 use Rattle.sc_faults.specs.FaultLists.{is_same_fault, begins_with}
-use Rattle.sc_faults.specs.Internal.Listing.{with_first, faults_at, faults_of_each, where_known, judge_tag, faults_in, faults_in_instr, faults_of, faults_of_condition, faults_of_clause, faults_of_head, judge_reserved, faults_of_simple, faults_of_instr, faults_of_instrs, faults_of_branches, faults_of_type, faults_of_types, faults_of_result, faults_of_kind, faults_of_creator, faults_of_form, faults_of_invariant, faults_of_class, faults_of_classes, faults_of_system}
+use Rattle.sc_faults.specs.Internal.Listing.{with_first, faults_at, faults_of_each, where_known, judge_tag, faults_in, faults_in_instr, faults_of, faults_of_condition, faults_of_clause, faults_of_head, judge_reserved, faults_of_simple, faults_of_instr, faults_of_instrs, faults_of_branches, faults_of_type, faults_of_types, faults_of_type_if_any, faults_of_kind, faults_of_creator, faults_of_form, faults_of_invariant, faults_of_class, faults_of_classes, faults_of_system}
 use Rattle.sc_faults.proofs.ReportedFaults.{none_left}
 use Rattle.sc_faults.proofs.TypeFaults.{no_tag_fault}
 use Rattle.sc_faults.proofs.ExpressionFaults.{none_within}
@@ -233,7 +233,7 @@ form_refused b p (Err f) r = either_refused (not b && (is_same_span f.span p && 
 type_fits : (s : System) (formals : List Declaration) (d : DeclaredType) → Fits (judge_type s formals d) (faults_of_type s formals d)
 type_fits s formals d = site_fits (judge_type s formals d) (faults_at (judge_tag formals d) []) (λ u q. no_tag_fault s formals d u q)
 
-result_fits : (s : System) (o : Option DeclaredType) → Fits (judge_result_type s o) (faults_of_result s o)
+result_fits : (s : System) (o : Option DeclaredType) → Fits (judge_result_type s o) (faults_of_type_if_any s [] o)
 result_fits s None = refl
 result_fits s (Present d) = type_fits s [] d
 

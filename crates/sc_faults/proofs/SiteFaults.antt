@@ -24,7 +24,7 @@ use Rattle.sc_rules.specs.JudgingText.{creation_meaning, judge_condition, judge_
 use Rattle.sc_rules.specs.JudgingPurity.{receiver_type}
 use Rattle.sc_rules.proofs.Refusals.{bind_ok}
 use Rattle.sc_rules.proofs.Complete.{typed, given}
-use Rattle.sc_faults.specs.Internal.Listing.{faults_at, where_known, faults_of_each, faults_of_tested, judge_before, judge_passed_to, meant, faults_in, faults_in_target, faults_in_actuals, faults_in_creation, created_type, faults_in_instr, faults_of, faults_of_call, faults_of_condition, faults_of_clause, judge_value, faults_of_head, judge_reserved, faults_of_instr, faults_of_instrs, faults_of_branches}
+use Rattle.sc_faults.specs.Internal.Listing.{faults_at, where_known, faults_of_each, faults_of_type_if_any, judge_before, judge_passed_to, meant, faults_in, faults_in_target, faults_in_actuals, faults_in_creation, created_type, faults_in_instr, faults_of, faults_of_call, faults_of_condition, faults_of_clause, judge_value, faults_of_head, judge_reserved, faults_of_instr, faults_of_instrs, faults_of_branches}
 use Rattle.sc_faults.proofs.ReportedFaults.{Holds, at_any, known_any, each_any}
 use Rattle.sc_faults.proofs.Places.{At}
 use Rattle.sc_faults.proofs.SitePlaces.{expression_place, instruction_place, branch_place}
@@ -146,7 +146,7 @@ module _ (P : Rule → Span → Type 0) where
   expression_any {h} (joined_right_part {c} {k} {n} {m} {s} {op} {a} {b} j g) i =
       inner_any h c k n (Binary s op a b) (joined_right_any h c k n op a b m j (given g) i)
   expression_any {h} (tested_part {c} {k} {n} {s} {d} {a} {x}) i =
-      inner_any h c k n (ObjectTest s d a x) (any_right (faults_of_tested h d) _ (any_left (faults_of h c Plain n a) _ i))
+      inner_any h c k n (ObjectTest s d a x) (any_right (faults_of_type_if_any h.system h.formals d) _ (any_left (faults_of h c Plain n a) _ i))
 
   abbrev made : RoutineContext → Entities → Creation → CreationCall → Meaning
   made h n creation k = creation_meaning h (created_type h n creation.variable) k.name

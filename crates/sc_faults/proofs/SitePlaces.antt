@@ -27,7 +27,7 @@ use Rattle.sc_rules.proofs.Refusals.{tells_more, tells_then, passes, tells_gave}
 use Rattle.sc_rules.proofs.Complete.{typed, given}
 use Rattle.sc_rules.proofs.Sound.{told_name}
 use Rattle.sc_rules.proofs.TextComplete.{variable_ok}
-use Rattle.sc_faults.specs.Internal.Listing.{faults_at, faults_of_each, judge_passed_to, judge_named, judge_old, judge_place, faults_of_tested, faults_in, faults_in_actuals, faults_of, faults_of_condition, faults_of_clause, judge_value, faults_of_head, judge_made, faults_in_creation, faults_in_instr, faults_of_simple, faults_of_instr, faults_of_branches}
+use Rattle.sc_faults.specs.Internal.Listing.{faults_at, faults_of_each, judge_passed_to, judge_named, judge_old, judge_place, faults_of_type_if_any, faults_in, faults_in_actuals, faults_of, faults_of_condition, faults_of_clause, judge_value, faults_of_head, judge_made, faults_in_creation, faults_in_instr, faults_of_simple, faults_of_instr, faults_of_branches}
 use Rattle.sc_faults.proofs.ReportedFaults.{Holds, at_any, each_any}
 use Rattle.sc_faults.proofs.Places.{At, There, at_place, there_first, there_next, there_required, there_either, there_after, there_if_true, there_if_false}
 use Rattle.sc_faults.proofs.TypeFaults.{type_place}
@@ -97,10 +97,10 @@ module _ (h : RoutineContext) where
       (there_required (old_stands c op (typing t true)) OldPlace s (old_separate (is_old op) (is_ensure c) i))))
   expression_place (misplaced_test {c} {k} {n} {s} {d} {a} {x} e) =
       inner c k n (ObjectTest s d a x) s
-      (any_right (faults_of_tested h d) _ (any_right (faults_of h c Plain n a) _
+      (any_right (faults_of_type_if_any h.system h.formals d) _ (any_right (faults_of h c Plain n a) _
       (at_place (judge_place k s) [] s (there_required (is_condition k) ObjectTestPlace s e))))
   expression_place (tested_type {c} {k} {n} {s} {p} {d} {a} {x} f) =
-      inner c k n (ObjectTest s (Some d) a x) p (any_left (faults_of_tested h (Some d)) _ (type_place f))
+      inner c k n (ObjectTest s (Some d) a x) p (any_left (faults_of_type_if_any h.system h.formals (Some d)) _ (type_place f))
 
 -- ---- what is assigned or created
 

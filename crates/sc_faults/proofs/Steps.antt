@@ -1,5 +1,5 @@
 -- What the walk has added after each of its steps.
-use Rattle.std.proofs.Common.{◌≡◌, ℕ, ◌+◌, ◌<◌, ◌≤◌, List, [], ◌++◌, length, drop, get_or, map, Option, Some, None, Result, Ok, Err, refl, ap, sym, subst, ◌∙◌, append_assoc}
+use Rattle.std.proofs.Common.{◌≡◌, ℕ, ◌+◌, ◌<◌, ◌≤◌, List, [], ◌++◌, length, drop, get_or, map, Result, Ok, Err, refl, ap, sym, subst, ◌∙◌, append_assoc}
 use Rattle.std.specs.Prelude.{Bool, true, false, if◌then◌else◌, OnOk}
 use Rattle.std.specs.declared.alloc.AllocError.{AllocError}
 use Rattle.sc_text.specs.declared.token.Span.{Span}
@@ -26,7 +26,7 @@ use Rattle.sc_typing.specs.declared.fault.CheckFault.{CheckFault}
 use Rattle.sc_typing.specs.declared.fault.CheckFault.TheVariants.{Refused}
 use Rattle.sc_typing.specs.Judges.{Faults, Knows, Passes}
 use Rattle.sc_faults.specs.Internal.Adding.{AddsFaults, AddsForm, AddsUnder}
-use Rattle.sc_faults.specs.Internal.Listing.{with_first, faults_at, faults_of_each, faults_of_clause, faults_of_instrs, faults_under, faults_of_type, faults_of_types, faults_of_result, faults_of_body, faults_of_text, faults_of_kind, faults_of_features, faults_of_creator, faults_of_form, faults_of_invariant, faults_of_class, faults_of_classes}
+use Rattle.sc_faults.specs.Internal.Listing.{with_first, faults_at, faults_of_each, faults_of_clause, faults_of_instrs, faults_under, faults_of_type, faults_of_types, faults_of_type_if_any, faults_of_body, faults_of_text, faults_of_kind, faults_of_features, faults_of_creator, faults_of_form, faults_of_invariant, faults_of_class, faults_of_classes}
 use Rattle.sc_faults.proofs.Adding.{both_if_ok, named_if_ok, nothing_added, next, end}
 
 -- ---- a site
@@ -146,7 +146,7 @@ module _ (s : System) (pure : RoutineName → Bool) (k : ℕ) (r : Routine) (h :
       (map clause_of r.postcondition.items)
 
   abbrev result : List Fault
-  result = faults_of_result s (type_if_any r.result_type)
+  result = faults_of_type_if_any s [] (type_if_any r.result_type)
 
   all_named : types_of formals ++ (result ++ text_of h) ≡ faults_of_kind s pure k (plain.Routine (routine_of r))
   all_named =
@@ -173,17 +173,6 @@ module _ (s : System) (pure : RoutineName → Bool) (k : ℕ) (x : FeatureKind) 
   of_routine_added d q p =
       named_if_ok r old new (faults_of_kind s pure k (plain.Routine (routine_of d))) (faults_of_kind s pure k (kind_of x))
       (sym (ap (λ (x : FeatureKind). faults_of_kind s pure k (kind_of x)) q)) p
-
-pub result_type_added : (s : System) (o : Option DeclaredType) (r : Result Unit AllocError) (old new : List Fault) (d : DeclaredType) →
-    o ≡ Some d → OnOk r (new ≡ old ++ faults_of_type s [] (type_of d)) → OnOk r (new ≡ old ++ faults_of_result s (type_if_any o))
-result_type_added s o r old new d q p =
-    named_if_ok r old new (faults_of_type s [] (type_of d)) (faults_of_result s (type_if_any o))
-    (sym (ap (λ (o : Option DeclaredType). faults_of_result s (type_if_any o)) q)) p
-
-pub no_result_type_added : (s : System) (o : Option DeclaredType) (old : List Fault) → o ≡ None →
-    old ≡ old ++ faults_of_result s (type_if_any o)
-no_result_type_added s o old q =
-    nothing_added old old refl ∙ ap (λ fs. old ++ fs) (sym (ap (λ (o : Option DeclaredType). faults_of_result s (type_if_any o)) q))
 
 -- ---- classes
 

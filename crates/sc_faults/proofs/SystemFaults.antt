@@ -17,7 +17,7 @@ use Rattle.sc_rules.specs.TextRules.{Fails, ClauseFails}
 use Rattle.sc_rules.specs.SystemRules.{FeatureFails, attribute_type, formal_type, result_type, precondition, local_type, in_body, postcondition, InvariantFails, CreatorFails, ClassFails, in_creators, in_features, in_invariant, SystemFails, in_class}
 use Rattle.sc_rules.proofs.PurityLaws.{purity_is_one}
 use Rattle.sc_faults.specs.FaultLists.{IsFaultList}
-use Rattle.sc_faults.specs.Internal.Listing.{faults_of_each, faults_of_clause, faults_of_instrs, faults_of_type, faults_of_types, faults_of_result, faults_of_text, faults_of_kind, faults_of_features, faults_of_creator, faults_of_invariant, faults_of_class, faults_of_classes, faults_of_system}
+use Rattle.sc_faults.specs.Internal.Listing.{faults_of_each, faults_of_clause, faults_of_instrs, faults_of_type, faults_of_types, faults_of_type_if_any, faults_of_text, faults_of_kind, faults_of_features, faults_of_creator, faults_of_invariant, faults_of_class, faults_of_classes, faults_of_system}
 use Rattle.sc_faults.proofs.ReportedFaults.{Holds, all_more, joined, each_all, each_any}
 use Rattle.sc_faults.proofs.Places.{At}
 use Rattle.sc_faults.proofs.TypeFaults.{type_all, type_place}
@@ -46,7 +46,7 @@ module _ (s : System) (pure : RoutineName → Bool) (k : ℕ) where
       each_all P (faults_of_clause h c n) is (λ i m. clause_all h c n i P (λ r p g. f r p (found is i m g)))
 
   result_all : (routine : RoutineDeclaration) (o : Option DeclaredType) → routine.result_type ≡ o →
-      All (Holds (FeatureFails s pure k (Routine routine))) (faults_of_result s o)
+      All (Holds (FeatureFails s pure k (Routine routine))) (faults_of_type_if_any s [] o)
   result_all routine None e = All-nil (Holds (FeatureFails s pure k (Routine routine)))
   result_all routine (Some d) e =
       type_all s [] d (FeatureFails s pure k (Routine routine)) (λ r p f. result_type {routine = routine} {d = d} e f)
@@ -57,7 +57,7 @@ module _ (s : System) (pure : RoutineName → Bool) (k : ℕ) where
       let h : RoutineContext = context_of s pure k routine in
       let P : Rule → Span → Type 0 = FeatureFails s pure k (Routine routine) in
       let types : List Fault = faults_of_types s routine.formals routine.formals in
-      let result : List Fault = faults_of_result s routine.result_type in
+      let result : List Fault = faults_of_type_if_any s [] routine.result_type in
       let before : List Fault = faults_of_each (faults_of_clause h context.Require (formals_known s routine.formals)) routine.precondition in
       let locals : List Fault = faults_of_types s routine.formals routine.locals in
       let inner : List Fault = faults_of_instrs h (known_in_body s routine) routine.body in
@@ -160,7 +160,7 @@ module _ (s : System) (pure : RoutineName → Bool) (k : ℕ) (r : Rule) (p : Sp
       Any (Holds (At p)) (faults_of_text (h routine) routine.precondition routine.locals routine.body routine.postcondition) →
       Any (Holds (At p)) (faults_of_kind s pure k (Routine routine))
   in_text routine a =
-      any_right (faults_of_types s routine.formals routine.formals) _ (any_right (faults_of_result s routine.result_type) _ a)
+      any_right (faults_of_types s routine.formals routine.formals) _ (any_right (faults_of_type_if_any s [] routine.result_type) _ a)
 
   types_place : (formals ds : List Declaration) → Any (λ (d : Declaration). TypeFails s formals d.declared_type r p) ds →
       Any (Holds (At p)) (faults_of_types s formals ds)
@@ -178,8 +178,8 @@ module _ (s : System) (pure : RoutineName → Bool) (k : ℕ) (r : Rule) (p : Sp
       any_left (faults_of_types s routine.formals routine.formals) _ (types_place routine.formals routine.formals f)
   kind_place (Routine routine) (result_type {d = d} e f) =
       any_right (faults_of_types s routine.formals routine.formals) _
-      (any_left (faults_of_result s routine.result_type) _
-      (subst (λ o. Any (Holds (At p)) (faults_of_result s o)) (sym e) (type_place f)))
+      (any_left (faults_of_type_if_any s [] routine.result_type) _
+      (subst (λ o. Any (Holds (At p)) (faults_of_type_if_any s [] o)) (sym e) (type_place f)))
   kind_place (Routine routine) (precondition f) =
       in_text routine
       (any_left (before routine) _ (clauses_place (h routine) context.Require (formals_known s routine.formals) routine.precondition f))

@@ -18,7 +18,7 @@ use Rattle.sc_rules.proofs.Complete.{required_ok}
 use Rattle.sc_rules.proofs.ToldActuals.{told_type}
 use Rattle.sc_rules.proofs.RefusedParts.{type_refused}
 use Rattle.sc_rules.proofs.TextSound.{tells_required}
-use Rattle.sc_faults.specs.Internal.Listing.{faults_at, judge_tag, faults_of_type, faults_of_tested}
+use Rattle.sc_faults.specs.Internal.Listing.{faults_at, judge_tag, faults_of_type, faults_of_type_if_any}
 use Rattle.sc_faults.proofs.ReportedFaults.{Holds, at_all, at_any, none_left}
 use Rattle.sc_faults.proofs.Places.{At, at_place, there_first, there_next, there_required}
 
@@ -50,7 +50,7 @@ no_tag_fault s formals d u e =
 
 pub tested_all : (h : RoutineContext) (d : Option DeclaredType) (P : Rule → Span → Type 0) →
     ((t : DeclaredType) → d ≡ Some t → (r : Rule) (p : Span) → TypeFails h.system h.formals t r p → P r p) →
-    All (Holds P) (faults_of_tested h d)
+    All (Holds P) (faults_of_type_if_any h.system h.formals d)
 tested_all h None P g = All-nil (Holds P)
 tested_all h (Some d) P g = type_all h.system h.formals d P (g d refl)
 

@@ -4,14 +4,13 @@ use Rattle.std.specs.Prelude.{OnOk, is_some, bytes_eq, if◌then◌else◌}
 use Rattle.std.specs.Option.{option_map}
 use Rattle.std.specs.declared.alloc.AllocError.{AllocError}
 use Rattle.sc_tree.specs.declared.declaration.DeclaredType.{DeclaredType}
-use Rattle.sc_tree.specs.Plain.{Declaration, HandlerOf, Name}
+use Rattle.sc_tree.specs.Plain.{System, Declaration, HandlerOf, Name}
 use Rattle.sc_tree.specs.View.{type_if_any, type_of}
 use Rattle.sc_rules.specs.declared.fault.Fault.{Fault}
 use Rattle.sc_rules.specs.declared.entity_types.tag.Reserved.TheVariants.{Formal}
 use Rattle.sc_rules.specs.declared.entity_types.tag.Tag.TheVariants as tag
 use Rattle.sc_rules.specs.Types.{declared_tag, is_nameable, number_of_named}
-use Rattle.sc_rules.specs.Names.{RoutineContext}
-use Rattle.sc_faults.specs.Internal.Listing.{faults_of_type, faults_of_tested}
+use Rattle.sc_faults.specs.Internal.Listing.{faults_of_type, faults_of_type_if_any}
 use Rattle.sc_faults.proofs.Adding.{named_if_ok, nothing_added}
 
 some_later : (o : Option ℕ) → is_some (option_map (λ i. i + 1) o) ≡ is_some o
@@ -36,17 +35,17 @@ named_later x d ds e =
     ap (λ b. is_some (if b then (if is_nameable d then Some 0 else None) else option_map (λ i. i + 1) (number_of_named x ds))) e
     ∙ some_later (number_of_named x ds)
 
-module _ (h : RoutineContext) (o : Option DeclaredType) (r : Result Unit AllocError) (old new : List Fault) where
-  pub no_tested_added : o ≡ None → old ≡ old ++ faults_of_tested h (type_if_any o)
-  no_tested_added q =
+module _ (s : System) (formals : List Declaration) (o : Option DeclaredType) (r : Result Unit AllocError) (old new : List Fault) where
+  pub no_type_added : o ≡ None → old ≡ old ++ faults_of_type_if_any s formals (type_if_any o)
+  no_type_added q =
       nothing_added old old refl
-      ∙ ap (λ fs. old ++ fs) (sym (ap (λ (o : Option DeclaredType). faults_of_tested h (type_if_any o)) q))
+      ∙ ap (λ fs. old ++ fs) (sym (ap (λ (o : Option DeclaredType). faults_of_type_if_any s formals (type_if_any o)) q))
 
-  pub tested_added : (d : DeclaredType) → o ≡ Some d → OnOk r (new ≡ old ++ faults_of_type h.system h.formals (type_of d)) →
-      OnOk r (new ≡ old ++ faults_of_tested h (type_if_any o))
-  tested_added d q p =
-      named_if_ok r old new (faults_of_type h.system h.formals (type_of d)) (faults_of_tested h (type_if_any o))
-      (sym (ap (λ (o : Option DeclaredType). faults_of_tested h (type_if_any o)) q)) p
+  pub type_if_any_added : (d : DeclaredType) → o ≡ Some d → OnOk r (new ≡ old ++ faults_of_type s formals (type_of d)) →
+      OnOk r (new ≡ old ++ faults_of_type_if_any s formals (type_if_any o))
+  type_if_any_added d q p =
+      named_if_ok r old new (faults_of_type s formals (type_of d)) (faults_of_type_if_any s formals (type_if_any o))
+      (sym (ap (λ (o : Option DeclaredType). faults_of_type_if_any s formals (type_if_any o)) q)) p
 
 -- a tag that names a formal is known if one that it may name has the name
 pub tag_known : (formals : List Declaration) (x : Name) → is_some (number_of_named x.text formals) ≡ is_some (declared_tag formals (HandlerOf x))

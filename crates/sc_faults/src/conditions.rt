@@ -93,29 +93,6 @@ fn judge_value<'s>(
     }
 }
 
-/// Adds the faults of a head of a block.
-#[tactic(auto, unfolding(sc_tree::specs::View::head_of))]
-fn add_head<'s>(
-    routine: &RoutineContext<'_, 's>,
-    names: &[Entity<'s>],
-    head: &'s Head,
-    faults: &mut Vec<Fault>,
-) -> Result<(), AllocError>
-    ensures { OnOk result (faults.new.items ≡ faults.old.items ++ listing.faults_of_head (routine_in routine.now)
-        (map entity_of names.now) (head_of head.now)) }
-{
-    let judged = judge_value(routine, names, head);
-    add_site(
-        routine,
-        Context::Body,
-        Position::Plain,
-        names,
-        &head.value,
-        &judged,
-        faults,
-    )
-}
-
 /// Adds the faults of the heads of a block.
 pub fn add_heads<'s>(
     routine: &RoutineContext<'_, 's>,
@@ -127,7 +104,16 @@ pub fn add_heads<'s>(
         (routine_in routine.now) (map entity_of names.now)) (map head_of heads.now)) }
 {
     for head in heads {
-        add_head(routine, names, head, faults)?;
+        let judged = judge_value(routine, names, head);
+        add_site(
+            routine,
+            Context::Body,
+            Position::Plain,
+            names,
+            &head.value,
+            &judged,
+            faults,
+        )?;
     }
     Ok(())
 }

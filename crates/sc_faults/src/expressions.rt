@@ -17,7 +17,7 @@ use crate::calls::{
 use crate::found::{add, add_alone, add_first};
 use crate::passing::{Passing, known_handlers};
 use crate::scopes::give_names;
-use crate::types::add_tested;
+use crate::types::add_type_if_any;
 use sc_rules::entity_types::EntityType;
 use sc_rules::{Context, Fault, Position, Rule, Use};
 use sc_text::Span;
@@ -158,7 +158,13 @@ fn add_operands<'s>(
             }
         }
         Expr::ObjectTest(span, declared, tested, _) => {
-            add_tested(routine, declared, faults)?;
+            add_type_if_any(
+                routine.alloc,
+                routine.tables,
+                routine.formals,
+                declared,
+                faults,
+            )?;
             add_expression(routine, context, Position::Plain, names, tested, faults)?;
             add_alone(judge_place(position, *span), faults)
         }

@@ -11,7 +11,7 @@ ghost use Rattle.sc_faults.specs.Internal.Listing as listing;
 
 use crate::conditions::add_clauses;
 use crate::instructions::add_instructions;
-use crate::types::add_type;
+use crate::types::{add_type, add_type_if_any};
 use sc_check::ClassText;
 use sc_class::Tables;
 use sc_rules::{Context, Fault};
@@ -34,22 +34,6 @@ fn add_types(
         add_type(alloc, tables, formals, &declaration.declared_type, faults)?;
     }
     Ok(())
-}
-
-/// Adds the faults of the type of Result, if one is declared.
-fn add_result_type(
-    alloc: Global,
-    tables: &Tables,
-    declared: &Option<DeclaredType>,
-    faults: &mut Vec<Fault>,
-) -> Result<(), AllocError>
-    ensures { OnOk result (faults.new.items ≡ faults.old.items ++ listing.faults_of_result (system_in tables.now)
-        (type_if_any declared.now)) }
-{
-    match declared {
-        None => Ok(()),
-        Some(declared) => add_type(alloc, tables, &[], declared, faults),
-    }
 }
 
 /// A routine of the class with these formals and this result type.
@@ -138,7 +122,13 @@ fn add_routine<'s>(
 {
     let formals = declared.formals.as_slice();
     add_types(class.alloc, class.tables, formals, formals, faults)?;
-    add_result_type(class.alloc, class.tables, &declared.result_type, faults)?;
+    add_type_if_any(
+        class.alloc,
+        class.tables,
+        &[],
+        &declared.result_type,
+        faults,
+    )?;
     let routine = context_of(class, formals, &declared.result_type);
     add_text(&routine, declared, faults)
 }

@@ -5,6 +5,7 @@ ghost use Rattle.sc_faults.specs.FaultLists.{begins_with, is_same_fault};
 ghost use Rattle.sc_faults.specs.Internal.Listing as listing;
 ghost use Rattle.sc_faults.specs.Internal.Adding.{AddsFaults};
 
+use sc_check::is_same_span;
 use sc_rules::Fault;
 use sc_typing::CheckFault;
 use std::alloc::AllocError;
@@ -13,8 +14,7 @@ use std::alloc::AllocError;
 fn is_same(one: Fault, other: Fault) -> bool
     ensures { result ≡ is_same_fault one other }
 {
-    (one.span.start == other.span.start && one.span.end == other.span.end)
-        && one.rule.code() == other.rule.code()
+    is_same_span(one.span, other.span) && one.rule.code() == other.rule.code()
 }
 
 /// Whether the first of the faults is this one.

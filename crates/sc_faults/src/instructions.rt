@@ -144,10 +144,8 @@ fn add_instruction<'s>(
         (map entity_of names.now) (instr_of instruction.now)) }
 {
     match instruction {
-        Instr::Assign(_, _, _) => add_simple(routine, names, instruction, faults),
-        Instr::PrintText(_, _) => add_simple(routine, names, instruction, faults),
-        Instr::Call(_) => add_simple(routine, names, instruction, faults),
-        Instr::Create(_, _, _) => add_simple(routine, names, instruction, faults),
+        Instr::Assign(_, _, _) | Instr::PrintText(_, _) | Instr::Call(_) | Instr::Create(_, _, _) =>
+            add_simple(routine, names, instruction, faults),
         Instr::If(_, condition, body, branches, other) => {
             add_branch(routine, names, body, condition, faults)?;
             add_branches(routine, names, branches, faults)?;

@@ -62,9 +62,10 @@ pub fn reserve_names<'s>(
 {
     for head in heads {
         let value = routine.expression(Context::Body, Position::Plain, names, &head.value)?;
+        let number = blocks(known);
         known.push(Entity {
             name: head.name.as_str(),
-            entity_type: block_type(blocks(known), value.entity_type),
+            entity_type: block_type(number, value.entity_type),
             role: Role::Block,
         })?;
     }

@@ -5,14 +5,13 @@ ghost use Rattle.sc_tree.specs.View.{declaration_of, handler_tag_of, type_if_any
 ghost use Rattle.sc_class.specs.SystemIn.{system_in};
 ghost use Rattle.sc_rules.specs.Types as types;
 ghost use Rattle.sc_typing.specs.Judges.{Passes};
-ghost use Rattle.sc_typing.specs.Views.{routine_in};
 ghost use Rattle.sc_faults.specs.Internal.Listing as listing;
 
 use crate::found::{add, add_alone};
 use sc_class::Tables;
 use sc_rules::{Fault, Rule};
 use sc_tree::{Declaration, DeclaredType, HandlerTag};
-use sc_typing::{CheckFault, RoutineContext, judge_type, required};
+use sc_typing::{CheckFault, judge_type, required};
 use std::alloc::{AllocError, Global};
 
 /// Whether it is written `separate`.
@@ -79,23 +78,19 @@ pub fn add_type(
     add(&judged, &mut of_tag, faults)
 }
 
-/// Adds the faults of the type that an object test tests for, if one is written.
-pub fn add_tested(
-    routine: &RoutineContext,
+/// Adds the faults of a declared type, if one is written, whose tag may name these formals.
+pub fn add_type_if_any(
+    alloc: Global,
+    tables: &Tables,
+    formals: &[Declaration],
     declared: &Option<DeclaredType>,
     faults: &mut Vec<Fault>,
 ) -> Result<(), AllocError>
-    ensures { OnOk result (faults.new.items ≡ faults.old.items ++ listing.faults_of_tested (routine_in routine.now)
-        (type_if_any declared.now)) }
+    ensures { OnOk result (faults.new.items ≡ faults.old.items ++ listing.faults_of_type_if_any (system_in tables.now)
+        (map declaration_of formals.now) (type_if_any declared.now)) }
 {
     match declared {
         None => Ok(()),
-        Some(declared) => add_type(
-            routine.alloc,
-            routine.tables,
-            routine.formals,
-            declared,
-            faults,
-        ),
+        Some(declared) => add_type(alloc, tables, formals, declared, faults),
     }
 }

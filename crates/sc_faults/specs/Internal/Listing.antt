@@ -1,6 +1,6 @@
 -- The faults that are listed of each site of a text, in the order of the walk, as the code follows it. Public contracts
 -- don't speak of it.
-use Rattle.std.specs.Prelude.{◌+◌, ℕ, Bool, true, false, if◌then◌else◌, List, [], ◌∷◌, ◌++◌, Option, Some, None, is_some, Ok, Err}
+use Rattle.std.specs.Prelude.{◌+◌, ℕ, Bool, false, if◌then◌else◌, List, [], ◌∷◌, ◌++◌, Option, Some, None, is_some, Ok, Err}
 use Rattle.sc_text.specs.declared.token.Span.{Span}
 use Rattle.sc_tree.specs.declared.expression.UnaryOperator.{UnaryOperator}
 use Rattle.sc_tree.specs.Plain.{System, Class, Feature, FeatureKind, Attribute, Routine, Declaration, DeclaredType, Clause, Head, Name, Variable, CreationCall, Expr, Call, Unary, Binary, ObjectTest, Target, no_target, target, Exprs, no_exprs, expr_then, Instr, Assign, PrintText, CallRoutine, Create, If, Loop, Check, Block, Instrs, no_instrs, instr_then, Branches, no_branches, branch_then}
@@ -58,10 +58,10 @@ judge_tag formals d = required (is_some (declared_tag formals d.tag)) TagName d.
 abbrev pub faults_of_type : System → List Declaration → DeclaredType → List Fault
 faults_of_type s formals d = faults_at (judge_type s formals d) (faults_at (judge_tag formals d) [])
 
--- the type that an object test tests for, if one is written
-abbrev pub faults_of_tested : RoutineContext → Option DeclaredType → List Fault
-faults_of_tested h None = []
-faults_of_tested h (Some d) = faults_of_type h.system h.formals d
+-- a type, if one is written, whose tag may name these formals
+abbrev pub faults_of_type_if_any : System → List Declaration → Option DeclaredType → List Fault
+faults_of_type_if_any s formals None = []
+faults_of_type_if_any s formals (Some d) = faults_of_type s formals d
 
 -- ---- what is judged of a call and its parts
 
@@ -126,7 +126,7 @@ unfoldable mutual
       else faults_at (judge h c (operand_position op) n a) (faults_in h c (operand_position op) n a)
       ++ faults_at (judge h c (operand_position op) n b) (faults_in h c (operand_position op) n b)
   faults_in h c k n (ObjectTest p d a x) =
-      faults_of_tested h d
+      faults_of_type_if_any h.system h.formals d
       ++ (faults_at (judge h c Plain n a) (faults_in h c Plain n a) ++ faults_at (judge_place k p) [])
   faults_in h c k n e = []
 
@@ -263,10 +263,6 @@ faults_of_block h n heads body =
 abbrev pub faults_of_types : System → List Declaration → List Declaration → List Fault
 faults_of_types s formals ds = faults_of_each (λ (d : Declaration). faults_of_type s formals d.declared_type) ds
 
-abbrev pub faults_of_result : System → Option DeclaredType → List Fault
-faults_of_result s None = []
-faults_of_result s (Some d) = faults_of_type s [] d
-
 -- the locals and the body of a routine before which these names are known
 abbrev pub faults_of_body : RoutineContext → Entities → List Declaration → Instrs → List Fault
 faults_of_body h n locals is =
@@ -284,7 +280,7 @@ abbrev pub faults_of_kind : System → (RoutineName → Bool) → ℕ → Featur
 faults_of_kind s pure k (Attribute d) = faults_of_type s [] d
 faults_of_kind s pure k (Routine routine) =
     faults_of_types s routine.formals routine.formals
-    ++ (faults_of_result s routine.result_type
+    ++ (faults_of_type_if_any s [] routine.result_type
     ++ faults_of_text (context_of s pure k routine) routine.precondition routine.locals routine.body
     routine.postcondition)
 

@@ -108,9 +108,9 @@ pub add_operands-returns-in_ok-add_expression-in-ObjectTest : goal.add_operands-
 add_operands-returns-in_ok-add_expression-in-ObjectTest t c =
     test_added (routine_in c.args.routine.now) c.args.context c.args.position (map entity_of c.args.names.now) c.args.e.now
     c.add_alone-in-ObjectTest.result c.args.faults.now.items c.add_alone-in-ObjectTest.new.faults.items c.in-ObjectTest.span c.in-ObjectTest.declared
-    c.in-ObjectTest.tested c.in-ObjectTest.field-3 c.deref-in-ObjectTest.result.now c.add_tested.new.faults.items
+    c.in-ObjectTest.tested c.in-ObjectTest.field-3 c.deref-in-ObjectTest.result.now c.add_type_if_any.new.faults.items
     c.add_expression-in-ObjectTest.new.faults.items c.judge_place.result c.in-ObjectTest.is c.deref-in-ObjectTest.ensures
-    c.in_ok-add_tested-in-ObjectTest.ensures c.in_ok-add_expression-in-ObjectTest.ensures c.judge_place.ensures c.add_alone-in-ObjectTest.ensures
+    c.in_ok-add_type_if_any-in-ObjectTest.ensures c.in_ok-add_expression-in-ObjectTest.ensures c.judge_place.ensures c.add_alone-in-ObjectTest.ensures
 
 pub add_target-returns-in-Some : goal.add_target-returns-in-Some
 add_target-returns-in-Some t c =

@@ -1,4 +1,4 @@
-use Rattle.std.proofs.Common.{map, ap, ◌++◌}
+use Rattle.std.proofs.Common.{map, ap, inl, inr, ◌++◌}
 use Rattle.sc_tree.specs.View.{expr_of, head_of, instrs_of, branches_of}
 use Rattle.sc_rules.specs.Judging.{judge_given}
 use Rattle.sc_rules.specs.declared.position.Context.TheVariants as context
@@ -11,23 +11,21 @@ use Rattle.sc_faults.proofs.instructions.+instructions.Goals as goal
 
 pub add_instruction-returns-in-Assign : goal.add_instruction-returns-in-Assign
 add_instruction-returns-in-Assign t c =
-    assign_added (routine_in c.args.routine.now) (map entity_of c.args.names.now) c.args.instruction.now c.add_simple.result c.args.faults.now.items
-    c.add_simple.new.faults.items c.in-Assign.field-0 c.in-Assign.field-1 c.in-Assign.field-2 c.in-Assign.is c.add_simple.ensures
-
-pub add_instruction-returns-in-PrintText : goal.add_instruction-returns-in-PrintText
-add_instruction-returns-in-PrintText t c =
-    print_added (routine_in c.args.routine.now) (map entity_of c.args.names.now) c.args.instruction.now c.add_simple-in-PrintText.result c.args.faults.now.items
-    c.add_simple-in-PrintText.new.faults.items c.in-PrintText.field-0 c.in-PrintText.field-1 c.in-PrintText.is c.add_simple-in-PrintText.ensures
-
-pub add_instruction-returns-in-Call : goal.add_instruction-returns-in-Call
-add_instruction-returns-in-Call t c =
-    call_added (routine_in c.args.routine.now) (map entity_of c.args.names.now) c.args.instruction.now c.add_simple-in-Call.result c.args.faults.now.items
-    c.add_simple-in-Call.new.faults.items c.in-Call.field-0 c.in-Call.is c.add_simple-in-Call.ensures
-
-pub add_instruction-returns-in-Create : goal.add_instruction-returns-in-Create
-add_instruction-returns-in-Create t c =
-    create_added (routine_in c.args.routine.now) (map entity_of c.args.names.now) c.args.instruction.now c.add_simple-in-Create.result c.args.faults.now.items
-    c.add_simple-in-Create.new.faults.items c.in-Create.field-0 c.in-Create.field-1 c.in-Create.field-2 c.in-Create.is c.add_simple-in-Create.ensures
+    let h = routine_in c.args.routine.now in
+    let n = map entity_of c.args.names.now in
+    let i = c.args.instruction.now in
+    let old = c.args.faults.now.items in
+    let new = c.add_simple.new.faults.items in
+    elim c.in-Assign.is [
+      | inl w ↦ assign_added h n i c.add_simple.result old new w.0 w.1 w.2 w.3 c.add_simple.ensures
+      | inr v ↦ elim v [
+        | inl w ↦ print_added h n i c.add_simple.result old new w.0 w.1 w.2 c.add_simple.ensures
+        | inr v ↦ elim v [
+          | inl w ↦ call_added h n i c.add_simple.result old new w.0 w.1 c.add_simple.ensures
+          | inr w ↦ create_added h n i c.add_simple.result old new w.0 w.1 w.2 w.3 c.add_simple.ensures
+        ]
+      ]
+    ]
 
 pub add_instruction-returns-in-Check : goal.add_instruction-returns-in-Check
 add_instruction-returns-in-Check t c =
