@@ -1,11 +1,11 @@
 -- What a mover changes: another handler that has something to do still has it.
-use Rattle.std.proofs.Common.{◌≡◌, ◌∙◌, ◌<◌, ◌≤◌, ◌+◌, ◌==◌, ◌&&◌, ◌||◌, not, ℕ, Bool, true, false, List, [], ◌∷◌, Option, Some, None, map, refl, sym, ap, arith}
+use Rattle.std.proofs.Common.{◌≡◌, ◌∙◌, ◌≤◌, ◌&&◌, ◌||◌, not, ℕ, Bool, true, false, List, [], ◌∷◌, Option, Some, None, map, refl, sym, ap, arith}
 use Rattle.std.proofs.Math.Path.{fun_ext}
 use Rattle.std.proofs.lemmas.Bool.{lt-ltb, ltb-true}
-use Rattle.std.specs.Prelude.{if◌then◌else◌, is_some, nat_lt}
+use Rattle.std.specs.Prelude.{if◌then◌else◌, is_some}
 use Rattle.std.specs.List.{filter_map, list_all, list_any}
 use Rattle.std.specs.Option.{is_none}
-use Rattle.sc_lockpass.specs.Rights.{held, is_among}
+use Rattle.sc_lockpass.specs.Rights.{is_among}
 use Rattle.sc_lockpass.specs.wait_conditions.Entries.{each_once, unheld}
 use Rattle.sc_lockpass.specs.wait_conditions.Reservations.{Standing, has_risen, is_idle, is_lost, mark_allows, may_be_reserved, may_reserve, reserve_fails}
 use Rattle.sc_lockpass.specs.declared.wait_conditions.mark.Marked.{Marked}
@@ -13,7 +13,7 @@ use Rattle.sc_model.specs.declared.cause.Cause.{Cause}
 use Rattle.sc_region.specs.declared.job.Job.{Job}
 use Rattle.sc_handler.specs.Changes.{session_ended}
 use Rattle.sc_handler.specs.Handlers.{Handler, HandlerStage, Idle, Runs, HasMade, Reserves, Awaits, State, has_frames, has_requests, standing_in}
-use Rattle.sc_handler.specs.Picking.{job_at, job_awaiting, job_for_entry, job_idle, job_of, job_reserving, needs}
+use Rattle.sc_handler.specs.Picking.{job_at, job_for_entry, job_of, job_reserving, needs}
 use Rattle.sc_refines_world.proofs.OtherStages.{has_job, job_there}
 use Rattle.sc_movers.proofs.ChangedStates.{Apart, Change, Harmless, changed, stage_own, true_false}
 use Rattle.sc_movers.proofs.ChangedTurns.{and_left, and_right, same_held}

@@ -1,11 +1,11 @@
 -- What a mover is to change: in the turn of another handler its rights and what it stands at stay.
-use Rattle.std.proofs.Common.{◌≡◌, ◌∙◌, ◌⊎◌, inl, inr, ◌<◌, ◌≤◌, ◌+◌, ◌==◌, ◌&&◌, ◌||◌, not, ℕ, Bool, true, false, List, [], ◌∷◌, Option, Some, None, length, refl, sym, ap, subst, arith}
+use Rattle.std.proofs.Common.{◌≡◌, ◌∙◌, ◌⊎◌, inl, inr, ◌<◌, ◌≤◌, ◌==◌, ◌&&◌, ◌||◌, not, ℕ, Bool, true, false, List, [], ◌∷◌, Option, Some, None, length, refl, sym, ap, subst, arith}
 use Rattle.std.proofs.lemmas.Bool.{cases_eq, eq-eqb, eqb-true, ne_eqb}
 use Rattle.std.specs.Prelude.{if◌then◌else◌, is_some, nat_lt}
 use Rattle.std.specs.List.{list_all, list_any}
 use Rattle.arrayvec.specs.ArrayVec.{ArrayVec}
-use Rattle.sc_lockpass.specs.Rights.{is_among, is_handler, lost_by}
-use Rattle.sc_lockpass.specs.Passing.{Passed, moved, returned}
+use Rattle.sc_lockpass.specs.Rights.{is_among, is_handler}
+use Rattle.sc_lockpass.specs.Passing.{Passed, returned}
 use Rattle.sc_lockpass.specs.wait_conditions.Reservations.{ends_session, mark_of}
 use Rattle.sc_lockpass.specs.declared.wait_conditions.session.Release.{Release}
 use Rattle.sc_lockpass.specs.declared.wait_conditions.session.Release.TheVariants as release_at
@@ -18,11 +18,11 @@ use Rattle.sc_region.specs.declared.job.Job.TheVariants as job
 use Rattle.sc_region.specs.declared.job.Request.{Request}
 use Rattle.sc_region.specs.declared.job.Want.{Want}
 use Rattle.sc_region.specs.declared.job.Want.TheVariants as want
-use Rattle.sc_handler.specs.Handlers.{Posted, posted, Answer, Replied, Refused, HandlerStage, Idle, Runs, HasMade, Reserves, Awaits, Service, Handler, State, new_handler, put, with_stage}
-use Rattle.sc_handler.specs.Changes.{answered, counted_refusal, fallen, is_waited_by, placed, requests_at, session_ended, takes, takes_answer, takes_callback, takes_next, told}
+use Rattle.sc_handler.specs.Handlers.{Posted, posted, Answer, Replied, Refused, SupplierFailed, HandlerStage, Idle, Runs, HasMade, Reserves, Awaits, Service, Handler, State, new_handler, put, with_stage}
+use Rattle.sc_handler.specs.Changes.{answered, counted_refusal, fallen, heard, is_waited_by, placed, requests_at, session_ended, takes, takes_answer, takes_callback, takes_next, told}
 use Rattle.sc_handler.specs.Fits.{fits_first}
 use Rattle.sc_request.specs.Sessions.{answer_to, fail, finish, is_callback, passed_if, passes, release, reserve, return_rights, send, with_handler}
-use Rattle.sc_request.specs.Settling.{asks_of, awaits_if, begun, creates, creates_with, creation, done, done_if, ends, ends_service, made_at, may_ask, may_post_to_all, posts_unheld, sends, settled, waits_again}
+use Rattle.sc_request.specs.Settling.{asks_of, awaits_if, begun, creates, creates_with, creation, done, done_if, ends, ends_service, made_at, may_ask, may_post_to_all, posts_unheld, sends, settled}
 use Rattle.sc_movers.proofs.ChangedStates.{Apart, true_false}
 use Rattle.sc_movers.proofs.ChangedTurns.{Beside, and_left, and_right, posts_to, to_another}
 
@@ -81,6 +81,33 @@ takes_count (HasMade k) x = refl
 takes_count (Reserves ks mark) x = refl
 takes_count (Awaits k c) x = callback_count x.callback x
 
+-- it has failed, or an answer has come
+abbrev pub is_deaf : Handler → Bool
+is_deaf x = is_some x.failure || is_some x.answer
+
+pub ended_deaf : (b : Bool) (x : Handler) → is_deaf (session_ended b x) ≡ is_deaf x
+ended_deaf true x = refl
+ended_deaf false x = refl
+
+placed_deaf : (b : Bool) (p : Posted) (x : Handler) → is_deaf (placed b p x) ≡ is_deaf x
+placed_deaf true p x = refl
+placed_deaf false p x = refl
+
+answered_deaf : (a : Answer) (x : Handler) → is_deaf x ≡ true → is_deaf (answered a x) ≡ true
+answered_deaf a x e = by a x.failure x.answer e
+  where
+    by : (a : Answer) (f : Option Cause) (o : Option Answer) → (is_some f || is_some o) ≡ true → (is_some f || is_some (heard a f o)) ≡ true
+    by a (Some why) o e = refl
+    by SupplierFailed None o e = refl
+    by (Replied v) None None e = refl
+    by (Replied v) None (Some b) e = refl
+    by Refused None None e = refl
+    by Refused None (Some b) e = refl
+
+told_deaf : (b : Bool) (x : Handler) → is_deaf x ≡ true → is_deaf (told b x) ≡ true
+told_deaf true x e = answered_deaf SupplierFailed x e
+told_deaf false x e = e
+
 refusal_count : (b : Bool) (x : Handler) → (counted_refusal b x).sessions ≡ x.sessions
 refusal_count true x = refl
 refusal_count false x = refl
@@ -97,15 +124,16 @@ all_among P (j ∷ ls) k all e = by (j == k) refl e (all_among P ls k (and_right
 -- ---- states
 
 -- There are as many handlers, or more. The rights over those that are safe stay, and their counts; what the handler g
--- serves and its entry; and the queues of those that are closed.
-pub record Stay (g : ℕ) (safe closed : ℕ → Bool) (s t : State) : Type 0 where
+-- serves and its entry; and the queues of those that are closed. Each but h is as deaf as it was.
+pub record Stay (g h : ℕ) (safe closed : ℕ → Bool) (s t : State) : Type 0 where
   pub more : s.count ≤ t.count
   pub queue : (k : ℕ) → safe k ≡ true → t.rights.queue k ≡ s.rights.queue k
   pub sessions : (k : ℕ) → safe k ≡ true → (t.handlers k).sessions ≡ (s.handlers k).sessions
   pub own : OwnStays (s.handlers g) (t.handlers g)
   pub asked : (k : ℕ) → closed k ≡ true → (t.handlers k).queue ≡ (s.handlers k).queue
+  pub deaf : (k : ℕ) → k < s.count → (k ≡ h → ⊥) → is_deaf (s.handlers k) ≡ true → is_deaf (t.handlers k) ≡ true
 
-pub stay_apart : (g h : ℕ) (safe closed : ℕ → Bool) (s t : State) → Apart h safe s → Stay g safe closed s t → Apart h safe t
+pub stay_apart : (g h : ℕ) (safe closed : ℕ → Bool) (s t : State) → Apart h safe s → Stay g h safe closed s t → Apart h safe t
 stay_apart g h safe closed s t are p =
     let more = p.more in
     record {
@@ -118,10 +146,10 @@ module _ (g h n : ℕ) (safe closed spared : ℕ → Bool) (apart : h ≡ g → 
   Are = Apart h safe
 
   abbrev Stays : State → State → Type 0
-  Stays = Stay g safe closed
+  Stays = Stay g h safe closed
 
   pub stay : (s : State) → Stays s s
-  stay s = record { more = omega arith; queue = λ k e. refl; sessions = λ k e. refl; own = own_same (s.handlers g); asked = λ k e. refl }
+  stay s = record { more = omega arith; queue = λ k e. refl; sessions = λ k e. refl; own = own_same (s.handlers g); asked = λ k e. refl; deaf = λ k few not_h e. e }
 
   pub stay_then : (s t u : State) → Stays s t → Stays t u → Stays s u
   stay_then s t u p q =
@@ -133,14 +161,28 @@ module _ (g h n : ℕ) (safe closed spared : ℕ → Bool) (apart : h ≡ g → 
         sessions = λ k e. q.sessions k e ∙ p.sessions k e;
         own = own_then (s.handlers g) (t.handlers g) (u.handlers g) p.own q.own;
         asked = λ k e. q.asked k e ∙ p.asked k e;
+        deaf = λ k few not_h e. q.deaf k (omega (arith, few, one)) not_h (p.deaf k few not_h e);
       }
 
-  -- one handler changes, with its count as it was; with what it serves, if it is g; and with its queue, if it is closed
+  -- one handler changes, with its count as it was; with what it serves, if it is g; with its queue, if it is closed; and
+  -- as deaf as it was, if it isn't h
   put_stays : (i : ℕ) (y : Handler) (s : State) → y.sessions ≡ (s.handlers i).sessions → (i ≡ g → OwnStays (s.handlers i) y) →
-      (closed i ≡ true → y.queue ≡ (s.handlers i).queue) → Stays s (put i y s)
-  put_stays i y s count own asked =
-      record { more = omega arith; queue = λ k e. refl; sessions = λ k e. by k (cases_eq k i); own = at (cases_eq g i); asked = λ k e. of k e (cases_eq k i) }
+      (closed i ≡ true → y.queue ≡ (s.handlers i).queue) → ((i ≡ h → ⊥) → is_deaf (s.handlers i) ≡ true → is_deaf y ≡ true) → Stays s (put i y s)
+  put_stays i y s count own asked deaf = record {
+    more = omega arith;
+    queue = λ k e. refl;
+    sessions = λ k e. by k (cases_eq k i);
+    own = at (cases_eq g i);
+    asked = λ k e. of k e (cases_eq k i);
+    deaf = λ k few not_h e. ears k not_h e (cases_eq k i);
+  }
     where
+      ears : (k : ℕ) → (k ≡ h → ⊥) → is_deaf (s.handlers k) ≡ true → (k ≡ i) ⊎ (k ≡ i → ⊥) → is_deaf (if k == i then y else s.handlers k) ≡ true
+      ears k not_h e (inl same) =
+          ap (λ (b : Bool). is_deaf (if b then y else s.handlers k)) (eq-eqb k i same)
+          ∙ deaf (λ is. not_h (same ∙ is)) (ap (λ (m : ℕ). is_deaf (s.handlers m)) (sym same) ∙ e)
+      ears k not_h e (inr other) = ap (λ (b : Bool). is_deaf (if b then y else s.handlers k)) (ne_eqb k i other) ∙ e
+
       by : (k : ℕ) → (k ≡ i) ⊎ (k ≡ i → ⊥) → (if k == i then y else s.handlers k).sessions ≡ (s.handlers k).sessions
       by k (inl same) =
           ap (λ (b : Bool). (if b then y else s.handlers k).sessions) (eq-eqb k i same) ∙ count ∙ ap (λ (m : ℕ). (s.handlers m).sessions) (sym same)
@@ -157,7 +199,7 @@ module _ (g h n : ℕ) (safe closed spared : ℕ → Bool) (apart : h ≡ g → 
       of k e (inr other) = ap (λ (b : Bool). (if b then y else s.handlers k).queue) (ne_eqb k i other)
 
   own_put_stays : (y : Handler) (s : State) → y.sessions ≡ (s.handlers h).sessions → Stays s (put h y s)
-  own_put_stays y s count = put_stays h y s count (λ e. absurd (apart e)) (λ e. true_false (sym e ∙ not_closed))
+  own_put_stays y s count = put_stays h y s count (λ e. absurd (apart e)) (λ e. true_false (sym e ∙ not_closed)) (λ not_h e. absurd (not_h refl))
 
   released_stays : (how : Release) (ls : List ℕ) (s : State) → ((k : ℕ) → safe k ≡ true → is_among k ls ≡ false) → Stays s (release how ls s)
   released_stays how ls s none = record {
@@ -166,6 +208,7 @@ module _ (g h n : ℕ) (safe closed spared : ℕ → Bool) (apart : h ≡ g → 
     sessions = λ k e. ap (λ (b : Bool). (session_ended (ends_session how && b) (s.handlers k)).sessions) (none k e) ∙ never (ends_session how) k;
     own = ended_own (ends_session how && is_among g ls) (s.handlers g);
     asked = λ k e. ended_queue (ends_session how && is_among k ls) (s.handlers k);
+    deaf = λ k few not_h e. ended_deaf (ends_session how && is_among k ls) (s.handlers k) ∙ e;
   }
     where
       never : (b : Bool) (k : ℕ) → (session_ended (b && false) (s.handlers k)).sessions ≡ (s.handlers k).sessions
@@ -179,6 +222,7 @@ module _ (g h n : ℕ) (safe closed spared : ℕ → Bool) (apart : h ≡ g → 
     sessions = λ k e. ap (λ (hs : ℕ → Handler). (hs k).sessions) handlers;
     own = subst (λ (hs : ℕ → Handler). OwnStays (s.handlers g) (hs g)) (sym handlers) (own_same (s.handlers g));
     asked = λ k e. ap (λ (hs : ℕ → Handler). (hs k).queue) handlers;
+    deaf = λ k few not_h e. ap (λ (hs : ℕ → Handler). is_deaf (hs k)) handlers ∙ e;
   }
 
   passes_stay : (b : Bool) (j : ℕ) (s : State) → Are s → Stays s (passes b h j s)
@@ -189,6 +233,7 @@ module _ (g h n : ℕ) (safe closed spared : ℕ → Bool) (apart : h ≡ g → 
   -- a request isn't sent to the queue of one that is closed
   sent_stays : (b : Bool) (k : ℕ) (p : Posted) (s : State) → (b ≡ false → closed k ≡ false) → Stays s (send b k p s)
   sent_stays b k p s opens = put_stays k (placed b p (s.handlers k)) s (placed_count b p (s.handlers k)) (λ e. placed_own b p (s.handlers k)) (by b opens)
+      (λ not_h e. placed_deaf b p (s.handlers k) ∙ e)
     where
       by : (b : Bool) → (b ≡ false → closed k ≡ false) → closed k ≡ true → (placed b p (s.handlers k)).queue ≡ (s.handlers k).queue
       by true opens e = refl
@@ -200,7 +245,7 @@ module _ (g h n : ℕ) (safe closed spared : ℕ → Bool) (apart : h ≡ g → 
       rights_stay_only s (return_rights (Some p) s) refl refl (λ k e. ap (λ (l : Option (Option ℕ)). returned l (s.rights.queue k)) (none p refl k e))
 
   answers_stay : (b : Bool) (p : Option ℕ) (a : Answer) (s : State) → Stays s (answer_to b p a s)
-  answers_stay true (Some p) a s = put_stays p (answered a (s.handlers p)) s refl (λ e. (refl, refl, refl)) (λ e. refl)
+  answers_stay true (Some p) a s = put_stays p (answered a (s.handlers p)) s refl (λ e. (refl, refl, refl)) (λ e. refl) (λ not_h e. answered_deaf a (s.handlers p) e)
   answers_stay true None a s = stay s
   answers_stay false p a s = stay s
 
@@ -218,6 +263,10 @@ module _ (g h n : ℕ) (safe closed spared : ℕ → Bool) (apart : h ≡ g → 
         (subst (λ (b : Bool). OwnStays (s.handlers g) (if b then fallen why (s.handlers g) else told (waits g) (s.handlers g))) (sym (ne_eqb g h (λ i. apart (sym i)))) (told_own (waits g) (s.handlers g)))
         (ended_own (ends_session release_at.Failure && is_handler h (s.rights.queue g)) (after g));
     asked = λ k e. ended_queue (ends_session release_at.Failure && is_handler h (s.rights.queue k)) (after k) ∙ of k e (cases_eq k h);
+    deaf = λ k few not_h e.
+        ended_deaf (ends_session release_at.Failure && is_handler h (s.rights.queue k)) (after k)
+        ∙ ap (λ (b : Bool). is_deaf (if b then fallen why (s.handlers k) else told (waits k) (s.handlers k))) (ne_eqb k h not_h)
+        ∙ told_deaf (waits k) (s.handlers k) e;
   }
     where
       waits : ℕ → Bool
@@ -316,6 +365,7 @@ module _ (g h n : ℕ) (safe closed spared : ℕ → Bool) (apart : h ≡ g → 
         asked = λ k e.
             let few = are.few k (shut k e) in
             ap (λ (b : Bool). (if b then new_handler else s.handlers k).queue) (ne_eqb k s.count (λ i. omega (arith, few, i)));
+        deaf = λ k few not_h e. ap (λ (b : Bool). is_deaf (if b then new_handler else s.handlers k)) (ne_eqb k s.count (λ i. omega (arith, few, i))) ∙ e;
       }
 
   creates_stay : (b : Bool) (k : ℕ) (r : Request) (s : State) → Are s → safe k ≡ false → Stays s (creates_with b h k r s)

@@ -1,19 +1,19 @@
 -- What a mover changes: the parts of a settlement of another handler do the same before and after it.
-use Rattle.std.proofs.Common.{◌≡◌, ◌∙◌, ◌⊎◌, inl, inr, ◌<◌, ◌≤◌, ◌+◌, ◌==◌, ◌&&◌, ◌||◌, not, ℕ, zero, suc, Bool, true, false, List, [], ◌∷◌, Option, Some, None, length, map, refl, sym, ap, subst, arith}
+use Rattle.std.proofs.Common.{◌≡◌, ◌∙◌, ◌⊎◌, inl, inr, ◌<◌, ◌≤◌, ◌==◌, ◌&&◌, ℕ, Bool, true, false, List, [], ◌∷◌, Option, Some, None, length, refl, sym, ap, subst, arith}
 use Rattle.std.proofs.Math.Path.{fun_ext}
-use Rattle.std.proofs.lemmas.Bool.{cases_eq, eq-eqb, eqb-true, ne_eqb}
-use Rattle.std.specs.Prelude.{if◌then◌else◌, is_some, nat_lt}
-use Rattle.std.specs.List.{list_all, list_any}
+use Rattle.std.proofs.lemmas.Bool.{cases_eq, eq-eqb, ne_eqb}
+use Rattle.std.specs.Prelude.{if◌then◌else◌}
+use Rattle.std.specs.List.{list_any}
 use Rattle.sc_lockpass.specs.Rights as rights
 use Rattle.sc_lockpass.specs.Rights.{Rights, held, is_among, is_handler, lost_by, release_all}
-use Rattle.sc_lockpass.specs.Passing.{Passed, give_back, listed, moved, pass, passed_by, returned}
+use Rattle.sc_lockpass.specs.Passing.{Passed, listed, moved, passed_by, returned}
 use Rattle.sc_lockpass.specs.wait_conditions.Reservations.{ends_session}
 use Rattle.sc_lockpass.specs.declared.wait_conditions.session.Release.{Release}
 use Rattle.sc_lockpass.specs.declared.wait_conditions.session.Release.TheVariants as release_at
 use Rattle.sc_model.specs.declared.cause.Cause.{Cause}
-use Rattle.sc_handler.specs.Handlers.{Posted, Answer, HandlerStage, Idle, Runs, HasMade, Reserves, Awaits, Service, Handler, State, new_handler, put, with_stage}
-use Rattle.sc_handler.specs.Changes.{answered, counted_refusal, fallen, is_waited_by, placed, requests_at, session_ended, takes, takes_answer, takes_callback, takes_next, told}
-use Rattle.sc_request.specs.Sessions.{answer_to, fail, finish, given_to, passed_if, passes, release, reserve, return_rights, send, with_handler}
+use Rattle.sc_handler.specs.Handlers.{Posted, Answer, HandlerStage, Idle, Runs, HasMade, Reserves, Awaits, Handler, State, new_handler, put, with_stage}
+use Rattle.sc_handler.specs.Changes.{answered, fallen, is_waited_by, placed, requests_at, session_ended, takes, takes_answer, takes_callback, takes_next, told}
+use Rattle.sc_request.specs.Sessions.{answer_to, fail, finish, passed_if, passes, release, reserve, return_rights, send, with_handler}
 
 -- ---- states
 

@@ -1,7 +1,7 @@
 -- What a mover changes: the turn of another handler does the same before and after it.
-use Rattle.std.proofs.Common.{◌≡◌, ◌∙◌, ◌<◌, ◌≤◌, ◌+◌, ◌==◌, ◌&&◌, ◌||◌, not, ℕ, zero, suc, Bool, true, false, List, [], ◌∷◌, Option, Some, None, length, refl, sym, ap, subst, arith}
+use Rattle.std.proofs.Common.{◌≡◌, ◌∙◌, ◌≤◌, ◌==◌, ◌&&◌, ◌||◌, not, ℕ, Bool, true, false, List, [], ◌∷◌, Option, Some, None, length, refl, sym, ap, arith}
 use Rattle.std.proofs.Math.Path.{fun_ext}
-use Rattle.std.proofs.lemmas.Bool.{cases_eq, eq-eqb, eqb-true, ne_eqb}
+use Rattle.std.proofs.lemmas.Bool.{eqb-true, ne_eqb}
 use Rattle.std.specs.Prelude.{if◌then◌else◌, is_some, nat_lt}
 use Rattle.std.specs.List.{list_all}
 use Rattle.arrayvec.specs.ArrayVec.{ArrayVec}
@@ -22,7 +22,7 @@ use Rattle.sc_handler.specs.Handlers.{Posted, posted, Replied, Refused, HandlerS
 use Rattle.sc_handler.specs.Changes.{counted_refusal, session_ended, takes, takes_answer}
 use Rattle.sc_handler.specs.Fits.{fits_first, is_request_of}
 use Rattle.sc_request.specs.Sessions.{fail, finish, is_callback, passed_if, passes, release, reserve, send, with_handler}
-use Rattle.sc_request.specs.Settling.{are_handlers, asks_of, awaits_if, begun, creates, creates_with, creation, done, done_if, ends, ends_service, made_at, may_ask, may_post_to_all, posts_unheld, sends, settled, waits_again}
+use Rattle.sc_request.specs.Settling.{asks_of, awaits_if, begun, creates, creates_with, creation, done, done_if, ends, ends_service, made_at, may_ask, may_post_to_all, posts_unheld, sends, settled, waits_again}
 use Rattle.sc_movers.proofs.ChangedStates as states
 use Rattle.sc_movers.proofs.ChangedStates.{Apart, Change, Harmless, answer_ended, changed, staged_ended, takes_ended, true_false}
 

@@ -6,6 +6,7 @@ pub mod Ended
 pub mod Failed
 pub mod Kept
 pub mod MoveChanges
+pub mod MoverEnds
 pub mod MoverStates
 pub mod MoverTurns
 pub mod Movers

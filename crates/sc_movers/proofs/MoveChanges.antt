@@ -1,26 +1,28 @@
--- What a mover's turn changes: what its handler stands at, whom it releases, and the queue of a free handler.
-use Rattle.std.proofs.Common.{◌≡◌, ◌∙◌, ◌<◌, ◌≤◌, ◌+◌, ◌==◌, ◌&&◌, ◌||◌, not, ℕ, Bool, true, false, List, Option, Some, None, length, refl, sym, ap, subst, arith}
+-- What a mover's turn changes: what its handler stands at, whom it releases, the queue of a free handler, and whom it answers.
+use Rattle.std.proofs.Common.{◌≡◌, ◌∙◌, ◌<◌, ◌≤◌, ◌==◌, ◌&&◌, ◌||◌, not, ℕ, Bool, true, false, List, Option, Some, None, length, refl, sym, ap, subst, arith}
 use Rattle.std.proofs.lemmas.Bool.{ne_eqb}
 use Rattle.std.specs.Prelude.{if◌then◌else◌, is_some}
 use Rattle.std.specs.Option.{is_none}
 use Rattle.sc_lockpass.specs.Rights.{is_among}
 use Rattle.sc_lockpass.specs.wait_conditions.Reservations.{is_idle, may_be_reserved}
-use Rattle.sc_handler.specs.Changes.{answered, placed, session_ended, told}
-use Rattle.sc_handler.specs.Handlers.{Answer, Posted, Handler, HandlerStage, State, has_frames, has_requests, new_handler, standing_in}
+use Rattle.sc_model.specs.declared.cause.Cause.{Cause}
+use Rattle.sc_handler.specs.Changes.{answered, heard, placed, session_ended, told}
+use Rattle.sc_handler.specs.Handlers.{Answer, Refused, Replied, SupplierFailed, Posted, Handler, HandlerStage, Service, State, has_frames, has_requests, new_handler, standing_in}
 use Rattle.sc_movers.proofs.ChangedStates.{Change, Harmless, true_false}
 use Rattle.sc_movers.proofs.ChangedTurns.{and_left, and_right}
 use Rattle.sc_movers.proofs.ChangedJobs.{Loosens}
 
 -- ---- what is changed
 
--- where the handler stands then, and what its last reserve step was for
+-- where the handler stands then, what its last reserve step was for, and what it serves
 pub record Stand : Type 0 where
   pub stage : HandlerStage
   pub entry : List ℕ
+  pub services : List Service
 
 abbrev pub stands_as : Option Stand → Handler → Handler
 stands_as None x = x
-stands_as (Some o) x = record x { stage = o.stage; entry = o.entry }
+stands_as (Some o) x = record x { stage = o.stage; entry = o.entry; services = o.services }
 
 -- a request at a handler
 pub record Sent : Type 0 where
@@ -39,21 +41,40 @@ abbrev pub is_target : ℕ → Option Sent → Bool
 is_target k None = false
 is_target k (Some q) = k == q.target
 
--- What the handler g changes: it stands so, releases these, which ends a session of each, or none, and sends this.
+-- an answer to a handler
+pub record Heard : Type 0 where
+  pub hearer : ℕ
+  pub answer : Answer
+
+abbrev pub heard_at : ℕ → Option Heard → Option Answer
+heard_at k None = None
+heard_at k (Some q) = if k == q.hearer then Some q.answer else None
+
+abbrev pub hears_as : Option Answer → Handler → Handler
+hears_as None x = x
+hears_as (Some a) x = answered a x
+
+abbrev pub is_hearer : ℕ → Option Heard → Bool
+is_hearer k None = false
+is_hearer k (Some q) = k == q.hearer
+
+-- What the handler g changes: it stands so, releases these, which ends a session of each, or none, sends this, and answers this.
 pub record Move : Type 0 where
   pub stand : Option Stand
   pub ends : Bool
   pub frees : List ℕ
   pub sent : Option Sent
+  pub answers : Option Heard
 
 abbrev pub stand_for : ℕ → ℕ → Option Stand → Option Stand
 stand_for g k o = if k == g then o else None
 
+-- without the answer
+abbrev pub moved_at : ℕ → Move → ℕ → Handler → Handler
+moved_at g m k x = stands_as (stand_for g k m.stand) (session_ended (m.ends && is_among k m.frees) (sent_as (for k m.sent) x))
+
 abbrev pub change : ℕ → Move → Change
-change g m = record {
-  at = λ k x. stands_as (stand_for g k m.stand) (session_ended (m.ends && is_among k m.frees) (sent_as (for k m.sent) x));
-  frees = m.frees;
-}
+change g m = record { at = λ k x. hears_as (heard_at k m.answers) (moved_at g m k x); frees = m.frees }
 
 -- whose queue is closed to others, and over whom no other has the right to post
 abbrev pub is_closed : Move → ℕ → Bool
@@ -62,12 +83,13 @@ is_closed m k = is_target k m.sent
 abbrev pub is_safe : Move → ℕ → Bool
 is_safe m k = is_among k m.frees || is_target k m.sent
 
-abbrev pub nobody : ℕ → Bool
-nobody k = false
+-- whom no other one may answer
+abbrev pub is_spared : Move → ℕ → Bool
+is_spared m k = is_hearer k m.answers
 
 -- ---- it is harmless
 
-ended_so : (o : Option Stand) (d b : Bool) (q : Option Posted) (x : Handler) →
+pub ended_so : (o : Option Stand) (d b : Bool) (q : Option Posted) (x : Handler) →
     session_ended b (stands_as o (session_ended d (sent_as q x))) ≡ stands_as o (session_ended d (sent_as q (session_ended b x)))
 ended_so o d false q x = refl
 ended_so None true true None x = refl
@@ -173,6 +195,57 @@ queue_so None false x = refl
 queue_so (Some s) true x = refl
 queue_so (Some s) false x = refl
 
+-- ---- an answer
+
+told_heard : (a : Answer) (f : Option Cause) (o : Option Answer) → heard SupplierFailed f (heard a f o) ≡ heard a f (heard SupplierFailed f o)
+told_heard a (Some why) o = refl
+told_heard SupplierFailed None o = refl
+told_heard (Replied v) None None = refl
+told_heard (Replied v) None (Some b) = refl
+told_heard Refused None None = refl
+told_heard Refused None (Some b) = refl
+
+hears_ended : (q : Option Answer) (b : Bool) (x : Handler) → session_ended b (hears_as q x) ≡ hears_as q (session_ended b x)
+hears_ended None b x = refl
+hears_ended (Some a) true x = refl
+hears_ended (Some a) false x = refl
+
+hears_told : (q : Option Answer) (b : Bool) (x : Handler) → told b (hears_as q x) ≡ hears_as q (told b x)
+hears_told None b x = refl
+hears_told (Some a) true x = ap (λ (o : Option Answer). record x { answer = o }) (told_heard a x.failure x.answer)
+hears_told (Some a) false x = refl
+
+hears_placed : (q : Option Answer) (b : Bool) (p : Posted) (x : Handler) → placed b p (hears_as q x) ≡ hears_as q (placed b p x)
+hears_placed None b p x = refl
+hears_placed (Some a) true p x = refl
+hears_placed (Some a) false p x = refl
+
+pub hears_failure : (q : Option Answer) (x : Handler) → (hears_as q x).failure ≡ x.failure
+hears_failure None x = refl
+hears_failure (Some a) x = refl
+
+pub hears_refused : (q : Option Answer) (x : Handler) → (hears_as q x).refused ≡ x.refused
+hears_refused None x = refl
+hears_refused (Some a) x = refl
+
+pub hears_stage : (q : Option Answer) (x : Handler) → (hears_as q x).stage ≡ x.stage
+hears_stage None x = refl
+hears_stage (Some a) x = refl
+
+hears_queue : (q : Option Answer) (x : Handler) → (hears_as q x).queue ≡ x.queue
+hears_queue None x = refl
+hears_queue (Some a) x = refl
+
+hears_count : (q : Option Answer) (x : Handler) → (hears_as q x).sessions ≡ x.sessions
+hears_count None x = refl
+hears_count (Some a) x = refl
+
+pub not_hearer : (k : ℕ) (o : Option Heard) → is_hearer k o ≡ false → heard_at k o ≡ None
+not_hearer k None e = refl
+not_hearer k (Some q) e = ap (λ (b : Bool). if b then Some q.answer else None) e
+
+-- ---- the whole
+
 not_target : (k : ℕ) (o : Option Sent) → is_target k o ≡ false → for k o ≡ None
 not_target k None e = refl
 not_target k (Some q) e = ap (λ (b : Bool). if b then Some q.posted else None) e
@@ -189,61 +262,103 @@ or_none : (a b : Bool) → (a || b) ≡ false → a ≡ false
 or_none true b e = true_false e
 or_none false b e = refl
 
--- What is the handler's: over these it has the right to post, and they are there.
+-- What is the handler's: over these it has the right to post, and they are there. So is whom it answers.
 pub record AreIts (g : ℕ) (m : Move) (s : State) : Type 0 where
   pub there : g < s.count
   pub its : (k : ℕ) → is_safe m k ≡ true → s.rights.queue k ≡ Some g
   pub few : (k : ℕ) → is_safe m k ≡ true → k < s.count
+  pub hears : (k : ℕ) → is_hearer k m.answers ≡ true → k < s.count
 
-module _ (g h n : ℕ) (m : Move) (apart : h ≡ g → ⊥) (other : is_target h m.sent ≡ false) (there : g < n) (few : (k : ℕ) → is_safe m k ≡ true → k < n) where
+module _ (g h n : ℕ) (m : Move) (apart : h ≡ g → ⊥) (other : is_target h m.sent ≡ false) (deaf : is_hearer h m.answers ≡ false) (there : g < n)
+    (few : (k : ℕ) → is_safe m k ≡ true → k < n) (hears : (k : ℕ) → is_hearer k m.answers ≡ true → k < n) where
   never : (b : Bool) → (b && false) ≡ false
   never true = refl
   never false = refl
 
-  not_safe : (k : ℕ) → n ≤ k → is_safe m k ≡ false
-  not_safe k past = by (is_safe m k) refl
+  not_past : (P : ℕ → Bool) → ((k : ℕ) → P k ≡ true → k < n) → (k : ℕ) → n ≤ k → P k ≡ false
+  not_past P below k past = by (P k) refl
     where
-      by : (b : Bool) → is_safe m k ≡ b → is_safe m k ≡ false
-      by true e = let less = few k e in absurd (omega (arith, less, past))
+      by : (b : Bool) → P k ≡ b → P k ≡ false
+      by true e = let less = below k e in absurd (omega (arith, less, past))
       by false e = e
+
+  not_safe : (k : ℕ) → n ≤ k → is_safe m k ≡ false
+  not_safe = not_past (is_safe m) few
 
   or_last : (a b : Bool) → (a || b) ≡ false → b ≡ false
   or_last true b e = true_false e
   or_last false b e = e
 
-  pub harmless : Harmless h n (is_safe m) (is_closed m) nobody (change g m)
+  abbrev at : ℕ → Handler → Handler
+  at k x = moved_at g m k x
+
+  abbrev ears : ℕ → Option Answer
+  ears k = heard_at k m.answers
+
+  ended_at : (k : ℕ) (b : Bool) (x : Handler) → session_ended b (at k x) ≡ at k (session_ended b x)
+  ended_at k b x = ended_so (stand_for g k m.stand) (m.ends && is_among k m.frees) b (for k m.sent) x
+
+  told_at : (k : ℕ) (b : Bool) (x : Handler) → told b (at k x) ≡ at k (told b x)
+  told_at k b x = told_so (stand_for g k m.stand) (m.ends && is_among k m.frees) b (for k m.sent) x
+
+  called_at : (k : ℕ) (p : Posted) (x : Handler) → placed true p (at k x) ≡ at k (placed true p x)
+  called_at k p x = called_so (stand_for g k m.stand) (m.ends && is_among k m.frees) (for k m.sent) p x
+
+  posted_at : (k : ℕ) → is_closed m k ≡ false → (p : Posted) (x : Handler) → placed false p (at k x) ≡ at k (placed false p x)
+  posted_at k e p x =
+      subst (λ (q : Option Posted). placed false p (stands_as (stand_for g k m.stand) (session_ended (m.ends && is_among k m.frees) (sent_as q x)))
+      ≡ stands_as (stand_for g k m.stand) (session_ended (m.ends && is_among k m.frees) (sent_as q (placed false p x))))
+      (sym (not_target k m.sent e)) (posted_so (stand_for g k m.stand) (m.ends && is_among k m.frees) p x)
+
+  room_at : (k : ℕ) → is_closed m k ≡ false → (x : Handler) → length (at k x).queue ≡ length x.queue
+  room_at k e x =
+      ap (λ (q : Option Posted). length (stands_as (stand_for g k m.stand) (session_ended (m.ends && is_among k m.frees) (sent_as q x))).queue) (not_target k m.sent e)
+      ∙ room_so (stand_for g k m.stand) (m.ends && is_among k m.frees) x
+
+  answered_at : (k : ℕ) (a : Answer) (x : Handler) → answered a (at k x) ≡ at k (answered a x)
+  answered_at k a x = answered_so (stand_for g k m.stand) (m.ends && is_among k m.frees) (for k m.sent) a x
+
+  own_at : (x : Handler) → at h x ≡ session_ended (m.ends && is_among h m.frees) x
+  own_at x =
+      ap (λ (b : Bool). stands_as (if b then m.stand else None) (session_ended (m.ends && is_among h m.frees) (sent_as (for h m.sent) x))) (ne_eqb h g apart)
+      ∙ ap (λ (q : Option Posted). session_ended (m.ends && is_among h m.frees) (sent_as q x)) (not_target h m.sent other)
+
+  new_at : (k : ℕ) → n ≤ k → at k new_handler ≡ new_handler
+  new_at k past =
+      ap (λ (b : Bool). stands_as (if b then m.stand else None) (session_ended (m.ends && is_among k m.frees) (sent_as (for k m.sent) new_handler)))
+      (ne_eqb k g (λ e. omega (arith, there, past, e)))
+      ∙ ap (λ (q : Option Posted). session_ended (m.ends && is_among k m.frees) (sent_as q new_handler))
+      (not_target k m.sent (or_last (is_among k m.frees) (is_target k m.sent) (not_safe k past)))
+      ∙ ap (λ (b : Bool). session_ended (m.ends && b) new_handler) (or_none (is_among k m.frees) (is_target k m.sent) (not_safe k past))
+      ∙ ap (λ (b : Bool). session_ended b new_handler) (never m.ends)
+
+  -- with the answer
+  pub harmless : Harmless h n (is_safe m) (is_closed m) (is_spared m) (change g m)
   harmless = record {
     over = m.ends && is_among h m.frees;
-    own = λ x.
-        ap (λ (b : Bool). stands_as (if b then m.stand else None) (session_ended (m.ends && is_among h m.frees) (sent_as (for h m.sent) x))) (ne_eqb h g apart)
-        ∙ ap (λ (q : Option Posted). session_ended (m.ends && is_among h m.frees) (sent_as q x)) (not_target h m.sent other);
-    ended = λ k b x. ended_so (stand_for g k m.stand) (m.ends && is_among k m.frees) b (for k m.sent) x;
-    told = λ k b x. told_so (stand_for g k m.stand) (m.ends && is_among k m.frees) b (for k m.sent) x;
-    called = λ k p x. called_so (stand_for g k m.stand) (m.ends && is_among k m.frees) (for k m.sent) p x;
-    posted = λ k e p x.
-        subst (λ (q : Option Posted). placed false p (stands_as (stand_for g k m.stand) (session_ended (m.ends && is_among k m.frees) (sent_as q x)))
-        ≡ stands_as (stand_for g k m.stand) (session_ended (m.ends && is_among k m.frees) (sent_as q (placed false p x))))
-        (sym (not_target k m.sent e)) (posted_so (stand_for g k m.stand) (m.ends && is_among k m.frees) p x);
-    room = λ k e x.
-        ap (λ (q : Option Posted). length (stands_as (stand_for g k m.stand) (session_ended (m.ends && is_among k m.frees) (sent_as q x))).queue) (not_target k m.sent e)
-        ∙ room_so (stand_for g k m.stand) (m.ends && is_among k m.frees) x;
-    answered = λ k e a x. answered_so (stand_for g k m.stand) (m.ends && is_among k m.frees) (for k m.sent) a x;
-    failure = λ k x. failure_so (stand_for g k m.stand) (m.ends && is_among k m.frees) (for k m.sent) x;
+    own = λ x. ap (λ (q : Option Answer). hears_as q (at h x)) (not_hearer h m.answers deaf) ∙ own_at x;
+    ended = λ k b x. hears_ended (ears k) b (at k x) ∙ ap (hears_as (ears k)) (ended_at k b x);
+    told = λ k b x. hears_told (ears k) b (at k x) ∙ ap (hears_as (ears k)) (told_at k b x);
+    called = λ k p x. hears_placed (ears k) true p (at k x) ∙ ap (hears_as (ears k)) (called_at k p x);
+    posted = λ k e p x. hears_placed (ears k) false p (at k x) ∙ ap (hears_as (ears k)) (posted_at k e p x);
+    room = λ k e x. ap (λ (ps : List Posted). length ps) (hears_queue (ears k) (at k x)) ∙ room_at k e x;
+    answered = λ k e a x.
+        ap (λ (q : Option Answer). answered a (hears_as q (at k x))) (not_hearer k m.answers e)
+        ∙ answered_at k a x
+        ∙ ap (λ (q : Option Answer). hears_as q (at k (answered a x))) (sym (not_hearer k m.answers e));
+    failure = λ k x. hears_failure (ears k) (at k x) ∙ failure_so (stand_for g k m.stand) (m.ends && is_among k m.frees) (for k m.sent) x;
     freed = λ k e. or_left (is_among k m.frees) (is_target k m.sent) e;
     shut = λ k e. or_right (is_among k m.frees) (is_target k m.sent) e;
     beyond = λ k past.
-        ap (λ (b : Bool). stands_as (if b then m.stand else None) (session_ended (m.ends && is_among k m.frees) (sent_as (for k m.sent) new_handler)))
-        (ne_eqb k g (λ e. omega (arith, there, past, e)))
-        ∙ ap (λ (q : Option Posted). session_ended (m.ends && is_among k m.frees) (sent_as q new_handler))
-        (not_target k m.sent (or_last (is_among k m.frees) (is_target k m.sent) (not_safe k past)))
-        ∙ ap (λ (b : Bool). session_ended (m.ends && b) new_handler) (or_none (is_among k m.frees) (is_target k m.sent) (not_safe k past))
-        ∙ ap (λ (b : Bool). session_ended b new_handler) (never m.ends);
+        ap (λ (q : Option Answer). hears_as q (at k new_handler)) (not_hearer k m.answers (not_past (λ (i : ℕ). is_hearer i m.answers) hears k past))
+        ∙ new_at k past;
   }
 
   -- counts of others stay
   pub counts_stay : (k : ℕ) → is_safe m k ≡ false → (x : Handler) → ((change g m).at k x).sessions ≡ x.sessions
   counts_stay k e x =
-      ap (λ (b : Bool). (stands_as (stand_for g k m.stand) (session_ended (m.ends && b) (sent_as (for k m.sent) x))).sessions) (or_none (is_among k m.frees) (is_target k m.sent) e)
+      hears_count (ears k) (at k x)
+      ∙ ap (λ (b : Bool). (stands_as (stand_for g k m.stand) (session_ended (m.ends && b) (sent_as (for k m.sent) x))).sessions) (or_none (is_among k m.frees) (is_target k m.sent) e)
       ∙ ap (λ (b : Bool). (stands_as (stand_for g k m.stand) (session_ended b (sent_as (for k m.sent) x))).sessions) (never m.ends)
       ∙ count_so (stand_for g k m.stand) (for k m.sent) x
 
@@ -273,12 +388,17 @@ module _ (g : ℕ) (m : Move) (s : State) (are : AreIts g m s) (running : has_fr
   pub loosens : Loosens (change g m) s
   loosens = record {
     frames = λ k e.
-        ap (λ (b : Bool). has_frames (stands_as (if b then m.stand else None) (session_ended (m.ends && is_among k m.frees) (sent_as (for k m.sent) (s.handlers k)))).stage)
+        ap has_frames (hears_stage (heard_at k m.answers) (moved_at g m k (s.handlers k)))
+        ∙ ap (λ (b : Bool). has_frames (stands_as (if b then m.stand else None) (session_ended (m.ends && is_among k m.frees) (sent_as (for k m.sent) (s.handlers k)))).stage)
         (ne_eqb k g (not_own k e))
         ∙ ap has_frames (stage_so (m.ends && is_among k m.frees) (for k m.sent) (s.handlers k));
     requests = λ k e.
-        ap (λ (q : Option Posted). has_requests (stands_as (stand_for g k m.stand) (session_ended (m.ends && is_among k m.frees) (sent_as q (s.handlers k)))).queue)
+        ap has_requests (hears_queue (heard_at k m.answers) (moved_at g m k (s.handlers k)))
+        ∙ ap (λ (q : Option Posted). has_requests (stands_as (stand_for g k m.stand) (session_ended (m.ends && is_among k m.frees) (sent_as q (s.handlers k)))).queue)
         (not_target k m.sent (not_sent k e))
         ∙ ap has_requests (queue_so (stand_for g k m.stand) (m.ends && is_among k m.frees) (s.handlers k));
-    grows = λ k. grows_so (stand_for g k m.stand) (m.ends && is_among k m.frees) (for k m.sent) (s.handlers k);
+    grows = λ k.
+        let same = hears_count (heard_at k m.answers) (moved_at g m k (s.handlers k)) in
+        let more = grows_so (stand_for g k m.stand) (m.ends && is_among k m.frees) (for k m.sent) (s.handlers k) in
+        omega (arith, same, more);
   }

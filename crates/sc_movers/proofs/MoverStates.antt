@@ -1,8 +1,9 @@
 -- The turn of a mover makes a move, and in the turn of another handler it stays one.
-use Rattle.std.proofs.Common.{◌≡◌, ◌∙◌, ◌⊎◌, inl, inr, ◌<◌, ◌≤◌, ◌==◌, ◌&&◌, ◌||◌, not, ℕ, Bool, true, false, List, [], ◌∷◌, Option, Some, None, length, refl, sym, ap, subst, arith}
+use Rattle.std.proofs.Common.{◌≡◌, ◌∙◌, ◌⊎◌, inl, inr, ◌<◌, ◌==◌, ◌&&◌, ◌||◌, not, ℕ, Bool, true, false, List, [], ◌∷◌, Option, Some, None, length, refl, sym, ap, subst, arith}
 use Rattle.std.proofs.lemmas.Bool.{cases_eq, eq-eqb, eqb-true, lt-ltb, ltb-true, ne_eqb}
 use Rattle.std.specs.Prelude.{if◌then◌else◌, is_some, nat_lt}
-use Rattle.std.specs.List.{list_all, list_any}
+use Rattle.arrayvec.specs.ArrayVec.{ArrayVec}
+use Rattle.std.specs.List.{list_all}
 use Rattle.std.specs.Option.{is_none}
 use Rattle.sc_lockpass.specs.Rights.{Rights, is_among, is_handler}
 use Rattle.sc_lockpass.specs.wait_conditions.Reservations.{is_idle, may_be_reserved, mark_allows, mark_of, may_reserve, reserve_fails}
@@ -15,52 +16,80 @@ use Rattle.sc_region.specs.declared.job.Job.TheVariants as job
 use Rattle.sc_region.specs.declared.job.Request.{Request}
 use Rattle.sc_region.specs.declared.job.Want.{Want}
 use Rattle.sc_region.specs.declared.job.Want.TheVariants.{Continue, Reserve, Post, Ask, Create, Release, Wait, Done, Fail}
-use Rattle.sc_handler.specs.Changes.{placed, session_ended}
+use Rattle.sc_lockpass.specs.declared.wait_conditions.session.Release.TheVariants as release_at
+use Rattle.sc_lockpass.specs.Passing.{Passed}
+use Rattle.sc_region.specs.declared.value.Value.{Value}
+use Rattle.sc_handler.specs.Changes.{answered, counted_refusal, heard, placed, session_ended}
 use Rattle.sc_handler.specs.Fits.{is_request_of}
-use Rattle.sc_handler.specs.Handlers.{Posted, posted, Idle, Runs, HasMade, Reserves, Awaits, Handler, HandlerStage, State, has_frames, has_requests, standing_in, with_stage, Replied, SupplierFailed, Refused, Answer}
+use Rattle.sc_handler.specs.Handlers.{Posted, posted, Idle, Runs, HasMade, Reserves, Awaits, Handler, HandlerStage, Service, State, put, has_frames, has_requests, standing_in, with_stage, Replied, SupplierFailed, Refused, Answer}
 use Rattle.sc_handler.specs.Picking.{job_at, job_awaiting, job_idle, job_of, job_reserving, needs}
-use Rattle.sc_request.specs.Sessions.{fail, is_callback, send}
-use Rattle.sc_request.specs.Settling.{are_handlers, asks_of, awaits_if, done, done_if, may_ask, may_post_to_all, settled}
-use Rattle.sc_refines_world.proofs.OtherStages.{HasJob, OthersStay, has_job}
-use Rattle.sc_movers.specs.Movers.{asks_free, is_free, is_mover}
+use Rattle.sc_request.specs.Sessions.{answer_to, fail, finish, is_callback, release, return_rights, send}
+use Rattle.sc_request.specs.Settling.{are_handlers, asks_of, awaits_if, done, done_if, ends, may_ask, may_post_to_all, settled}
+use Rattle.sc_refines_world.proofs.OtherStages.{OthersStay, has_job}
+use Rattle.sc_movers.specs.Movers.{asks_free, ends_plainly, is_free, is_mover}
 use Rattle.sc_movers.specs.Returned.{IdleHasNoTop}
 use Rattle.sc_movers.proofs.ChangedStates.{changed, same_states, true_false}
 use Rattle.sc_movers.proofs.ChangedTurns.{and_left, and_right, to_another}
 use Rattle.sc_movers.proofs.ChangedJobs.{all_then}
-use Rattle.sc_movers.proofs.ChangedKept.{Stay, all_among}
-use Rattle.sc_movers.proofs.MoveChanges.{AreIts, Move, Sent, Stand, change, is_closed, is_safe, is_target, sent_as, stand_for, stands_as}
+use Rattle.sc_movers.proofs.ChangedKept.{Stay, all_among, is_deaf}
+use Rattle.sc_movers.proofs.MoveChanges.{Heard, Move, Stand, change, ended_so, hears_as, is_closed, is_hearer, is_safe, is_target, moved_at, sent_as, stand_for, stands_as}
 
 abbrev pub counts : State → ℕ → ℕ
 counts s k = (s.handlers k).sessions
 
+abbrev pub deaf : State → ℕ → Bool
+deaf s k = is_deaf (s.handlers k)
+
 -- a move that changes nothing, and one that sends a request, with where its handler stands then
 abbrev no_move : Move
-no_move = record { stand = None; ends = false; frees = []; sent = None }
+no_move = record { stand = None; ends = false; frees = []; sent = None; answers = None }
 
 abbrev sending : Option Stand → Request → Bool → Move
-sending o r waits = record {
+sending o r waits = record no_move {
   stand = o;
-  ends = false;
-  frees = [];
   sent = Some (record { target = r.target.handler; posted = posted (record r { is_waited = waits }) None });
 }
 
--- the move of a mover, if its handler has this entry, and these are the counts of sessions
-abbrev pub move_of : Want → List ℕ → (ℕ → ℕ) → Move
-move_of Continue entry sessions = no_move
-move_of (Reserve ks) entry sessions = record no_move { stand = Some (record { stage = Reserves ks.items []; entry = ks.items }) }
-move_of (Post r) entry sessions = sending None r false
-move_of (Ask r passes) entry sessions = sending (Some (record { stage = Awaits r.target.handler false; entry = entry })) r true
-move_of (Release ks) entry sessions = record { stand = None; ends = true; frees = ks.items; sent = None }
-move_of (Wait ks) entry sessions =
-    record { stand = Some (record { stage = Reserves entry (mark_of sessions ks.items); entry = entry }); ends = false; frees = ks.items; sent = None }
-move_of (Create class procedure actuals passes) entry sessions = no_move
-move_of (Done v ks refused) entry sessions = no_move
-move_of (Fail why) entry sessions = no_move
+-- what is answered as a request ends, and to whom, if some are deaf
+abbrev outcome : Bool → Option Value → Answer
+outcome true v = Refused
+outcome false v = Replied v
+
+abbrev heard_by : Bool → Option ℕ → Answer → (ℕ → Bool) → Option Heard
+heard_by true (Some p) a deafs = if deafs p then None else Some (record { hearer = p; answer = a })
+heard_by waited poster a deafs = None
+
+abbrev heard_end : Answer → List Service → (ℕ → Bool) → Option Heard
+heard_end a [] deafs = None
+heard_end a (e ∷ es) deafs = heard_by e.posted.request.is_waited e.posted.request.poster a deafs
+
+-- where the handler stands then
+abbrev over_as : List ℕ → List Service → Option Stand
+over_as entry [] = None
+over_as entry (e ∷ es) = Some (record { stage = e.over; entry = entry; services = es })
+
+-- the move of a mover, if its handler has this entry and serves these, these are the counts of sessions, and some are deaf
+abbrev pub move_of : Want → List ℕ → List Service → (ℕ → ℕ) → (ℕ → Bool) → Move
+move_of Continue entry services sessions deafs = no_move
+move_of (Reserve ks) entry services sessions deafs = record no_move { stand = Some (record { stage = Reserves ks.items []; entry = ks.items; services = services }) }
+move_of (Post r) entry services sessions deafs = sending None r false
+move_of (Ask r passes) entry services sessions deafs = sending (Some (record { stage = Awaits r.target.handler false; entry = entry; services = services })) r true
+move_of (Release ks) entry services sessions deafs = record no_move { ends = true; frees = ks.items }
+move_of (Wait ks) entry services sessions deafs =
+    record no_move { stand = Some (record { stage = Reserves entry (mark_of sessions ks.items); entry = entry; services = services }); frees = ks.items }
+move_of (Done v ks refused) entry services sessions deafs = record {
+  stand = over_as entry services;
+  ends = true;
+  frees = ks.items;
+  sent = None;
+  answers = heard_end (outcome refused v) services deafs;
+}
+move_of (Create class procedure actuals passes) entry services sessions deafs = no_move
+move_of (Fail why) entry services sessions deafs = no_move
 
 -- the move of the handler in the state
 abbrev pub move_in : ℕ → Want → State → Move
-move_in g w s = move_of w (s.handlers g).entry (counts s)
+move_in g w s = move_of w (s.handlers g).entry (s.handlers g).services (counts s) (deaf s)
 
 -- ---- what is asked of a free handler
 
@@ -210,6 +239,92 @@ module _ (g : ℕ) (s : State) where
             ∙ stand j
             ∙ ap (λ (b : Bool). stands_as (stand_for g j o) (sent_as (if b then Some p else None) (s.handlers j))) (sym (ne_eqb j k apart))
 
+-- ---- the end of a request
+
+-- who is deaf hears nothing of it
+deaf_hears : (refused : Bool) (v : Option Value) (x : Handler) → is_deaf x ≡ true → answered (outcome refused v) x ≡ x
+deaf_hears refused v x e = ap (λ (o : Option Answer). record x { answer = o }) (by refused x.failure x.answer e)
+  where
+    by : (b : Bool) (f : Option Cause) (o : Option Answer) → (is_some f || is_some o) ≡ true → heard (outcome b v) f o ≡ o
+    by true (Some why) o e = refl
+    by false (Some why) o e = refl
+    by true None (Some a) e = refl
+    by false None (Some a) e = refl
+    by b None None e = true_false (sym e)
+
+-- what is moved is as deaf as before
+deaf_so : (o : Option Stand) (d : Bool) (q : Option Posted) (x : Handler) → is_deaf (stands_as o (session_ended d (sent_as q x))) ≡ is_deaf x
+deaf_so None true None x = refl
+deaf_so None false None x = refl
+deaf_so None true (Some p) x = refl
+deaf_so None false (Some p) x = refl
+deaf_so (Some s) true None x = refl
+deaf_so (Some s) false None x = refl
+deaf_so (Some s) true (Some p) x = refl
+deaf_so (Some s) false (Some p) x = refl
+
+no_passed : (o : Option Passed) → is_none o ≡ true → o ≡ None
+no_passed None e = refl
+no_passed (Some p) e = true_false (sym e)
+
+waited_if : (w : Bool) → (false || w) ≡ true → w ≡ true
+waited_if w e = e
+
+-- Its handler stands over this, releases these, and answers who waits, if it isn't deaf.
+module _ (g : ℕ) (s : State) (o : Stand) (ks : List ℕ) (refused : Bool) (v : Option Value) where
+  abbrev over : Option Heard → Move
+  over q = record { stand = Some o; ends = true; frees = ks; sent = None; answers = q }
+
+  -- it stands so in this state
+  module _ (u : State) (count : u.count ≡ s.count) (queue : (k : ℕ) → u.rights.queue k ≡ (if is_among k ks then None else s.rights.queue k))
+      (top : (k : ℕ) → u.rights.top k ≡ s.rights.top k) (stand : (k : ℕ) → u.handlers k ≡ moved_at g (over None) k (s.handlers k)) where
+    abbrev a : Answer
+    a = outcome refused v
+
+    answers_it : (waited : Bool) (poster : Option ℕ) → answer_to waited poster a u ≡ changed (change g (over (heard_by waited poster a (deaf s)))) s
+    answers_it false poster = same_states u (changed (change g (over None)) s) count stand queue top
+    answers_it true None = same_states u (changed (change g (over None)) s) count stand queue top
+    answers_it true (Some p) = by (deaf s p) refl
+      where
+        hears : Bool → Option Heard
+        hears b = if b then None else Some (record { hearer = p; answer = a })
+
+        deaf_there : deaf s p ≡ true → answered a (u.handlers p) ≡ u.handlers p
+        deaf_there e =
+            deaf_hears refused v (u.handlers p)
+            (ap is_deaf (stand p) ∙ deaf_so (stand_for g p (Some o)) (true && is_among p ks) None (s.handlers p) ∙ e)
+
+        put_so : (k : ℕ) → (k ≡ p) ⊎ (k ≡ p → ⊥) → answered a (u.handlers p) ≡ u.handlers p → (if k == p then answered a (u.handlers p) else u.handlers k) ≡ u.handlers k
+        put_so k (inl same) e =
+            ap (λ (b : Bool). if b then answered a (u.handlers p) else u.handlers k) (eq-eqb k p same) ∙ e ∙ ap u.handlers (sym same)
+        put_so k (inr other) e = ap (λ (b : Bool). if b then answered a (u.handlers p) else u.handlers k) (ne_eqb k p other)
+
+        put_heard : (k : ℕ) → (k ≡ p) ⊎ (k ≡ p → ⊥) →
+            (if k == p then answered a (u.handlers p) else u.handlers k) ≡ hears_as (if k == p then Some a else None) (moved_at g (over None) k (s.handlers k))
+        put_heard k (inl same) =
+            ap (λ (b : Bool). if b then answered a (u.handlers p) else u.handlers k) (eq-eqb k p same)
+            ∙ ap (λ (i : ℕ). answered a (u.handlers i)) (sym same) ∙ ap (answered a) (stand k)
+            ∙ ap (λ (b : Bool). hears_as (if b then Some a else None) (moved_at g (over None) k (s.handlers k))) (sym (eq-eqb k p same))
+        put_heard k (inr other) =
+            ap (λ (b : Bool). if b then answered a (u.handlers p) else u.handlers k) (ne_eqb k p other) ∙ stand k
+            ∙ ap (λ (b : Bool). hears_as (if b then Some a else None) (moved_at g (over None) k (s.handlers k))) (sym (ne_eqb k p other))
+
+        by : (b : Bool) → deaf s p ≡ b → put p (answered a (u.handlers p)) u ≡ changed (change g (over (hears (deaf s p)))) s
+        by true e =
+            same_states (put p (answered a (u.handlers p)) u) u refl (λ k. put_so k (cases_eq k p) (deaf_there e)) (λ k. refl) (λ k. refl)
+            ∙ same_states u (changed (change g (over None)) s) count stand queue top
+            ∙ ap (λ (b : Bool). changed (change g (over (hears b))) s) (sym e)
+        by false e =
+            same_states (put p (answered a (u.handlers p)) u) (changed (change g (over (hears false))) s) count (λ k. put_heard k (cases_eq k p)) queue top
+            ∙ ap (λ (b : Bool). changed (change g (over (hears b))) s) (sym e)
+
+  -- it is so once the request is over
+  over_stands : (y : Handler) → y ≡ stands_as (Some o) (s.handlers g) → (k : ℕ) →
+      session_ended (is_among k ks) (if k == g then y else s.handlers k) ≡ moved_at g (over None) k (s.handlers k)
+  over_stands y same k =
+      ap (session_ended (is_among k ks)) (stands_so g s o y k (k == g) refl same)
+      ∙ ended_so (stand_for g k (Some o)) false (is_among k ks) None (s.handlers k)
+
 -- ---- the move of a mover
 
 module _ (g : ℕ) (s : State) (running : (s.handlers g).stage ≡ Runs) (tops : IdleHasNoTop s) where
@@ -220,12 +335,52 @@ module _ (g : ℕ) (s : State) (running : (s.handlers g).stage ≡ Runs) (tops :
   stand_at : (o : Stand) (y : Handler) → y ≡ stands_as (Some o) (s.handlers g) → (k : ℕ) → (if k == g then y else s.handlers k) ≡ stands_as (stand_for g k (Some o)) (s.handlers k)
   stand_at o y same k = stands_so g s o y k (k == g) refl same
 
+  -- the request that was taken last ends
+  ends_so : (v : Option Value) (ks : List ℕ) (refused : Bool) (vs : List Service) → ends_plainly refused vs ≡ true →
+      ends g v ks refused vs s
+      ≡ changed (change g (record {
+        stand = over_as (s.handlers g).entry vs;
+        ends = true;
+        frees = ks;
+        sent = None;
+        answers = heard_end (outcome refused v) vs (deaf s);
+      })) s
+  ends_so v ks refused [] e = true_false (sym e)
+  ends_so v ks refused (e ∷ es) plainly = by refused plainly
+    where
+      x : Handler
+      x = record (s.handlers g) { stage = e.over; services = es }
+
+      o : Stand
+      o = record { stage = e.over; entry = (s.handlers g).entry; services = es }
+
+      exited : State
+      exited = release release_at.Exit ks (put g x s)
+
+      refusing : State
+      refusing = release release_at.Refusal ks (put g x s)
+
+      Ends : Bool → Type 0
+      Ends b = ends g v ks b (e ∷ es) s ≡ changed (change g (over g s o ks b v (heard_by e.posted.request.is_waited e.posted.request.poster (outcome b v) (deaf s)))) s
+
+      by : (b : Bool) → (is_none e.posted.passed && (not b || e.posted.request.is_waited)) ≡ true → Ends b
+      by false plainly =
+          let none = no_passed e.posted.passed (and_left (is_none e.posted.passed) true plainly) in
+          ap (λ (q : Option Passed). answer_to e.posted.request.is_waited e.posted.request.poster (Replied v) (return_rights q exited)) none
+          ∙ answers_it g s o ks false v exited refl (λ k. refl) (λ k. refl) (over_stands g s o ks false v x refl) e.posted.request.is_waited e.posted.request.poster
+      by true plainly =
+          let none = no_passed e.posted.passed (and_left (is_none e.posted.passed) e.posted.request.is_waited plainly) in
+          let heard = and_right (is_none e.posted.passed) e.posted.request.is_waited plainly in
+          ap (λ (b : Bool). finish e.posted Refused (release release_at.Refusal ks (put g (counted_refusal b x) s))) heard
+          ∙ ap (λ (q : Option Passed). answer_to e.posted.request.is_waited e.posted.request.poster Refused (return_rights q refusing)) none
+          ∙ answers_it g s o ks true v refusing refl (λ k. refl) (λ k. refl) (over_stands g s o ks true v x refl) e.posted.request.is_waited e.posted.request.poster
+
   pub mover_moves : (most : ℕ) (w : Want) → is_mover g w s ≡ true → settled most g job.Go 1 w s ≡ changed (change g (move_in g w s)) s
   mover_moves most Continue e = same_states s (changed (change g no_move) s) refl plain (λ k. refl) (λ k. refl)
   mover_moves most (Reserve ks) e =
       if_done g s false (are_handlers ks.items s) most (Reserve ks) refl e
       ∙ same_states _ (changed (change g (move_in g (Reserve ks) s)) s) refl
-      (stand_at (record { stage = Reserves ks.items []; entry = ks.items }) (record (s.handlers g) { stage = Reserves ks.items []; entry = ks.items }) refl) (λ k. refl) (λ k. refl)
+      (stand_at (record { stage = Reserves ks.items []; entry = ks.items; services = (s.handlers g).services }) (record (s.handlers g) { stage = Reserves ks.items []; entry = ks.items }) refl) (λ k. refl) (λ k. refl)
   mover_moves most (Post r) e =
       let may = and_left (may_ask g (Post r) s) (asks_free g r.target.handler s) e in
       let its = and_right (may_ask g (Post r) s) (asks_free g r.target.handler s) e in
@@ -236,7 +391,7 @@ module _ (g : ℕ) (s : State) (running : (s.handlers g).stage ≡ Runs) (tops :
   mover_moves most (Ask r false) e =
       let may = and_left (may_ask g (Ask r false) s) (asks_free g r.target.handler s) e in
       let its = and_right (may_ask g (Ask r false) s) (asks_free g r.target.handler s) e in
-      let o : Stand = record { stage = Awaits r.target.handler false; entry = (s.handlers g).entry } in
+      let o : Stand = record { stage = Awaits r.target.handler false; entry = (s.handlers g).entry; services = (s.handlers g).services } in
       if_done g s _ (may_ask g (Ask r false) s) most (Ask r false) (unheld g s r true may its tops) may
       ∙ sends_it g s r true may its tops
       ∙ sent_so g s r true may its tops (Some o) (with_stage g (Awaits r.target.handler false) s) refl refl
@@ -249,9 +404,11 @@ module _ (g : ℕ) (s : State) (running : (s.handlers g).stage ≡ Runs) (tops :
       let now : HandlerStage = Reserves (s.handlers g).entry (mark_of (counts s) ks.items) in
       if_done g s false (may_post_to_all g ks.items s) most (Wait ks) refl e
       ∙ same_states _ (changed (change g (move_in g (Wait ks) s)) s) refl
-      (stand_at (record { stage = now; entry = (s.handlers g).entry }) (record (s.handlers g) { stage = now }) refl) (λ k. refl) (λ k. refl)
+      (stand_at (record { stage = now; entry = (s.handlers g).entry; services = (s.handlers g).services }) (record (s.handlers g) { stage = now }) refl) (λ k. refl) (λ k. refl)
   mover_moves most (Create class procedure actuals passes) e = true_false (sym e)
-  mover_moves most (Done v ks refused) e = true_false (sym e)
+  mover_moves most (Done v ks refused) e =
+      if_done g s false (may_post_to_all g ks.items s) most (Done v ks refused) refl (and_left (may_post_to_all g ks.items s) (ends_plainly refused (s.handlers g).services) e)
+      ∙ ends_so v ks.items refused (s.handlers g).services (and_right (may_post_to_all g ks.items s) (ends_plainly refused (s.handlers g).services) e)
   mover_moves most (Fail why) e = true_false (sym e)
 
 -- ---- what is safe is its own
@@ -276,7 +433,9 @@ are_own g (Post r) s e k i = asked_its g s k r.target.handler (and_right (may_as
 are_own g (Ask r true) s e k i = true_false (sym e)
 are_own g (Ask r false) s e k i = asked_its g s k r.target.handler (and_right (may_ask g (Ask r false) s) (asks_free g r.target.handler s) e) i
 are_own g (Create class procedure actuals passes) s e k i = true_false (sym e)
-are_own g (Done v ks refused) s e k i = true_false (sym e)
+are_own g (Done v ks refused) s e k i =
+    handler_is g (s.rights.queue k) (all_among (λ (j : ℕ). is_handler g (s.rights.queue j)) ks.items k
+    (and_left (may_post_to_all g ks.items s) (ends_plainly refused (s.handlers g).services) e) (only_first (is_among k ks.items) i))
 are_own g (Fail why) s e k i = true_false (sym e)
 
 -- the target is free, so another handler with something to do isn't it
@@ -293,7 +452,7 @@ target_is g (Reserve ks) s e k i = true_false (sym i)
 target_is g (Release ks) s e k i = true_false (sym i)
 target_is g (Wait ks) s e k i = true_false (sym i)
 target_is g (Create class procedure actuals passes) s e k i = true_false (sym e)
-target_is g (Done v ks refused) s e k i = true_false (sym e)
+target_is g (Done v ks refused) s e k i = true_false (sym i)
 target_is g (Fail why) s e k i = true_false (sym e)
 
 pub other_is : (g : ℕ) (w : Want) (s : State) → is_mover g w s ≡ true → (h : ℕ) (j : Job) → job_of h s ≡ Some j → is_target h (move_in g w s).sent ≡ false
@@ -340,7 +499,7 @@ same_marks (k ∷ ks) m n same =
 first_safe : (k : ℕ) (ks : List ℕ) → is_among k ks ≡ true → (is_among k ks || false) ≡ true
 first_safe k ks e = ap (λ (b : Bool). b || false) e
 
-module _ (g h : ℕ) (w : Want) (s t : State) (same : Stay g (is_safe (move_in g w s)) (is_closed (move_in g w s)) s t) (others : OthersStay h s t)
+module _ (g h : ℕ) (w : Want) (s t : State) (same : Stay g h (is_safe (move_in g w s)) (is_closed (move_in g w s)) s t) (others : OthersStay h s t)
     (other : is_target h (move_in g w s).sent ≡ false) (few : (k : ℕ) → is_safe (move_in g w s) k ≡ true → k < s.count) where
   -- the target is still free, and its own
   asks_still : (k : ℕ) → is_safe (move_in g w s) k ≡ true → is_target k (move_in g w s).sent ≡ true → asks_free g k s ≡ true → asks_free g k t ≡ true
@@ -358,7 +517,7 @@ module _ (g h : ℕ) (w : Want) (s t : State) (same : Stay g (is_safe (move_in g
   pub still_mover : is_mover g w s ≡ true → is_mover g w t ≡ true
   still_mover = by w same asks_still
     where
-      by : (v : Want) → Stay g (is_safe (move_in g v s)) (is_closed (move_in g v s)) s t →
+      by : (v : Want) → Stay g h (is_safe (move_in g v s)) (is_closed (move_in g v s)) s t →
           ((k : ℕ) → is_safe (move_in g v s) k ≡ true → is_target k (move_in g v s).sent ≡ true → asks_free g k s ≡ true → asks_free g k t ≡ true) →
           is_mover g v s ≡ true → is_mover g v t ≡ true
       by Continue st asks e = refl
@@ -379,20 +538,26 @@ module _ (g h : ℕ) (w : Want) (s t : State) (same : Stay g (is_safe (move_in g
       by (Wait ks) st asks e =
           same_tests (λ (k : ℕ). is_handler g (s.rights.queue k)) (λ (k : ℕ). is_handler g (t.rights.queue k)) ks.items (λ k i. ap (is_handler g) (st.queue k (first_safe k ks.items i))) ∙ e
       by (Create class procedure actuals passes) st asks e = true_false (sym e)
-      by (Done v ks refused) st asks e = true_false (sym e)
+      by (Done v ks refused) st asks e =
+          ap (λ (vs : List Service). may_post_to_all g ks.items t && ends_plainly refused vs) st.own.0
+          ∙ ap (λ (b : Bool). b && ends_plainly refused (s.handlers g).services)
+          (same_tests (λ (k : ℕ). is_handler g (s.rights.queue k)) (λ (k : ℕ). is_handler g (t.rights.queue k)) ks.items (λ k i. ap (is_handler g) (st.queue k (first_safe k ks.items i))))
+          ∙ e
       by (Fail why) st asks e = true_false (sym e)
 
-  -- its move is the same
-  pub same_move : move_in g w t ≡ move_in g w s
-  same_move = by w same
+  -- its move is the same, but that who got deaf meanwhile doesn't hear the answer
+  pub same_move : move_in g w t ≡ move_of w (s.handlers g).entry (s.handlers g).services (counts s) (deaf t)
+  same_move = ap (λ (es : List ℕ). move_of w es (t.handlers g).services (counts t) (deaf t)) same.own.1
+      ∙ ap (λ (vs : List Service). move_of w (s.handlers g).entry vs (counts t) (deaf t)) same.own.0
+      ∙ by w same
     where
-      by : (v : Want) → Stay g (is_safe (move_in g v s)) (is_closed (move_in g v s)) s t → move_in g v t ≡ move_in g v s
+      by : (v : Want) → Stay g h (is_safe (move_in g v s)) (is_closed (move_in g v s)) s t →
+          move_of v (s.handlers g).entry (s.handlers g).services (counts t) (deaf t) ≡ move_of v (s.handlers g).entry (s.handlers g).services (counts s) (deaf t)
       by (Wait ks) st =
-          ap (λ (es : List ℕ). move_of (Wait ks) es (counts t)) st.own.1
-          ∙ ap (λ (m : List Marked). let o : Stand = record { stage = Reserves (s.handlers g).entry m; entry = (s.handlers g).entry } in
-          let v : Move = record { stand = Some o; ends = false; frees = ks.items; sent = None } in v)
+          ap (λ (m : List Marked). let o : Stand = record { stage = Reserves (s.handlers g).entry m; entry = (s.handlers g).entry; services = (s.handlers g).services } in
+          let v : Move = record no_move { stand = Some o; frees = ks.items } in v)
           (same_marks ks.items (counts s) (counts t) (λ k i. st.sessions k (first_safe k ks.items i)))
-      by (Ask r passes) st = ap (λ (es : List ℕ). move_of (Ask r passes) es (counts s)) st.own.1
+      by (Ask r passes) st = refl
       by Continue st = refl
       by (Release ks) st = refl
       by (Reserve ks) st = refl
@@ -400,6 +565,101 @@ module _ (g h : ℕ) (w : Want) (s t : State) (same : Stay g (is_safe (move_in g
       by (Create class procedure actuals passes) st = refl
       by (Done v ks refused) st = refl
       by (Fail why) st = refl
+
+-- p waits for the end of the request that the handler took last, which it asks for
+pub record WaitsFor (g : ℕ) (w : Want) (s : State) (p : ℕ) : Type 0 where
+  pub value : Option Value
+  pub released : ArrayVec ℕ
+  pub refused : Bool
+  pub first : Service
+  pub rest : List Service
+  pub ends : w ≡ Done value released refused
+  pub services : (s.handlers g).services ≡ first ∷ rest
+  pub waited : first.posted.request.is_waited ≡ true
+  pub poster : first.posted.request.poster ≡ Some p
+
+-- Who got deaf meanwhile is as it is without the answer.
+module _ (g : ℕ) (s t : State) where
+  module _ (o : Option Stand) (ks : List ℕ) (refused : Bool) (v : Option Value) where
+    abbrev said : Answer
+    said = outcome refused v
+
+    abbrev ending : Option Heard → Move
+    ending q = record { stand = o; ends = true; frees = ks; sent = None; answers = q }
+
+    same_heard : (waited : Bool) (poster : Option ℕ) → ((p : ℕ) → waited ≡ true → poster ≡ Some p → deaf s p ≡ true → deaf t p ≡ true) →
+        changed (change g (ending (heard_by waited poster said (deaf t)))) t ≡ changed (change g (ending (heard_by waited poster said (deaf s)))) t
+    same_heard false poster stays = refl
+    same_heard true None stays = refl
+    same_heard true (Some p) stays = by (deaf s p) (deaf t p) refl refl
+      where
+        hears : Bool → Option Heard
+        hears b = if b then None else Some (record { hearer = p; answer = said })
+
+        none_heard : deaf t p ≡ true → (k : ℕ) → (k ≡ p) ⊎ (k ≡ p → ⊥) →
+            moved_at g (ending None) k (t.handlers k) ≡ hears_as (if k == p then Some said else None) (moved_at g (ending None) k (t.handlers k))
+        none_heard e k (inl same) =
+            sym (deaf_hears refused v (moved_at g (ending None) k (t.handlers k))
+            (deaf_so (stand_for g k o) (true && is_among k ks) None (t.handlers k) ∙ ap (deaf t) same ∙ e))
+            ∙ ap (λ (b : Bool). hears_as (if b then Some said else None) (moved_at g (ending None) k (t.handlers k))) (sym (eq-eqb k p same))
+        none_heard e k (inr other) =
+            ap (λ (b : Bool). hears_as (if b then Some said else None) (moved_at g (ending None) k (t.handlers k))) (sym (ne_eqb k p other))
+
+        by : (b c : Bool) → deaf s p ≡ b → deaf t p ≡ c → changed (change g (ending (hears (deaf t p)))) t ≡ changed (change g (ending (hears (deaf s p)))) t
+        by true c e f = ap (λ (b : Bool). changed (change g (ending (hears b))) t) (stays p refl refl e ∙ sym e)
+        by false false e f = ap (λ (b : Bool). changed (change g (ending (hears b))) t) (f ∙ sym e)
+        by false true e f =
+            ap (λ (b : Bool). changed (change g (ending (hears b))) t) f
+            ∙ same_states (changed (change g (ending None)) t) (changed (change g (ending (hears false))) t) refl (λ k. none_heard f k (cases_eq k p)) (λ k. refl) (λ k. refl)
+            ∙ ap (λ (b : Bool). changed (change g (ending (hears b))) t) (sym e)
+
+  pub same_changed : (w : Want) → ((p : ℕ) → WaitsFor g w s p → deaf s p ≡ true → deaf t p ≡ true) →
+      changed (change g (move_of w (s.handlers g).entry (s.handlers g).services (counts s) (deaf t))) t ≡ changed (change g (move_in g w s)) t
+  same_changed (Done v ks refused) stays = by (s.handlers g).services refl
+    where
+      by : (vs : List Service) → (s.handlers g).services ≡ vs →
+          changed (change g (move_of (Done v ks refused) (s.handlers g).entry vs (counts s) (deaf t))) t
+          ≡ changed (change g (move_of (Done v ks refused) (s.handlers g).entry vs (counts s) (deaf s))) t
+      by [] is = refl
+      by (e ∷ es) is =
+          same_heard (Some (record { stage = e.over; entry = (s.handlers g).entry; services = es })) ks.items refused v e.posted.request.is_waited e.posted.request.poster
+          (λ p waited poster. stays p (record { value = v; released = ks; refused = refused; first = e; rest = es; ends = refl; services = is; waited = waited; poster = poster }))
+  same_changed (Wait ks) stays = refl
+  same_changed (Ask r passes) stays = refl
+  same_changed Continue stays = refl
+  same_changed (Release ks) stays = refl
+  same_changed (Reserve ks) stays = refl
+  same_changed (Post r) stays = refl
+  same_changed (Create class procedure actuals passes) stays = refl
+  same_changed (Fail why) stays = refl
+
+-- who is to hear the answer waits for it, and isn't deaf
+hearer_by : (waited : Bool) (poster : Option ℕ) (a : Answer) (deafs : ℕ → Bool) (k : ℕ) → is_hearer k (heard_by waited poster a deafs) ≡ true →
+    (waited ≡ true) × (poster ≡ Some k) × (deafs k ≡ false)
+hearer_by true (Some p) a deafs k i = by (deafs p) refl i
+  where
+    by : (b : Bool) → deafs p ≡ b → is_hearer k (if b then None else Some (record { hearer = p; answer = a })) ≡ true → (true ≡ true) × (Some p ≡ Some k) × (deafs k ≡ false)
+    by true e i = true_false (sym i)
+    by false e i = let same = eqb-true k p i in (refl, ap (λ (m : ℕ). Some m) (sym same), ap deafs same ∙ e)
+hearer_by true None a deafs k i = true_false (sym i)
+hearer_by false poster a deafs k i = true_false (sym i)
+
+pub hearer_waits : (g : ℕ) (w : Want) (s : State) (k : ℕ) → is_hearer k (move_in g w s).answers ≡ true → WaitsFor g w s k × (deaf s k ≡ false)
+hearer_waits g (Done v ks refused) s k i = by (s.handlers g).services refl i
+  where
+    by : (vs : List Service) → (s.handlers g).services ≡ vs → is_hearer k (heard_end (outcome refused v) vs (deaf s)) ≡ true → WaitsFor g (Done v ks refused) s k × (deaf s k ≡ false)
+    by [] is i = true_false (sym i)
+    by (e ∷ es) is i =
+        let so = hearer_by e.posted.request.is_waited e.posted.request.poster (outcome refused v) (deaf s) k i in
+        (record { value = v; released = ks; refused = refused; first = e; rest = es; ends = refl; services = is; waited = so.0; poster = so.1 }, so.2)
+hearer_waits g (Wait ks) s k i = true_false (sym i)
+hearer_waits g (Ask r passes) s k i = true_false (sym i)
+hearer_waits g Continue s k i = true_false (sym i)
+hearer_waits g (Release ks) s k i = true_false (sym i)
+hearer_waits g (Reserve ks) s k i = true_false (sym i)
+hearer_waits g (Post r) s k i = true_false (sym i)
+hearer_waits g (Create class procedure actuals passes) s k i = true_false (sym i)
+hearer_waits g (Fail why) s k i = true_false (sym i)
 
 -- ---- what another one reserves is nobody's
 

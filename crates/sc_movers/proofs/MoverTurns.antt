@@ -1,17 +1,17 @@
 -- The turn of a mover and that of another handler commute.
-use Rattle.std.proofs.Common.{◌≡◌, ◌∙◌, ◌⊎◌, inl, inr, ◌<◌, ◌≤◌, ℕ, zero, suc, Bool, true, false, List, [], ◌∷◌, Option, Some, None, refl, sym, ap, subst, arith}
-use Rattle.std.specs.Prelude.{if◌then◌else◌, is_some, slice_get, slice_set}
-use Rattle.std.proofs.lemmas.Bool.{cases_lt, ne_eqb}
+use Rattle.std.proofs.Common.{◌≡◌, ◌∙◌, ◌⊎◌, inl, inr, ◌≤◌, ℕ, zero, suc, Bool, true, false, List, [], ◌∷◌, Option, Some, None, refl, sym, ap, subst, arith}
+use Rattle.std.specs.Prelude.{if◌then◌else◌, slice_get, slice_set}
+use Rattle.std.proofs.lemmas.Bool.{cases_eq, cases_lt, ne_eqb}
 use Rattle.std.proofs.lemmas.List.{set_comm}
 use Rattle.arrayvec.specs.ArrayVec.{ArrayVec}
-use Rattle.sc_lockpass.specs.Rights.{Rights, is_among, is_handler}
+use Rattle.sc_lockpass.specs.Rights.{is_among, is_handler}
 use Rattle.sc_lockpass.specs.Passing.{Passed}
 use Rattle.sc_region.specs.declared.value.Value.{Value}
 use Rattle.sc_region.specs.declared.job.Job.{Job}
 use Rattle.sc_region.specs.declared.job.Job.TheVariants as job
 use Rattle.sc_region.specs.declared.job.Want.{Want}
 use Rattle.sc_region.specs.declared.job.Want.TheVariants as want
-use Rattle.sc_handler.specs.Handlers.{Awaits, Handler, Runs, Service, State, has_frames}
+use Rattle.sc_handler.specs.Handlers.{Runs, Service, State, has_frames}
 use Rattle.sc_handler.specs.Canonical.{canon}
 use Rattle.sc_handler.specs.Fits.{fits_first}
 use Rattle.sc_handler.specs.Picking.{job_of}
@@ -24,13 +24,14 @@ use Rattle.sc_world.specs.Turning.{Makes}
 use Rattle.sc_world.specs.Worlds.{PlainWorld}
 use Rattle.sc_refines_world.proofs.OtherStages.{OthersStay, go_runs, going_stays, has_job, job_there, others_stay}
 use Rattle.sc_movers.specs.Movers.{IsMoverTurn, is_mover}
-use Rattle.sc_movers.specs.Returned.{IdleHasNoTop, ReturnsOwn}
+use Rattle.sc_movers.specs.Returned.{IdleHasNoTop, ReturnsOwn, UnlentWait, waits_unlent}
 use Rattle.sc_movers.proofs.ChangedJobs.{job_changed}
-use Rattle.sc_movers.proofs.ChangedKept.{Stay, rights_stay_only, settled_stays, stay, stay_then}
+use Rattle.sc_movers.proofs.ChangedKept.{Stay, is_deaf, rights_stay_only, settled_stays, stay, stay_then}
 use Rattle.sc_movers.proofs.ChangedStates.{Apart, Harmless, changed, reserved_changed, true_false}
 use Rattle.sc_movers.proofs.ChangedTurns.{Beside, settled_changed}
-use Rattle.sc_movers.proofs.MoveChanges.{AreIts, Move, change, counts_stay, harmless, is_closed, is_safe, is_target, loosens, nobody}
-use Rattle.sc_movers.proofs.MoverStates.{are_own, granted_free, move_in, mover_moves, other_is, same_move, still_mover}
+use Rattle.sc_movers.proofs.MoveChanges.{AreIts, Move, change, counts_stay, harmless, is_closed, is_hearer, is_safe, is_spared, is_target, loosens}
+use Rattle.sc_movers.proofs.MoverEnds.{IsOpen, open_is, other_hears, own_deaf, unlent_there}
+use Rattle.sc_movers.proofs.MoverStates.{WaitsFor, are_own, deaf, granted_free, hearer_waits, move_in, mover_moves, other_is, same_changed, same_move, still_mover}
 
 -- ---- one turn
 
@@ -77,7 +78,7 @@ same_turn h j x y u m region = record {
 
 -- ---- what is known of the turn of another handler
 
-module _ (g : ℕ) (m : Move) (h : ℕ) (apart : h ≡ g → ⊥) (s : State) (are : AreIts g m s) where
+module _ (g : ℕ) (m : Move) (h : ℕ) (apart : h ≡ g → ⊥) (s : State) (are : AreIts g m s) (hearing : (k : ℕ) → is_hearer k m.answers ≡ true → IsOpen k s × (waits_unlent k g s ≡ true)) where
   -- what it reserves is nobody's, so it is none of these
   none_granted : (ls : ArrayVec ℕ) → job_of h s ≡ Some (job.Granted ls) → (k : ℕ) → is_safe m k ≡ true → is_among k ls.items ≡ false
   none_granted ls due k e = by (is_among k ls.items) refl
@@ -103,22 +104,33 @@ module _ (g : ℕ) (m : Move) (h : ℕ) (apart : h ≡ g → ⊥) (s : State) (a
       by None i = i
       by (Some o) i = true_false (sym e ∙ not_mine k (mine k o i))
 
+  -- whom it answers waits for no answer of g
+  none_answered : (j : Job) (w : Want) → ReturnsOwn h j w s → fits_first (s.handlers h).stage j w ≡ true → (v : Option Value) (ls : ArrayVec ℕ) (refused : Bool) → w ≡ want.Done v ls refused →
+      (e : Service) (es : List Service) → ((begun h j s).handlers h).services ≡ e ∷ es → (k : ℕ) → e.posted.request.is_waited ≡ true → e.posted.request.poster ≡ Some k → is_spared m k ≡ false
+  none_answered j w r fits v ls refused is e es first k waited poster = by (is_spared m k) refl
+    where
+      by : (b : Bool) → is_spared m k ≡ b → is_spared m k ≡ false
+      by true i =
+          let so = hearing k i in
+          absurd (apart (r.answers fits v ls refused is e es first k waited poster so.0.alive so.0.unanswered g so.1))
+      by false i = i
+
   -- the state in which it is picked
   abbrev pick : Job → State
   pick j = record s { rights = granted h j s.rights }
 
-  plain : (j : Job) (w : Want) → ((ls : ArrayVec ℕ) → j ≡ job.Granted ls → ⊥) → ReturnsOwn h j w s → Beside h (is_safe m) nobody j w s
+  plain : (j : Job) (w : Want) → ((ls : ArrayVec ℕ) → j ≡ job.Granted ls → ⊥) → ReturnsOwn h j w s → Beside h (is_safe m) (is_spared m) j w s
   plain j w never r = record {
     granted = λ ls e. absurd (never ls e);
     made = λ i k c at e. not_mine i (r.made i k c at e);
     returns = λ fits v ls refused is e es first p passed. none_listed p (r.returns fits v ls refused is e es first p passed);
-    answers = λ fits v ls refused is e es first k waited poster. refl;
+    answers = none_answered j w r;
   }
 
   granted_same : (ls ms : ArrayVec ℕ) → job.Granted ls ≡ job.Granted ms → ls ≡ ms
   granted_same ls ms e = cc
 
-  beside : (j : Job) (w : Want) → job_of h s ≡ Some j → ReturnsOwn h j w s → Beside h (is_safe m) nobody j w (pick j)
+  beside : (j : Job) (w : Want) → job_of h s ≡ Some j → ReturnsOwn h j w s → Beside h (is_safe m) (is_spared m) j w (pick j)
   beside (job.Take q) w due r = plain (job.Take q) w (λ ls e. cc) r
   beside (job.Reply v) w due r = plain (job.Reply v) w (λ ls e. cc) r
   beside job.Failed w due r = plain job.Failed w (λ ls e. cc) r
@@ -129,7 +141,7 @@ module _ (g : ℕ) (m : Move) (h : ℕ) (apart : h ≡ g → ⊥) (s : State) (a
     granted = λ ms e k i. subst (λ (ns : ArrayVec ℕ). is_among k ns.items ≡ false) (granted_same ls ms e) (none_granted ls due k i);
     made = λ i k c at e. cc;
     returns = λ fits v ms refused is e es first p passed. true_false (sym (ap (fits_first (s.handlers h).stage (job.Granted ls)) (sym is) ∙ fits));
-    answers = λ fits v ms refused is e es first k waited poster. refl;
+    answers = λ fits v ms refused is e es first k waited poster. true_false (sym (ap (fits_first (s.handlers h).stage (job.Granted ls)) (sym is) ∙ fits));
   }
 
   apart_from : Apart h (is_safe m) s
@@ -147,12 +159,12 @@ module _ (g : ℕ) (m : Move) (h : ℕ) (apart : h ≡ g → ⊥) (s : State) (a
   picked_apart (job.Made k) due = apart_from
   picked_apart job.Go due = apart_from
 
-  module _ (other : is_target h m.sent ≡ false) where
-    abbrev harm : Harmless h s.count (is_safe m) (is_closed m) nobody (change g m)
-    harm = harmless g h s.count m apart other are.there are.few
+  module _ (other : is_target h m.sent ≡ false) (unheard : is_hearer h m.answers ≡ false) where
+    abbrev harm : Harmless h s.count (is_safe m) (is_closed m) (is_spared m) (change g m)
+    harm = harmless g h s.count m apart other unheard are.there are.few are.hears
 
     picked_changed : (j : Job) → job_of h s ≡ Some j → let t : State = changed (change g m) s in let u : State = record t { rights = granted h j t.rights } in u ≡ changed (change g m) (pick j)
-    picked_changed (job.Granted ls) due = reserved_changed h s.count (is_safe m) (is_closed m) nobody (change g m) harm ls.items s (none_granted ls due)
+    picked_changed (job.Granted ls) due = reserved_changed h s.count (is_safe m) (is_closed m) (is_spared m) (change g m) harm ls.items s (none_granted ls due)
     picked_changed (job.Take q) due = refl
     picked_changed (job.Reply v) due = refl
     picked_changed job.Failed due = refl
@@ -160,16 +172,16 @@ module _ (g : ℕ) (m : Move) (h : ℕ) (apart : h ≡ g → ⊥) (s : State) (a
     picked_changed (job.Made k) due = refl
     picked_changed job.Go due = refl
 
-    picked_stays : (j : Job) → job_of h s ≡ Some j → Stay g (is_safe m) (is_closed m) s (pick j)
+    picked_stays : (j : Job) → job_of h s ≡ Some j → Stay g h (is_safe m) (is_closed m) s (pick j)
     picked_stays (job.Granted ls) due =
-        rights_stay_only g h s.count (is_safe m) (is_closed m) nobody apart are.there other harm.shut s (pick (job.Granted ls)) refl refl
+        rights_stay_only g h s.count (is_safe m) (is_closed m) (is_spared m) apart are.there other harm.shut s (pick (job.Granted ls)) refl refl
         (λ k e. ap (λ (b : Bool). if b then Some h else s.rights.queue k) (none_granted ls due k e))
-    picked_stays (job.Take q) due = stay g h s.count (is_safe m) (is_closed m) nobody apart are.there other harm.shut s
-    picked_stays (job.Reply v) due = stay g h s.count (is_safe m) (is_closed m) nobody apart are.there other harm.shut s
-    picked_stays job.Failed due = stay g h s.count (is_safe m) (is_closed m) nobody apart are.there other harm.shut s
-    picked_stays job.Refused due = stay g h s.count (is_safe m) (is_closed m) nobody apart are.there other harm.shut s
-    picked_stays (job.Made k) due = stay g h s.count (is_safe m) (is_closed m) nobody apart are.there other harm.shut s
-    picked_stays job.Go due = stay g h s.count (is_safe m) (is_closed m) nobody apart are.there other harm.shut s
+    picked_stays (job.Take q) due = stay g h s.count (is_safe m) (is_closed m) (is_spared m) apart are.there other harm.shut s
+    picked_stays (job.Reply v) due = stay g h s.count (is_safe m) (is_closed m) (is_spared m) apart are.there other harm.shut s
+    picked_stays job.Failed due = stay g h s.count (is_safe m) (is_closed m) (is_spared m) apart are.there other harm.shut s
+    picked_stays job.Refused due = stay g h s.count (is_safe m) (is_closed m) (is_spared m) apart are.there other harm.shut s
+    picked_stays (job.Made k) due = stay g h s.count (is_safe m) (is_closed m) (is_spared m) apart are.there other harm.shut s
+    picked_stays job.Go due = stay g h s.count (is_safe m) (is_closed m) (is_spared m) apart are.there other harm.shut s
 
 -- ---- a mover meets another turn
 
@@ -201,7 +213,13 @@ module _ (g : ℕ) (x moved : PlainWorld) (own : IsMoverTurn g x moved) where
   state_moved tops =
       ap (λ (c : Center). c.state) own.makes.settles.center ∙ mover_moves g before (running_at g before own.goes) tops x.most its own.moves
 
-  module _ (counted : (k : ℕ) → before.count ≤ k → before.rights.queue k ≡ None) where
+  -- whom it answers waits for that, and hears it
+  pub hearing : UnlentWait before → (k : ℕ) → is_hearer k move.answers ≡ true → IsOpen k before × (waits_unlent k g before ≡ true)
+  hearing unlent k e =
+      let so = hearer_waits g its before k e in
+      (open_is k before so.1, unlent_there g its before own.moves k so.0)
+
+  module _ (counted : (k : ℕ) → before.count ≤ k → before.rights.queue k ≡ None) (unlent : UnlentWait before) where
     pub are_its : AreIts g move before
     are_its = record {
       there = (has_job g before job.Go own.goes).there;
@@ -210,10 +228,11 @@ module _ (g : ℕ) (x moved : PlainWorld) (own : IsMoverTurn g x moved) where
         | inl few ↦ few
         | inr past ↦ let no : Some g ≡ None = sym (are_own g its before own.moves k e) ∙ counted k past in cc
       ];
+      hears = λ k e. (unlent k g (hearing unlent k e).1).0;
     }
 
 module _ (g h : ℕ) (differ : g ≡ h → ⊥) (j : Job) (x moved : PlainWorld) (own : IsMoverTurn g x moved) (are : AreIts g (move g x moved own) x.center.state)
-    (tops : IdleHasNoTop x.center.state) (due : job_of h x.center.state ≡ Some j) where
+    (tops : IdleHasNoTop x.center.state) (unlent : UnlentWait x.center.state) (due : job_of h x.center.state ≡ Some j) where
   apart : h ≡ g → ⊥
   apart e = differ (sym e)
 
@@ -232,8 +251,14 @@ module _ (g h : ℕ) (differ : g ≡ h → ⊥) (j : Job) (x moved : PlainWorld)
   not_target : is_target h m.sent ≡ false
   not_target = other_is g w s own.moves h j due
 
-  abbrev harmed : Harmless h s.count (is_safe m) (is_closed m) nobody (change g m)
-  harmed = harmless g h s.count m apart not_target are.there are.few
+  not_heard : is_hearer h m.answers ≡ false
+  not_heard = other_hears g w s own.moves unlent h j due
+
+  abbrev hears : (k : ℕ) → is_hearer k m.answers ≡ true → IsOpen k s × (waits_unlent k g s ≡ true)
+  hears = hearing g x moved own unlent
+
+  abbrev harmed : Harmless h s.count (is_safe m) (is_closed m) (is_spared m) (change g m)
+  harmed = harmless g h s.count m apart not_target not_heard are.there are.few are.hears
 
   others_region : slice_get moved.regions h ≡ slice_get x.regions h
   others_region = ap (λ (rs : List PlainRegion). slice_get rs h) own.makes.regions ∙ get_set_other x.regions g h own.makes.after differ
@@ -242,7 +267,7 @@ module _ (g h : ℕ) (differ : g ≡ h → ⊥) (j : Job) (x moved : PlainWorld)
   pub same_due : job_of h moved.center.state ≡ Some j
   same_due =
       ap (job_of h) (state_moved g x moved own tops)
-      ∙ job_changed h s.count (is_safe m) (is_closed m) nobody (change g m) harmed s (apart_from g m h apart s are)
+      ∙ job_changed h s.count (is_safe m) (is_closed m) (is_spared m) (change g m) harmed s (apart_from g m h apart s are hears)
       (loosens g m s are (ap has_frames (running_at g s own.goes))) j due
 
   module _ (other : PlainWorld) (makes : Makes 1 h j 1 x other) (returns : ReturnsOwn h j makes.settles.outcome.want x.center.state) where
@@ -253,10 +278,10 @@ module _ (g h : ℕ) (differ : g ≡ h → ⊥) (j : Job) (x moved : PlainWorld)
     p = record s { rights = granted h j s.rights }
 
     its_apart : Apart h (is_safe m) p
-    its_apart = picked_apart g m h apart s are j due
+    its_apart = picked_apart g m h apart s are hears j due
 
-    its_beside : Beside h (is_safe m) nobody j asks p
-    its_beside = beside g m h apart s are j asks due returns
+    its_beside : Beside h (is_safe m) (is_spared m) j asks p
+    its_beside = beside g m h apart s are hears j asks due returns
 
     other_state : other.center.state ≡ settled x.most h j 1 asks p
     other_state = ap (λ (c : Center). c.state) makes.settles.center
@@ -266,18 +291,18 @@ module _ (g h : ℕ) (differ : g ≡ h → ⊥) (j : Job) (x moved : PlainWorld)
     state_after =
         ap (λ (t : State). settled moved.most h j 1 asks (record t { rights = granted h j t.rights })) (state_moved g x moved own tops)
         ∙ ap (λ (i : ℕ). let t : State = f s in settled i h j 1 asks (record t { rights = granted h j t.rights })) own.makes.most
-        ∙ ap (settled x.most h j 1 asks) (picked_changed g m h apart s are not_target j due)
-        ∙ settled_changed h s.count (is_safe m) (is_closed m) nobody (change g m) harmed (counts_stay g h s.count m apart not_target are.there are.few)
+        ∙ ap (settled x.most h j 1 asks) (picked_changed g m h apart s are hears not_target not_heard j due)
+        ∙ settled_changed h s.count (is_safe m) (is_closed m) (is_spared m) (change g m) harmed (counts_stay g h s.count m apart not_target not_heard are.there are.few are.hears)
         x.most j asks p (omega arith) its_apart its_beside
         ∙ ap f (sym other_state)
 
     -- what is to be changed stays so in the other's turn
-    stays : Stay g (is_safe m) (is_closed m) s other.center.state
+    stays : Stay g h (is_safe m) (is_closed m) s other.center.state
     stays =
-        subst (Stay g (is_safe m) (is_closed m) s) (sym other_state)
-        (stay_then g h s.count (is_safe m) (is_closed m) nobody apart are.there not_target harmed.shut s p (settled x.most h j 1 asks p)
-        (picked_stays g m h apart s are not_target j due)
-        (settled_stays g h s.count (is_safe m) (is_closed m) nobody apart are.there not_target harmed.shut x.most j asks p its_apart (omega arith) its_beside))
+        subst (Stay g h (is_safe m) (is_closed m) s) (sym other_state)
+        (stay_then g h s.count (is_safe m) (is_closed m) (is_spared m) apart are.there not_target harmed.shut s p (settled x.most h j 1 asks p)
+        (picked_stays g m h apart s are hears not_target not_heard j due)
+        (settled_stays g h s.count (is_safe m) (is_closed m) (is_spared m) apart are.there not_target harmed.shut x.most j asks p its_apart (omega arith) its_beside))
 
     others : OthersStay h s other.center.state
     others =
@@ -312,12 +337,28 @@ module _ (g h : ℕ) (differ : g ≡ h → ⊥) (j : Job) (x moved : PlainWorld)
       moves = ap (λ (a : Want). is_mover g a other.center.state) own_after.wants ∙ still_moves;
     }
 
+    -- who waits for the end of the mover's request, and is deaf, stays so
+    deaf_stays : (k : ℕ) → WaitsFor g w s k → deaf s k ≡ true → deaf other.center.state k ≡ true
+    deaf_stays k waits e = by (cases_eq k h)
+      where
+        lent : waits_unlent k g s ≡ true
+        lent = unlent_there g w s own.moves k waits
+
+        by : (k ≡ h) ⊎ (k ≡ h → ⊥) → deaf other.center.state k ≡ true
+        by (inl same) =
+            let is_due : job_of k s ≡ Some j = ap (λ (i : ℕ). job_of i s) same ∙ due in
+            ap (λ (t : State). deaf t k) other_state
+            ∙ ap (λ (i : ℕ). is_deaf ((settled x.most i j 1 asks p).handlers k)) (sym same)
+            ∙ own_deaf x.most k g asks s p j ((unlent k g lent).1 (has_job k s j is_due).stands) is_due
+        by (inr differs) = stays.deaf k (unlent k g lent).0 differs e
+
     module _ (tops_there : IdleHasNoTop other.center.state) where
       own_state : own_after.world.center.state ≡ f other.center.state
       own_state =
           own_after.state
           ∙ mover_moves g other.center.state (running_at g other.center.state still_goes) tops_there other.most w still_moves
           ∙ ap (λ (v : Move). changed (change g v) other.center.state) (same_move g h w s other.center.state stays others not_target are.few)
+          ∙ same_changed g s other.center.state w deaf_stays
 
       pub both_kept : kept own_after.world ≡ kept after_own.world
       both_kept = same_kept own_after.world after_own.world (own_state ∙ sym after_state) (

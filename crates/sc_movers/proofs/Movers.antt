@@ -1,5 +1,5 @@
 -- Movers are movers: their turns commute with those of others.
-use Rattle.std.proofs.Common.{◌≡◌, ◌∙◌, ◌&&◌, ℕ, Bool, true, false, List, Option, Some, None, refl, sym, ap}
+use Rattle.std.proofs.Common.{◌≡◌, ◌∙◌, ◌&&◌, ℕ, Bool, true, false, Option, Some, None, refl, sym, ap}
 use Rattle.std.specs.Prelude.{if◌then◌else◌, is_some}
 use Rattle.std.proofs.Math.Path.{fun_ext}
 use Rattle.std.proofs.lemmas.Bool.{ne_eqb}
@@ -7,10 +7,9 @@ use Rattle.sc_lockpass.specs.declared.version.Version.{Version}
 use Rattle.sc_code.specs.declared.program.Image.{Image}
 use Rattle.sc_region.specs.declared.job.Job.{Job}
 use Rattle.sc_region.specs.declared.job.Job.TheVariants as job
-use Rattle.sc_region.specs.declared.job.Want.{Want}
 use Rattle.sc_lockpass.specs.Rights.{is_among}
 use Rattle.sc_handler.specs.Changes.{session_ended}
-use Rattle.sc_handler.specs.Handlers.{HandlerStage, State}
+use Rattle.sc_handler.specs.Handlers.{State}
 use Rattle.sc_handler.specs.Canonical.{canon}
 use Rattle.sc_handler.specs.Picking.{job_of}
 use Rattle.sc_play.specs.Contents.{Contents, contents_at}
@@ -21,12 +20,12 @@ use Rattle.sc_world.specs.Worlds.{PlainWorld}
 use Rattle.sc_refines_world.specs.Anew.{IsPlayed}
 use Rattle.sc_refines_world.specs.Functional.{RunsAreFunctional}
 use Rattle.sc_movers.specs.Kept.{IsReached, Turn, has_failed, has_turn, never, some_below}
-use Rattle.sc_movers.specs.Movers.{IsMover, IsMoverTurn, Movers, StaysSeen, TurnsAreMovers}
-use Rattle.sc_movers.specs.Returned.{AllReturnOwn, IdleHasNoTop, IdleHaveNoTops, NoIdleIsPushed, ReturnsAreOwn, ReturnsOwn}
+use Rattle.sc_movers.specs.Movers.{IsMover, IsMoverTurn, StaysSeen, TurnsAreMovers}
+use Rattle.sc_movers.specs.Returned.{AllReturnOwn, AllUnlentWait, IdleHasNoTop, IdleHaveNoTops, NoIdleIsPushed, ReturnsAreOwn, ReturnsOwn, UnlentWait, UnlentWaits}
 use Rattle.sc_movers.proofs.ChangedStates.{changed, true_false}
 use Rattle.sc_movers.proofs.Kept.{Goes, Idles, TurnCases, cases_turn, is_of, job_is, kept_machine, out_none, plays_on, turn_from, turn_of_job, whole_machine}
-use Rattle.sc_movers.proofs.MoveChanges.{AreIts, Move, change, failure_so, for, refused_so, sent_as, stage_so, stand_for, stands_as}
-use Rattle.sc_movers.proofs.MoverTurns.{after_own, after_state, are_its, before_own, both_kept, its, move, own_after, own_there, same_due, state_moved}
+use Rattle.sc_movers.proofs.MoveChanges.{AreIts, Move, change, failure_so, for, heard_at, hears_failure, hears_refused, hears_stage, moved_at, refused_so, sent_as, stage_so, stand_for, stands_as}
+use Rattle.sc_movers.proofs.MoverTurns.{after_own, after_state, are_its, before_own, both_kept, move, own_after, own_there, same_due, state_moved}
 
 -- ---- movers
 
@@ -38,7 +37,7 @@ some_job : (o : Option Job) → is_some o ≡ true → (j : Job) × (o ≡ Some 
 some_job None e = true_false (sym e)
 some_job (Some j) e = (j, refl)
 
-module _ (turn_alike : KeptAlikeTurnAlike) (open_of : OpeningsAreOf) (stay : RunsStayOf) (p : Image) (v : Version) (returned : ReturnsAreOwn p v) (idle_tops : IdleHaveNoTops p v)
+module _ (turn_alike : KeptAlikeTurnAlike) (open_of : OpeningsAreOf) (stay : RunsStayOf) (p : Image) (v : Version) (returned : ReturnsAreOwn p v) (idle_tops : IdleHaveNoTops p v) (unlent_wait : UnlentWaits p v)
     (one : (h : ℕ) (k l m : PlainKept) → Turn p v h k l → Turn p v h k m → l ≡ m) (bad : PlainKept → Bool)
     (by_state : (k l : PlainKept) → k.state ≡ l.state → bad k ≡ bad l)
     (by_changed : (g : ℕ) (m : Move) (s : State) (c : ℕ → Contents) →
@@ -65,7 +64,7 @@ module _ (turn_alike : KeptAlikeTurnAlike) (open_of : OpeningsAreOf) (stay : Run
   has g k r good o = ap is_some (sym (job_is turn_alike open_of stay p v g k o.before o.kept_is) ∙ o.own.goes)
 
   are : (g : ℕ) (k : PlainKept) → (o : IsMover p v g k) → AreIts g (move g o.before o.after o.own) o.before.center.state
-  are g k o = are_its g o.before o.after o.own (is_of turn_alike open_of stay p v o.before o.played).counted.rights
+  are g k o = are_its g o.before o.after o.own (is_of turn_alike open_of stay p v o.before o.played).counted.rights (unlent_wait o.before o.played)
 
   module _ (g h : ℕ) (k moved : PlainKept) (meet : Meets g h k moved) where
     abbrev o : IsMover p v g k
@@ -76,6 +75,9 @@ module _ (turn_alike : KeptAlikeTurnAlike) (open_of : OpeningsAreOf) (stay : Run
 
     abbrev tops : IdleHasNoTop o.before.center.state
     tops = idle_tops o.before o.played
+
+    abbrev unlent : UnlentWait o.before.center.state
+    unlent = unlent_wait o.before o.played
 
     played_moved : IsPlayed p v o.after
     played_moved = own_played g k o
@@ -89,7 +91,7 @@ module _ (turn_alike : KeptAlikeTurnAlike) (open_of : OpeningsAreOf) (stay : Run
 
     -- it has it after the mover's turn, too
     still_due : (j : Job) → job_of h o.before.center.state ≡ Some j → job_of h o.after.center.state ≡ Some j
-    still_due j due = same_due g h meet.differ j o.before o.after o.own own_are tops due
+    still_due j due = same_due g h meet.differ j o.before o.after o.own own_are tops unlent due
 
     leaves : has_turn h moved ≡ true
     leaves = ap is_some (sym (job_is turn_alike open_of stay p v h moved o.after kept_moved) ∙ still_due due_there.0 due_there.1)
@@ -119,9 +121,9 @@ module _ (turn_alike : KeptAlikeTurnAlike) (open_of : OpeningsAreOf) (stay : Run
     commutes other t =
         let there = other_turn other t in
         let known = its_own other there in
-        let last = after_own g h meet.differ there.job o.before o.after o.own own_are tops there.due there.world there.makes known in
-        let own = own_after g h meet.differ there.job o.before o.after o.own own_are tops there.due there.world there.makes known in
-        let is_own = own_there g h meet.differ there.job o.before o.after o.own own_are tops there.due there.world there.makes known in
+        let last = after_own g h meet.differ there.job o.before o.after o.own own_are tops unlent there.due there.world there.makes known in
+        let own = own_after g h meet.differ there.job o.before o.after o.own own_are tops unlent there.due there.world there.makes known in
+        let is_own = own_there g h meet.differ there.job o.before o.after o.own own_are tops unlent there.due there.world there.makes known in
         let played_other = plays_on turn_alike open_of stay p v h o.before there.world o.played there.turn in
         let mover : IsMover p v g other = record { before = there.world; after = own.world; played = played_other; kept_is = there.kept_is; own = is_own } in
         record {
@@ -134,7 +136,7 @@ module _ (turn_alike : KeptAlikeTurnAlike) (open_of : OpeningsAreOf) (stay : Run
             played = played_moved;
             kept_before = kept_moved;
             turn = turn_of_job h there.job o.after last.world (out_none turn_alike open_of stay p v h o.after played_moved) (still_due there.job there.due) last.makes;
-            kept_after = sym (both_kept g h meet.differ there.job o.before o.after o.own own_are tops there.due there.world there.makes known (idle_tops there.world played_other));
+            kept_after = sym (both_kept g h meet.differ there.job o.before o.after o.own own_are tops unlent there.due there.world there.makes known (idle_tops there.world played_other));
           };
         }
 
@@ -142,8 +144,8 @@ module _ (turn_alike : KeptAlikeTurnAlike) (open_of : OpeningsAreOf) (stay : Run
     shows other t is_bad =
         let there = other_turn other t in
         let known = its_own other there in
-        let last = after_own g h meet.differ there.job o.before o.after o.own own_are tops there.due there.world there.makes known in
-        let state = after_state g h meet.differ there.job o.before o.after o.own own_are tops there.due there.world there.makes known in
+        let last = after_own g h meet.differ there.job o.before o.after o.own own_are tops unlent there.due there.world there.makes known in
+        let state = after_state g h meet.differ there.job o.before o.after o.own own_are tops unlent there.due there.world there.makes known in
         let m : Move = move g o.before o.after o.own in
         let after : PlainKept = record { state = canon (changed (change g m) there.world.center.state); regions = contents_at there.world.regions } in
         record {
@@ -171,7 +173,7 @@ module _ (turn_alike : KeptAlikeTurnAlike) (open_of : OpeningsAreOf) (stay : Run
         by y (Idles none is) = let no : Some due_there.0 ≡ None = sym (still_due due_there.0 due_there.1) ∙ none in cc
         by y (Goes j due makes) =
             let was = due_there.1 ∙ sym (still_due due_there.0 due_there.1) ∙ due in
-            let first = before_own g h meet.differ j o.before o.after o.own own_are tops was y makes in (
+            let first = before_own g h meet.differ j o.before o.after o.own own_are tops unlent was y makes in (
               kept first.world,
               record {
                 before = o.before;
@@ -201,10 +203,15 @@ seen g x y tops own =
     let t : State = x.center.state in
     record {
       count = ap (λ (s : State). s.count) same;
-      failure = λ k. ap (λ (s : State). (s.handlers k).failure) same ∙ failure_so (stand_for g k m.stand) (m.ends && is_among k m.frees) (for k m.sent) (t.handlers k);
-      refused = λ k. ap (λ (s : State). (s.handlers k).refused) same ∙ refused_so (stand_for g k m.stand) (m.ends && is_among k m.frees) (for k m.sent) (t.handlers k);
+      failure = λ k.
+          ap (λ (s : State). (s.handlers k).failure) same ∙ hears_failure (heard_at k m.answers) (moved_at g m k (t.handlers k))
+          ∙ failure_so (stand_for g k m.stand) (m.ends && is_among k m.frees) (for k m.sent) (t.handlers k);
+      refused = λ k.
+          ap (λ (s : State). (s.handlers k).refused) same ∙ hears_refused (heard_at k m.answers) (moved_at g m k (t.handlers k))
+          ∙ refused_so (stand_for g k m.stand) (m.ends && is_among k m.frees) (for k m.sent) (t.handlers k);
       others = λ k apart.
           ap (λ (s : State). (s.handlers k).stage) same
+          ∙ hears_stage (heard_at k m.answers) (moved_at g m k (t.handlers k))
           ∙ ap (λ (b : Bool). (stands_as (if b then m.stand else None) (session_ended (m.ends && is_among k m.frees) (sent_as (for k m.sent) (t.handlers k)))).stage) (ne_eqb k g apart)
           ∙ stage_so (m.ends && is_among k m.frees) (for k m.sent) (t.handlers k);
     }
@@ -215,20 +222,21 @@ failed_by_state k l e = ap (λ (s : State). some_below s.count (λ h. is_some (s
 failed_by_change : (g : ℕ) (m : Move) (s : State) (c : ℕ → Contents) →
     has_failed (record { state = canon (changed (change g m) s); regions = c }) ≡ has_failed (record { state = canon s; regions = c })
 failed_by_change g m s c =
-    ap (some_below s.count) (fun_ext (λ (k : ℕ). ap is_some (failure_so (stand_for g k m.stand) (m.ends && is_among k m.frees) (for k m.sent) (s.handlers k))))
+    ap (some_below s.count) (fun_ext (λ (k : ℕ). ap is_some (hears_failure (heard_at k m.answers) (moved_at g m k (s.handlers k)) ∙ failure_so (stand_for g k m.stand) (m.ends && is_among k m.frees) (for k m.sent) (s.handlers k))))
 
-pub turns_are_movers : KeptAlikeTurnAlike → OpeningsAreOf → RunsStayOf → RunsAreFunctional → AllReturnOwn → NoIdleIsPushed → TurnsAreMovers
-turns_are_movers turn_alike open_of stay one_run return_own idle_pushed s root faultless well p v program fits =
+pub turns_are_movers : KeptAlikeTurnAlike → OpeningsAreOf → RunsStayOf → RunsAreFunctional → AllReturnOwn → NoIdleIsPushed → AllUnlentWait → TurnsAreMovers
+turns_are_movers turn_alike open_of stay one_run return_own idle_pushed unlent_wait s root faultless well p v program fits =
     let machine = kept_machine turn_alike open_of stay p v s root one_run faultless well program fits in
     let whole = whole_machine turn_alike open_of stay p v s root one_run faultless well program fits in
     let returned = return_own s root faultless well p v program fits in
     let tops = idle_pushed s root faultless well p v program fits in
+    let unlent = unlent_wait s root faultless well p v program fits in
     record {
       machine = machine;
-      movers = are_movers turn_alike open_of stay p v returned tops machine.one has_failed failed_by_state failed_by_change;
+      movers = are_movers turn_alike open_of stay p v returned tops unlent machine.one has_failed failed_by_state failed_by_change;
       whole_machine = whole;
-      movers_anywhere = are_movers turn_alike open_of stay p v returned tops machine.one never (λ k l e. refl) (λ g m s c. refl);
-      played = own_played turn_alike open_of stay p v returned tops machine.one never (λ k l e. refl) (λ g m s c. refl);
-      turn = own_turn turn_alike open_of stay p v returned tops machine.one never (λ k l e. refl) (λ g m s c. refl);
+      movers_anywhere = are_movers turn_alike open_of stay p v returned tops unlent machine.one never (λ k l e. refl) (λ g m s c. refl);
+      played = own_played turn_alike open_of stay p v returned tops unlent machine.one never (λ k l e. refl) (λ g m s c. refl);
+      turn = own_turn turn_alike open_of stay p v returned tops unlent machine.one never (λ k l e. refl) (λ g m s c. refl);
       stays = λ g k m. seen g m.before m.after (tops m.before m.played) m.own;
     }

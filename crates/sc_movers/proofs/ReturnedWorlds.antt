@@ -1,5 +1,5 @@
--- What a handler gives back is its own, and nobody may push on an idle handler, in each world that turns lead to from the opening of
--- a program.
+-- What a handler gives back is its own, nobody may push on an idle handler, and who waits for a request with which it passed nothing
+-- hears nothing, in each world that turns lead to from the opening of a program.
 use Rattle.std.proofs.Common.{◌≡◌, ◌∙◌, ◌<◌, ℕ, Bool, List, [], Some, false, refl, sym, ap, subst, arith}
 use Rattle.sc_tree.specs.Plain.{System}
 use Rattle.sc_class.specs.ClassNames.{Root}
@@ -18,13 +18,13 @@ use Rattle.sc_code.specs.RequestRoom.{FitsRequests}
 use Rattle.sc_region.specs.Stores.{PlainStore, new_store}
 use Rattle.sc_region.specs.declared.job.Job.{Job}
 use Rattle.sc_region.specs.declared.job.Want.{Want}
-use Rattle.sc_handler.specs.Handlers.{Idle, State}
+use Rattle.sc_handler.specs.Handlers.{State}
 use Rattle.sc_handler.specs.Picking.{job_of}
 use Rattle.sc_request.specs.Asked.{Numbering, asked}
 use Rattle.sc_request.specs.Halves.{IsHalfOf, IsTop}
 use Rattle.sc_request.specs.Laws.{PicksWhereTurns}
 use Rattle.sc_play.specs.Turns.{FirstTurn, Turns, first, more}
-use Rattle.sc_machine_laws.specs.RequestLaws.{IdleHasNoTop}
+use Rattle.sc_machine_laws.specs.RequestLaws.{BeyondIsUnused, EndsTheOne, IdleHasNoTop, NoCallback}
 use Rattle.sc_machine_laws.specs.SettledObjects.{SettledMeetWhereReached}
 use Rattle.sc_machine_laws.specs.settlements.Reached.{EntriesAreRemembered, HalvesWhereReached}
 use Rattle.sc_world.specs.Turning.{Makes, Runs}
@@ -43,8 +43,8 @@ use Rattle.sc_refines_world.proofs.RefinedRuns.{core, remembered, start}
 use Rattle.sc_refines_world.proofs.RequestNames.{are_named}
 use Rattle.sc_refines_world.proofs.WorldTurns.{Beside, CreatedAreNew, HalvesMeet, OthersKeep, RegionsAskSo, RegionsFollow, SettledMeet, StoresTurn, TurnsEndThere, along}
 use Rattle.sc_refines_world.proofs.Worlds.{Needs, Placed, stores_turn}
-use Rattle.sc_movers.specs.Returned.{AllReturnOwn, NoIdleIsPushed}
-use Rattle.sc_movers.proofs.Ended.{idle_empty, returns_own}
+use Rattle.sc_movers.specs.Returned.{AllReturnOwn, AllUnlentWait, NoIdleIsPushed}
+use Rattle.sc_movers.proofs.Ended.{idle_empty, returns_own, unlent_wait}
 
 turns_some : (h : ℕ) (b : Bool) (j : Job) (x : PlainStore) (n : ℕ) (y : PlainStore) (w : Want) → Turns h b j x n y w → 0 < n
 turns_some h b j x _ _ _ (first {y} {w} t) = omega arith
@@ -136,13 +136,13 @@ module _ (functional : FirstTurnsAreFunctional) (keeps : FirstTurnsKeepExact) (p
           (meet h j w c own.0.half reached (omega (arith, there, half.count)) half is_job b.named own.0.is_half) in
           turned.1 ∙ asks h w c own.0.half j reached half all_named own.0.is_half is_job now_settled
 
-  pub all_return_own : AllReturnOwn
-  all_return_own s root faultless well p v program fits h j x y played is_job m =
+  pub all_return_own : EndsTheOne → AllReturnOwn
+  all_return_own one s root faultless well p v program fits h j x y played is_job m =
       let hs = played.0 in
       let w : machine.World = run (most_handlers v) s hs (opening s root) in
       let reached : IsReached (most_handlers v) s root w = record { numbers = hs; run_is = refl } in
       let b = stands s root faultless well p v program fits hs x played.1 in
-      returns_own (most_handlers v) s root w reached (numbering_by (names_in p)) x.center.state b.1 h j m.settles.outcome.want is_job
+      returns_own (most_handlers v) s root w reached (numbering_by (names_in p)) x.center.state b.1 h one j m.settles.outcome.want is_job
       (want_is s root faultless well p v program fits h w x y j reached b.1 b.0 is_job m)
 
   -- A handler that has no frames has none in the machine either, so nobody may push there.
@@ -155,3 +155,10 @@ module _ (functional : FirstTurnsAreFunctional) (keeps : FirstTurnsKeepExact) (p
       ap (λ (r : Rights). r.top k) half.rights
       ∙ tops (most_handlers v) s root w (record { numbers = hs; run_is = refl }) k (sym of.failure ∙ alive)
       (idle_empty (w.handlers k).stack (subst (IsTop (w.handlers k).stack) idle of.stage))
+
+  pub all_unlent_wait : NoCallback → BeyondIsUnused → AllUnlentWait
+  all_unlent_wait no_callback beyond s root faultless well p v program fits x played =
+      let hs = played.0 in
+      let w : machine.World = run (most_handlers v) s hs (opening s root) in
+      unlent_wait no_callback beyond (most_handlers v) s root w (record { numbers = hs; run_is = refl }) (numbering_by (names_in p)) x.center.state
+      (stands s root faultless well p v program fits hs x played.1).1

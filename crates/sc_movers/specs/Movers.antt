@@ -1,5 +1,6 @@
 -- Turns that may be played at once, before any turn of other handlers: movers.
-use Rattle.std.specs.Prelude.{◌≡◌, ◌&&◌, ℕ, Bool, not, true, false, Some}
+use Rattle.std.specs.Prelude.{◌≡◌, ◌&&◌, ◌||◌, ℕ, Bool, not, true, false, List, [], ◌∷◌, Some}
+use Rattle.std.specs.Option.{is_none}
 use Rattle.sc_lockpass.specs.Rights.{is_handler}
 use Rattle.sc_lockpass.specs.wait_conditions.Reservations.{is_idle}
 use Rattle.sc_lockpass.specs.declared.version.Version.{Version}
@@ -8,8 +9,8 @@ use Rattle.sc_code.specs.Programs.{IsProgramOf}
 use Rattle.sc_code.specs.RequestRoom.{FitsRequests}
 use Rattle.sc_region.specs.declared.job.Job.TheVariants as job
 use Rattle.sc_region.specs.declared.job.Want.{Want}
-use Rattle.sc_region.specs.declared.job.Want.TheVariants.{Continue, Reserve, Post, Ask, Release, Wait}
-use Rattle.sc_handler.specs.Handlers.{State, standing_in}
+use Rattle.sc_region.specs.declared.job.Want.TheVariants.{Continue, Reserve, Post, Ask, Release, Wait, Done}
+use Rattle.sc_handler.specs.Handlers.{Service, State, standing_in}
 use Rattle.sc_handler.specs.Picking.{job_of}
 use Rattle.sc_request.specs.Settling.{are_handlers, may_ask, may_post_to_all}
 use Rattle.sc_machine_laws.specs.states.Values.{WhereAccepted}
@@ -28,10 +29,15 @@ is_free k s = is_idle (standing_in s k) && not (standing_in s k).has_requests
 abbrev pub asks_free : ℕ → ℕ → State → Bool
 asks_free h k s = is_handler h (s.rights.queue k) && is_free k s
 
+-- Nothing was passed with the request that was taken last, and if it ends refused, its poster waits, and hears of it.
+abbrev pub ends_plainly : Bool → List Service → Bool
+ends_plainly refused [] = false
+ends_plainly refused (e ∷ es) = is_none e.posted.passed && (not refused || e.posted.request.is_waited)
+
 -- The turn of a handler that goes on with its routine is a mover if it wants this: nothing, as it prints, goes round in a
 -- loop, starts a body, or makes, reads or calls an object of its own; or to stand before its reserve step; or to release
 -- handlers that are its own, at the end of a block or of a call of its own; or to wait, since a wait condition is false,
--- which releases what is its own; or to ask a free handler, without lock passing.
+-- which releases what is its own; or to ask a free handler, without lock passing; or to end a request plainly.
 abbrev pub is_mover : ℕ → Want → State → Bool
 is_mover h Continue s = true
 is_mover h (Reserve ks) s = are_handlers ks.items s
@@ -40,6 +46,7 @@ is_mover h (Ask r true) s = false
 is_mover h (Ask r false) s = may_ask h (Ask r false) s && asks_free h r.target.handler s
 is_mover h (Release ks) s = may_post_to_all h ks.items s
 is_mover h (Wait ks) s = may_post_to_all h ks.items s
+is_mover h (Done v ks refused) s = may_post_to_all h ks.items s && ends_plainly refused (s.handlers h).services
 is_mover h want s = false
 
 -- The turn of the handler is a mover.

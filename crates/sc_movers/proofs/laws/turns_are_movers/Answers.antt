@@ -10,3 +10,4 @@ returns c =
     c.runs_are_functional.ensures
     c.what_returns_is_own.ensures
     c.no_idle_handler_is_pushed.ensures
+    c.who_waits_unlent_hears_nothing.ensures

@@ -18,3 +18,4 @@ returns c =
     c.turns_keep_order.ensures
     c.new_stores_are_sound.ensures
     c.sound_jobs_are_taken.ensures
+    c.ends_the_one.ensures

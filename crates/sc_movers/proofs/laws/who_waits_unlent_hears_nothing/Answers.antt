@@ -1,0 +1,22 @@
+use Rattle.sc_movers.proofs.ReturnedWorlds.{all_unlent_wait}
+use Rattle.sc_movers.proofs.laws.who_waits_unlent_hears_nothing.Goals as goal
+
+pub returns : goal.returns
+returns c =
+    all_unlent_wait
+    c.first_turns_are_functional.ensures
+    c.first_turns_keep_exact.ensures
+    c.core_picks_where_the_machine_turns.ensures
+    c.core_settles_as_half_where_reached.ensures
+    c.entries_are_remembered.ensures
+    c.settled_objects_meet.ensures
+    c.regions_follow.ensures
+    c.regions_ask.ensures
+    c.others_keep_halves.ensures
+    c.created_are_new.ensures
+    c.openings_are_in_order.ensures
+    c.turns_keep_order.ensures
+    c.new_stores_are_sound.ensures
+    c.sound_jobs_are_taken.ensures
+    c.no_callback.ensures
+    c.beyond_is_unused.ensures
