@@ -1,5 +1,5 @@
 -- Statuses of handlers, and what they tell.
-use Rattle.std.proofs.Common.{◌≡◌, ◌<◌, ◌∙◌, ◌||◌, inl, inr, ℕ, zero, suc, Bool, true, false, List, [], ◌∷◌, Option, Some, None, get_or, is_some, refl, sym, ap, arith}
+use Rattle.std.proofs.Common.{◌≡◌, ◌<◌, ◌∙◌, ◌&&◌, ◌||◌, inl, inr, ℕ, zero, suc, Bool, true, false, List, [], ◌∷◌, Option, Some, None, get_or, is_some, refl, sym, ap, arith}
 use Rattle.std.specs.List.{list_any, range_with_len}
 use Rattle.std.specs.Prelude.{map}
 use Rattle.std.proofs.lemmas.Bool.{cases_lt}
@@ -10,15 +10,17 @@ use Rattle.sc_model.specs.declared.status.Status.{Status}
 use Rattle.sc_model.specs.declared.status.Status.TheVariants.{Busy, Failed, Free, Waiting}
 use Rattle.sc_region.specs.declared.job.Want.{Want}
 use Rattle.sc_region.specs.declared.job.Want.TheVariants as want
-use Rattle.sc_handler.specs.Handlers.{Awaits, HandlerStage, HasMade, Idle, Reserves, Runs, State}
+use Rattle.sc_handler.specs.Handlers.{Awaits, HandlerStage, HasMade, Idle, Reserves, Runs, Service, State}
 use Rattle.sc_handler.specs.Picking.{job_of, status_with}
 use Rattle.sc_request.specs.Logs.{status_in}
 use Rattle.sc_world.specs.Reports.{statuses}
 use Rattle.sc_world.specs.Worlds.{PlainWorld}
+use Rattle.sc_request.specs.Settling.{may_post_to_all}
+use Rattle.sc_movers.specs.Movers as movers
 use Rattle.sc_movers.specs.Movers.{is_mover}
 use Rattle.sc_search.specs.declared.aims.Aim.TheVariants as aim
 use Rattle.sc_search.specs.Aims.{tells_failure}
-use Rattle.sc_search.specs.Joined.{may_follow}
+use Rattle.sc_search.specs.Joined.{ends_plainly, may_follow}
 
 -- ---- statuses
 
@@ -52,6 +54,10 @@ busy_needs None false (HasMade k) e = cc
 busy_needs None false (Reserves ks mark) e = cc
 busy_needs None false (Awaits k is_creation) e = cc
 
+same_ends : (refused : Bool) (vs : List Service) → movers.ends_plainly refused vs ≡ ends_plainly refused vs
+same_ends refused [] = refl
+same_ends refused (e ∷ es) = refl
+
 -- the rule of the search is that of movers
 pub same_rule : (h : ℕ) (w : Want) (s : State) → is_mover h w s ≡ may_follow h w s
 same_rule h want.Continue s = refl
@@ -62,7 +68,7 @@ same_rule h (want.Post r) s = refl
 same_rule h (want.Ask r true) s = refl
 same_rule h (want.Ask r false) s = refl
 same_rule h (want.Create class procedure actuals passes) s = refl
-same_rule h (want.Done v ks refused) s = refl
+same_rule h (want.Done v ks refused) s = ap (λ (b : Bool). may_post_to_all h ks.items s && b) (same_ends refused (s.handlers h).services)
 same_rule h (want.Fail why) s = refl
 
 -- where none of the statuses passes a test that a busy one passes, no handler is busy

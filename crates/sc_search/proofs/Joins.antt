@@ -1,19 +1,19 @@
 -- Turns that are joined one after the other.
-use Rattle.std.proofs.Common.{◌≡◌, ◌≤◌, ◌+◌, ◌∙◌, ◌&&◌, not, ℕ, suc, Bool, true, false, Some, Result, Ok, Err, slice_get, refl, sym, ap, subst, arith}
+use Rattle.std.proofs.Common.{◌≡◌, ◌≤◌, ◌+◌, ◌∙◌, ◌&&◌, not, ℕ, suc, Bool, true, false, List, [], ◌∷◌, map, Some, Result, Ok, Err, slice_get, refl, sym, ap, subst, arith}
 use Rattle.std.specs.Prelude.{IfOk, is_some}
 use Rattle.sc_lockpass.specs.Rights.{is_handler}
 use Rattle.sc_region.specs.declared.job.Job.TheVariants as job
 use Rattle.sc_region.specs.declared.job.Outcome.{Outcome}
 use Rattle.sc_region.specs.declared.job.Want.{Want}
 use Rattle.sc_region.specs.declared.job.Want.TheVariants as want
-use Rattle.sc_handler.specs.Canonical.{canon, canon_stage, sessions_in}
-use Rattle.sc_handler.specs.Handlers.{HandlerStage, Idle, Runs, HasMade, Reserves, Awaits, State, has_frames, has_requests}
+use Rattle.sc_handler.specs.Canonical.{canon, canon_service, canon_stage, sessions_in}
+use Rattle.sc_handler.specs.Handlers.{HandlerStage, Idle, Runs, HasMade, Reserves, Awaits, Service, State, has_frames, has_requests}
 use Rattle.sc_play.specs.Regions.{PlainRegion, Plays}
 use Rattle.sc_request.specs.Logs.{Center, pick_for}
-use Rattle.sc_request.specs.Settling.{may_ask}
+use Rattle.sc_request.specs.Settling.{may_ask, may_post_to_all}
 use Rattle.sc_world.specs.Turning.{IsTurn}
 use Rattle.sc_world.specs.Worlds.{PlainWorld}
-use Rattle.sc_search.specs.Joined.{FollowsAtOnce, GoesOnUpTo, WantsToFollow, asks_free, may_follow}
+use Rattle.sc_search.specs.Joined.{FollowsAtOnce, GoesOnUpTo, WantsToFollow, asks_free, ends_plainly, may_follow}
 
 pub goes_none : (h : ℕ) (x : PlainWorld) → GoesOnUpTo 0 h x x
 goes_none h x = record { turns = 0; few = omega arith; goes_on = refl }
@@ -44,6 +44,10 @@ asks_canon h k s =
     ap (λ (b : Bool). is_handler h (s.rights.queue k) && ((not b && not (is_some (s.handlers k).failure)) && not (has_requests (s.handlers k).queue)))
     (frames_canon (sessions_in s) (s.handlers k).stage)
 
+plainly_canon : (refused : Bool) (sessions : ℕ → ℕ) (vs : List Service) → ends_plainly refused (map (canon_service sessions) vs) ≡ ends_plainly refused vs
+plainly_canon refused sessions [] = refl
+plainly_canon refused sessions (e ∷ es) = refl
+
 follow_canon : (h : ℕ) (w : Want) (s : State) → may_follow h w (canon s) ≡ may_follow h w s
 follow_canon h want.Continue s = refl
 follow_canon h (want.Release ks) s = refl
@@ -53,7 +57,7 @@ follow_canon h (want.Post r) s = ap (λ (b : Bool). may_ask h (want.Post r) s &&
 follow_canon h (want.Ask r true) s = refl
 follow_canon h (want.Ask r false) s = ap (λ (b : Bool). may_ask h (want.Ask r false) s && b) (asks_canon h r.target.handler s)
 follow_canon h (want.Create class procedure actuals passes) s = refl
-follow_canon h (want.Done v ks refused) s = refl
+follow_canon h (want.Done v ks refused) s = ap (λ (b : Bool). may_post_to_all h ks.items s && b) (plainly_canon refused (sessions_in s) (s.handlers h).services)
 follow_canon h (want.Fail why) s = refl
 
 pub same_follow : (h : ℕ) (w : Want) (s t : State) → canon s ≡ canon t → may_follow h w s ≡ may_follow h w t

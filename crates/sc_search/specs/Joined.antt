@@ -1,12 +1,13 @@
 -- Turns that are joined with the one before them.
-use Rattle.std.specs.Prelude.{◌≡◌, ◌≤◌, ◌&&◌, ℕ, zero, suc, Bool, not, true, false, Some, slice_get}
+use Rattle.std.specs.Prelude.{◌≡◌, ◌≤◌, ◌&&◌, ◌||◌, ℕ, zero, suc, Bool, not, true, false, List, [], ◌∷◌, Some, slice_get}
+use Rattle.std.specs.Option.{is_none}
 use Rattle.sc_lockpass.specs.Rights.{is_handler}
 use Rattle.sc_lockpass.specs.wait_conditions.Reservations.{is_idle}
 use Rattle.sc_region.specs.declared.job.Job.TheVariants as job
 use Rattle.sc_region.specs.declared.job.Outcome.{Outcome}
 use Rattle.sc_region.specs.declared.job.Want.{Want}
 use Rattle.sc_region.specs.declared.job.Want.TheVariants as want
-use Rattle.sc_handler.specs.Handlers.{State, standing_in}
+use Rattle.sc_handler.specs.Handlers.{Service, State, standing_in}
 use Rattle.sc_play.specs.Regions.{PlainRegion, Plays}
 use Rattle.sc_request.specs.Logs.{pick_for}
 use Rattle.sc_request.specs.Settling.{are_handlers, may_ask, may_post_to_all}
@@ -21,9 +22,15 @@ is_free k s = is_idle (standing_in s k) && not (standing_in s k).has_requests
 abbrev pub asks_free : ℕ → ℕ → State → Bool
 asks_free h k s = is_handler h (s.rights.queue k) && is_free k s
 
+-- Nothing was passed with the request that was taken last, and if it ends refused, its poster waits, and hears of it.
+abbrev pub ends_plainly : Bool → List Service → Bool
+ends_plainly refused [] = false
+ends_plainly refused (e ∷ es) = is_none e.posted.passed && (not refused || e.posted.request.is_waited)
+
 -- The turn of a handler that goes on with its routine may follow at once if it wants this: nothing; or to stand before its
 -- reserve step; or to release handlers that are its own, at the end of a block or of a call of its own; or to wait, since a
--- wait condition is false, which releases what is its own; or to ask a free handler, without lock passing.
+-- wait condition is false, which releases what is its own; or to ask a free handler, without lock passing; or to end a
+-- request plainly.
 abbrev pub may_follow : ℕ → Want → State → Bool
 may_follow h want.Continue s = true
 may_follow h (want.Reserve ks) s = are_handlers ks.items s
@@ -32,6 +39,7 @@ may_follow h (want.Ask r true) s = false
 may_follow h (want.Ask r false) s = may_ask h (want.Ask r false) s && asks_free h r.target.handler s
 may_follow h (want.Release ks) s = may_post_to_all h ks.items s
 may_follow h (want.Wait ks) s = may_post_to_all h ks.items s
+may_follow h (want.Done v ks refused) s = may_post_to_all h ks.items s && ends_plainly refused (s.handlers h).services
 may_follow h w s = false
 
 -- The routine of the region goes on, and what its next turn wants may follow at once in this state.
@@ -42,8 +50,8 @@ pub record WantsToFollow (h : ℕ) (s : State) (x : PlainRegion) : Type 0 where
   pub follows : may_follow h outcome.want s ≡ true
 
 -- The handler goes on with its routine, and its next turn may follow at once: it prints, goes round in a loop, starts a
--- body, or makes, reads or calls an object of its own; or it comes to a reserve step, releases what is its own, or asks a
--- free handler.
+-- body, or makes, reads or calls an object of its own; or it comes to a reserve step, releases what is its own, asks a free
+-- handler, or ends a request plainly.
 pub record FollowsAtOnce (h : ℕ) (w : PlainWorld) : Type 0 where
   pub goes : pick_for h w.center ≡ Some job.Go
   pub region : PlainRegion

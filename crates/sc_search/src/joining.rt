@@ -1,18 +1,21 @@
 //! Turns that may follow the one before them at once.
 ghost use Rattle.std.specs.Prelude.{◌≡◌, ℕ, IfOk, OnOk, Some, true};
+ghost use Rattle.std.specs.Option.{option_map};
 ghost use Rattle.sc_code.specs.declared.program.Image.{Image};
 ghost use Rattle.sc_region.specs.declared.job.Job.TheVariants as job;
 ghost use Rattle.sc_request.specs.Cores.{center_of};
 ghost use Rattle.sc_lockpass.specs.Rights.{is_handler};
 ghost use Rattle.sc_request.specs.Logs.{pick_for};
 ghost use Rattle.sc_request.specs.Settling.{are_handlers, may_post_to_all};
+ghost use Rattle.sc_handler.specs.Changes.{first_of};
 ghost use Rattle.sc_handler.specs.Fits.{is_request_of};
+ghost use Rattle.sc_handler.specs.InMemory.{service_of};
 ghost use Rattle.sc_world.specs.Kept.{IsOf};
 ghost use Rattle.sc_world.specs.Views.{world_in};
-ghost use Rattle.sc_search.specs.Joined.{FollowsAtOnce, GoesOnUpTo, WantsToFollow, asks_free, is_free, may_follow};
+ghost use Rattle.sc_search.specs.Joined.{FollowsAtOnce, GoesOnUpTo, WantsToFollow, asks_free, ends_plainly, is_free, may_follow};
 ghost use Rattle.sc_search.specs.Stops.{Moves};
 
-use sc_handler::is_request_of;
+use sc_handler::{Posting, is_request_of};
 use sc_lockpass::HandlerNumber;
 use sc_model::Status;
 use sc_play::Region;
@@ -110,7 +113,8 @@ fn wants_to_follow(
     Ok(may_follow(core, handler, &outcome.want))
 }
 
-/// Whether a turn that wants this asks nothing of others but a free handler, or releases what is its handler's own.
+/// Whether a turn that wants this asks nothing of others but a free handler, releases what is its handler's own, or ends a
+/// request plainly.
 fn may_follow(core: &Core, handler: HandlerNumber, asked: &Want) -> bool
     ensures { result ≡ true → may_follow handler asked.now (center_of core.now).state ≡ true }
 {
@@ -124,8 +128,30 @@ fn may_follow(core: &Core, handler: HandlerNumber, asked: &Want) -> bool
         } => request.is_waited && asks_free(core, handler, request),
         Want::Release(handlers) => are_own(core, handler, handlers.as_slice()),
         Want::Wait(handlers) => are_own(core, handler, handlers.as_slice()),
+        Want::Done {
+            reply: _,
+            released,
+            refused,
+        } => are_own(core, handler, released.as_slice()) && ends_plainly(core, handler, *refused),
         _ => false,
     }
+}
+
+/// Whether nothing was passed with the request that a handler took last, and if it ends refused, its poster waits.
+fn ends_plainly(core: &Core, handler: HandlerNumber, refused: bool) -> bool
+    ensures { result ≡ true → ends_plainly refused ((center_of core.now).state.handlers handler).services ≡ true }
+{
+    match first_service(core, handler) {
+        Some(posting) => !posting.passed.is_some() && (!refused || posting.request.is_waited()),
+        None => false,
+    }
+}
+
+/// The request that a handler took last, if it serves one.
+fn first_service(core: &Core, handler: HandlerNumber) -> Option<&Posting>
+    ensures { option_map (λ posting. service_of posting.now) result ≡ first_of ((center_of core.now).state.handlers handler).services }
+{
+    core.kept_at(handler)?.services.front()
 }
 
 /// Whether there are all of these handlers.
