@@ -78,14 +78,20 @@ impl<'e, C: Clock, E: Write> Progress<'e, C, E> {
     /// Clears the line, if there is one.
     pub fn clear(&mut self) {
         if self.said.is_some() {
-            self.show("\r\x1b[K");
+            self.show(b"\r\x1b[K");
         }
     }
 
-    fn show(&mut self, text: &str) {
-        // The search goes on in any case: nobody is left to be told that `err` failed.
-        let _ = self.err.write_all(text.as_bytes());
+    /// Shows these bytes, and what was held back.
+    fn show(&mut self, bytes: &[u8]) {
+        // What is shown goes on in any case: nobody is left to be told that `err` failed.
+        let _ = self.err.write_all(bytes);
         let _ = self.err.flush();
+    }
+
+    /// Adds a number between these words.
+    fn show_number(&mut self, before: &str, number: u64, after: &str) {
+        let _ = write!(self.err, "{before}{number}{after}");
     }
 }
 
@@ -93,9 +99,7 @@ impl<'e, C: Clock, E: Write> Tell for Progress<'e, C, E> {
     fn tell(&mut self, lines: &[u8]) {
         self.clear();
         self.said = None;
-        // What they tell of goes on in any case.
-        let _ = self.err.write_all(lines);
-        let _ = self.err.flush();
+        self.show(lines)
     }
 
     fn is_shown(&self) -> bool {
@@ -105,9 +109,14 @@ impl<'e, C: Clock, E: Write> Tell for Progress<'e, C, E> {
     fn show_run(&mut self, turns: u64, handlers: usize) {
         if self.is_shown {
             self.said = Some(0);
-            let what = if handlers == 1 { "handler" } else { "handlers" };
-            let _ = write!(self.err, "\r{turns} turns, {handlers} {what}");
-            self.show("\x1b[K");
+            let what = if handlers == 1 {
+                " handler"
+            } else {
+                " handlers"
+            };
+            self.show_number("\r", turns, " turns, ");
+            self.show_number("", handlers as u64, what);
+            self.show(b"\x1b[K")
         }
     }
 
@@ -136,16 +145,14 @@ impl<'e, C: Clock, E: Write> Watch for Progress<'e, C, E> {
         } = stage;
         self.said = Some(states);
         let number = number_of(pass);
-        let _ = write!(
-            self.err,
-            "\rpass {number}: {states} states, {depth} turns deep"
-        );
+        self.show_number("\rpass ", number as u64, ": ");
+        self.show_number("", states as u64, " states, ");
+        self.show_number("", depth as u64, " turns deep");
         if let Some(rate) = self.rate(number, states) {
-            let _ = write!(self.err, ", {rate} a second");
+            self.show_number(", ", rate, " a second")
         }
-        let megabytes = bytes / 1_000_000;
-        let _ = write!(self.err, ", {megabytes} MB");
-        self.show("\x1b[K");
+        self.show_number(", ", bytes / 1_000_000, " MB");
+        self.show(b"\x1b[K")
     }
 }
 

@@ -4,6 +4,7 @@ use crate::serve::Fault;
 use sc_arguments::UsageFault;
 use sc_source::reading::FileFault;
 use sc_source::writing::Remains;
+use std::fmt::Display;
 use std::io::{self, ErrorKind, Write};
 
 /// A message that is written as it is made. After an error nothing more of it is written.
@@ -18,19 +19,21 @@ struct Message<'e, E> {
 #[inline(never)]
 pub fn say<E: Write>(fault: &Fault<'_>, err: &mut E) -> bool {
     let mut message = Message { err, failure: None };
+    push_fault(&mut message, fault);
+    message.finish()
+}
+
+/// Adds why the program ends without an answer.
+fn push_fault<E: Write>(message: &mut Message<'_, E>, fault: &Fault<'_>) {
     match fault {
-        Fault::Usage(UsageFault::Arguments(error)) => {
-            let written = write!(message.err, "{error}");
-            message.note(written)
-        }
-        Fault::CannotRead(name, fault) => push_unread(&mut message, name, fault),
+        Fault::Usage(UsageFault::Arguments(error)) => message.push_shown(error),
+        Fault::CannotRead(name, fault) => push_unread(message, name, fault),
         Fault::CannotRecord(name, error, remains) => {
-            push_unwritten(&mut message, name, error, remains)
+            push_unwritten(message, name, error, remains)
         }
         Fault::NoCode(name) | Fault::NoRecord(name) => message.fill_name(template_of(fault), name),
         _ => message.push(template_of(fault)),
     }
-    message.finish()
 }
 
 /// The words of a fault that always has the same ones, but for a name in place of `~`.
@@ -78,18 +81,10 @@ impl<'e, E: Write> Message<'e, E> {
         }
     }
 
-    /// Adds these words and this number, on a line.
-    fn push_number(&mut self, words: &str, number: usize) {
+    /// Adds a number or an error.
+    fn push_shown<D: Display>(&mut self, shown: &D) {
         if self.failure.is_none() {
-            let written = writeln!(self.err, "{words}{number}");
-            self.note(written)
-        }
-    }
-
-    /// Adds an error, on a line.
-    fn push_error(&mut self, error: &io::Error) {
-        if self.failure.is_none() {
-            let written = writeln!(self.err, "{error}");
+            let written = write!(self.err, "{shown}");
             self.note(written)
         }
     }
@@ -117,7 +112,9 @@ fn push_unread<E: Write>(message: &mut Message<'_, E>, name: &str, fault: &FileF
     match fault {
         FileFault::Unreadable(error) => push_cause(message, why_unread(error.kind()), error),
         FileFault::NotUtf8 { offset } => {
-            message.push_number("it isn't UTF-8 at offset ", *offset)
+            message.push("it isn't UTF-8 at offset ");
+            message.push_shown(offset);
+            message.push("\n")
         }
         FileFault::TooLong => message.push("it is too long\n"),
         FileFault::OutOfMemory => message.push("out of memory\n"),
@@ -137,7 +134,8 @@ fn why_unread(kind: ErrorKind) -> &'static str {
 /// Adds on a line why something can't be done with a file, in these words if there are any.
 fn push_cause<E: Write>(message: &mut Message<'_, E>, words: &str, error: &io::Error) {
     if words.is_empty() {
-        message.push_error(error)
+        message.push_shown(error);
+        message.push("\n")
     } else {
         message.push(words)
     }
