@@ -3,9 +3,10 @@
 ghost use Rattle.std.specs.Prelude.{◌≡◌, OnErr, OnOk};
 ghost use Rattle.std.specs.Io.KnownBytes.{Appends};
 ghost use Rattle.sc_audit.specs.Writing.{WritesBeginning};
-ghost use Rattle.sc_serve.specs.Served.{IsDelivered, number_of, written_of};
+ghost use Rattle.sc_serve.specs.Served.{IsDelivered, IsGivenUp, number_of, written_of};
 
 use crate::serve::{Answer, Exit, Fault, Recording, end_with};
+use crate::target::fault_of;
 use sc_audit::{RecordLine, Unwritable, write_record, write_whole};
 use sc_source::files::Files;
 use sc_source::writing::Remains;
@@ -21,19 +22,24 @@ pub fn deliver<F: Files, O: Write, E: Write>(
     ensures { IsDelivered answer.now (O.contents out.old) (O.contents out.new) result }
 {
     let told = match &answer.record {
-        None => print_alone(answer, out, err),
+        None => print(answer, out, err),
         Some(recording) => print_and_record(answer, recording, files, out, err),
     };
     match told {
         Ok(()) => status_of(answer.exit),
-        Err(fault) => {
-            let status = end_with(&fault, err);
-            // An audit that failed comes first.
-            match answer.exit {
-                Exit::Broken => status_of(Exit::Broken),
-                _ => status,
-            }
-        }
+        Err(fault) => give_up(&fault, answer.exit, err),
+    }
+}
+
+/// Says on `err` why an answer with this exit isn't delivered, and answers the status that the program ends with.
+fn give_up<E: Write>(fault: &Fault<'_>, exit: Exit, err: &mut E) -> u8
+    ensures { IsGivenUp result }
+{
+    let status = end_with(fault, err);
+    // An audit that failed comes first.
+    match exit {
+        Exit::Broken => status_of(Exit::Broken),
+        _ => status,
     }
 }
 
@@ -77,13 +83,13 @@ fn print_and_write<'a, F: Files, O: Write, E: Write>(
 {
     match print(answer, out, err) {
         Ok(()) => write_recording(files, writer, recording),
-        Err(Unprinted::CannotWrite) => {
+        Err(Fault::CannotWrite) => {
             write_recording(files, writer, recording)?;
             Err(Fault::CannotWrite)
         }
-        Err(Unprinted::OutOfMemory) => {
+        Err(fault) => {
             files.discard(writer);
-            Err(Fault::OutOfMemory)
+            Err(fault)
         }
     }
 }
@@ -104,7 +110,7 @@ fn print_unrecorded<'a, O: Write, E: Write>(
     }
     match print(answer, out, err) {
         Ok(()) => Fault::CannotRecord(name, error, None),
-        Err(unprinted) => fault_of(unprinted),
+        Err(fault) => fault,
     }
 }
 
@@ -131,8 +137,22 @@ fn write_lines<F: Files>(
     put_in_place(files, writer, written)
 }
 
+/// Puts what was written in the place of what a file held, or gives it up if not all was written: then the fault names this
+/// file or folder.
+pub fn finish_file<'a, F: Files>(
+    files: &F,
+    name: &'a str,
+    writer: F::Writer,
+    written: Result<(), Unwritable>,
+) -> Result<(), Fault<'a>> {
+    match put_in_place(files, writer, written) {
+        Ok(()) => Ok(()),
+        Err((error, remains)) => Err(fault_of(name, error, Some(remains))),
+    }
+}
+
 /// Puts what was written in the place of what the file held, or gives it up if not all was written.
-pub fn put_in_place<F: Files>(
+fn put_in_place<F: Files>(
     files: &F,
     mut writer: F::Writer,
     written: Result<(), Unwritable>,
@@ -147,16 +167,8 @@ pub fn put_in_place<F: Files>(
     }
 }
 
-/// Why an answer isn't printed.
-#[derive(Clone, Copy)]
-enum Unprinted {
-    /// Standard output is closed or full.
-    CannotWrite,
-    OutOfMemory,
-}
-
-/// Prints an answer for which no record is written.
-fn print_alone<'a, O: Write, E: Write>(
+/// Prints an answer on standard output, and what it adds on standard error.
+fn print<'a, O: Write, E: Write>(
     answer: &Answer<'_>,
     out: &mut O,
     err: &mut E,
@@ -164,40 +176,22 @@ fn print_alone<'a, O: Write, E: Write>(
     ensures ok { OnOk result (Appends (O.contents out.old) (O.contents out.new) (written_of answer.now)) }
     ensures err { OnErr result (WritesBeginning (O.contents out.old) (O.contents out.new) (written_of answer.now)) }
 {
-    match print(answer, out, err) {
-        Ok(()) => Ok(()),
-        Err(unprinted) => Err(fault_of(unprinted)),
-    }
-}
-
-/// Prints an answer on standard output, and what it adds on standard error.
-fn print<O: Write, E: Write>(answer: &Answer<'_>, out: &mut O, err: &mut E) -> Result<(), Unprinted>
-    ensures ok { OnOk result (Appends (O.contents out.old) (O.contents out.new) (written_of answer.now)) }
-    ensures err { OnErr result (WritesBeginning (O.contents out.old) (O.contents out.new) (written_of answer.now)) }
-{
     if let Err(error) = write_out(written_of(answer), out) {
-        return Err(unprinted_by(error));
+        return Err(fault_by(error));
     }
     // Nothing can report that `err` failed. The status says so if it failed since memory ran out.
     match write_out(answer.note.as_slice(), err) {
-        Err(error) if error.kind() == ErrorKind::OutOfMemory => Err(Unprinted::OutOfMemory),
+        Err(error) if error.kind() == ErrorKind::OutOfMemory => Err(Fault::OutOfMemory),
         _ => Ok(()),
     }
 }
 
 /// Why an answer isn't printed, if standard output failed with this error.
-fn unprinted_by(error: io::Error) -> Unprinted {
+fn fault_by<'a>(error: io::Error) -> Fault<'a> {
     if error.kind() == ErrorKind::OutOfMemory {
-        Unprinted::OutOfMemory
+        Fault::OutOfMemory
     } else {
-        Unprinted::CannotWrite
-    }
-}
-
-fn fault_of<'a>(unprinted: Unprinted) -> Fault<'a> {
-    match unprinted {
-        Unprinted::CannotWrite => Fault::CannotWrite,
-        Unprinted::OutOfMemory => Fault::OutOfMemory,
+        Fault::CannotWrite
     }
 }
 

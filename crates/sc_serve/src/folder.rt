@@ -4,12 +4,11 @@ ghost use Rattle.std.specs.Prelude.{◌≡◌, IfOk, OnOk, Some, string_bytes};
 ghost use Rattle.sc_serve.specs.Replaced.{MayBeWritten};
 ghost use Rattle.sc_serve.specs.Tests as spec;
 
-use crate::delivery::put_in_place;
+use crate::delivery::finish_file;
 use crate::serve::Fault;
 use crate::target::{check_record, fault_of};
 use sc_audit::{RecordLine, write_record};
 use sc_source::files::Files;
-use sc_source::writing::Remains;
 use std::alloc::{AllocError, Global};
 use std::io::{self, ErrorKind};
 
@@ -48,9 +47,12 @@ impl<'f, 'a, F: Files> Folder<'f, 'a, F> {
             return Ok(());
         };
         let path = path_in(alloc, folder, test)?;
-        match write_lines(self.files, path.as_str(), lines) {
-            Ok(()) => Ok(()),
-            Err((error, remains)) => Err(fault_of(folder, error, remains)),
+        match self.files.writer(path.as_str()) {
+            Ok(mut writer) => {
+                let written = write_record(&mut writer, lines);
+                finish_file(self.files, folder, writer, written)
+            }
+            Err(error) => Err(fault_of(folder, error, None)),
         }
     }
 }
@@ -76,24 +78,6 @@ fn check_path<'a, F: Files>(
     match check_record(alloc, files, Some(path), read) {
         Ok(()) => Ok(()),
         Err(fault) => Err(fault_in(folder, fault)),
-    }
-}
-
-/// Writes the record of these lines to the file of this name.
-fn write_lines<F: Files>(
-    files: &F,
-    name: &str,
-    lines: &[RecordLine],
-) -> Result<(), (io::Error, Option<Remains>)> {
-    match files.writer(name) {
-        Ok(mut writer) => {
-            let written = write_record(&mut writer, lines);
-            match put_in_place(files, writer, written) {
-                Ok(()) => Ok(()),
-                Err((error, remains)) => Err((error, Some(remains))),
-            }
-        }
-        Err(error) => Err((error, None)),
     }
 }
 

@@ -3,7 +3,7 @@
 ghost use Rattle.std.specs.Prelude.{◌≡◌, IfOk, None};
 ghost use Rattle.sc_serve.specs.Layouts.{IsPlain};
 
-use crate::delivery::put_in_place;
+use crate::delivery::finish_file;
 use crate::serve::{Answer, Exit, Fault, answer_explained, answer_unread, formatted_text};
 use crate::target::fault_of;
 use sc_audit::write_whole;
@@ -165,10 +165,7 @@ fn write_file<'a, F: Files>(files: &F, file: &Changed<'a>) -> Result<(), Fault<'
     match files.writer(file.name) {
         Ok(mut writer) => {
             let written = write_whole(&mut writer, file.text.as_slice());
-            match put_in_place(files, writer, written) {
-                Ok(()) => Ok(()),
-                Err((error, remains)) => Err(fault_of(file.name, error, Some(remains))),
-            }
+            finish_file(files, file.name, writer, written)
         }
         Err(error) => Err(fault_of(file.name, error, None)),
     }
