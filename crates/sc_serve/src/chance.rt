@@ -11,12 +11,12 @@ ghost use Rattle.sc_serve.specs.Chance.{IsChanceOf, IsChanceOfSource, IsChanceOn
 
 use crate::json::{reports_object, run_object};
 use crate::numbered::push_number;
-use crate::running::recording_of;
+use crate::running::{explained_run, recording_of};
 use crate::serve::{Answer, Exit, Fault, answer_explained, answer_unread, exit_of, root_if};
 use sc_arguments::{ChanceOptions, Format, Until};
 use sc_chance::{ChanceRun, Found, Outcomes, Seeds, Sought, play_until};
 use sc_code::Program;
-use sc_explain_run::{Limit, Played, run_note};
+use sc_explain_run::{Limit, Played};
 use sc_explain_text::Lines;
 use sc_frontend::load_text;
 use sc_lockpass::Version;
@@ -127,7 +127,15 @@ fn answer_found<'a>(
         Format::Json => Some(run_object(alloc, seed, run.report.as_slice())?),
         Format::Text => None,
     };
-    let note = run_note_of(alloc, program, options, source, &run)?;
+    let played = Played {
+        source,
+        program,
+        version: Version::Two,
+        lines: run.lines.as_slice(),
+        limit: Limit::Turns(options.turns),
+        may_refuse: run.has_refused,
+    };
+    let note = explained_run(alloc, played, run.statuses.as_slice(), options.is_explained);
     let exit = exit_of(run.statuses.as_slice());
     let ChanceRun { lines, .. } = run;
     Ok(Answer {
@@ -147,28 +155,6 @@ fn run_text(alloc: Global, seed: u64, run: &ChanceRun) -> Result<Vec<u8>, AllocE
     push_number(alloc, &mut text, "seed ", seed, "\n")?;
     text.extend_from_slice(run.report.as_slice())?;
     Ok(text)
-}
-
-/// Why handlers failed or wait after a run, or what they refused, if that is to be said.
-fn run_note_of(
-    alloc: Global,
-    program: &Program,
-    options: &ChanceOptions<'_>,
-    source: &Source,
-    run: &ChanceRun,
-) -> Result<Vec<u8>, AllocError> {
-    if !options.is_explained {
-        return Ok(Vec::new(alloc));
-    }
-    let played = Played {
-        source,
-        program,
-        version: Version::Two,
-        lines: run.lines.as_slice(),
-        limit: Limit::Turns(options.turns),
-        may_refuse: run.has_refused,
-    };
-    run_note(alloc, played, run.statuses.as_slice())
 }
 
 // ---- no such run
@@ -192,7 +178,7 @@ fn answer_nothing<'a>(
         text,
         object,
         exit: Exit::Done,
-        note: unrecorded_note(alloc, options.record)?,
+        note: unrecorded_note(alloc, options.record),
         record: None,
     })
 }

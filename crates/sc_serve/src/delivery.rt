@@ -176,11 +176,14 @@ fn print<'a, O: Write, E: Write>(
     ensures ok { OnOk result (Appends (O.contents out.old) (O.contents out.new) (written_of answer.now)) }
     ensures err { OnErr result (WritesBeginning (O.contents out.old) (O.contents out.new) (written_of answer.now)) }
 {
+    let Ok(note) = &answer.note else {
+        return Err(Fault::OutOfMemory);
+    };
     if let Err(error) = write_out(written_of(answer), out) {
         return Err(fault_by(error));
     }
     // Nothing can report that `err` failed. The status says so if it failed since memory ran out.
-    match write_out(answer.note.as_slice(), err) {
+    match write_out(note.as_slice(), err) {
         Err(error) if error.kind() == ErrorKind::OutOfMemory => Err(Fault::OutOfMemory),
         _ => Ok(()),
     }

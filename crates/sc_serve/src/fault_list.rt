@@ -21,7 +21,7 @@ use std::alloc::{AllocError, Global};
 /// if JSON is asked for.
 #[derive(Drop)]
 pub struct Beside {
-    pub note: Vec<u8>,
+    pub note: Result<Vec<u8>, AllocError>,
     pub array: Option<Vec<u8>>,
 }
 
@@ -37,7 +37,7 @@ pub fn write_beside(
 {
     let explained = root_if(options.is_explained, &options.root);
     let warnings = warnings_of_text(alloc, places.source().text())?;
-    let note = listing_notes(alloc, places, explained, refused, warnings.as_slice())?;
+    let note = listing_notes(alloc, places, explained, refused, warnings.as_slice());
     let array = match options.format {
         Format::Text => None,
         Format::Json => {

@@ -6,6 +6,7 @@ ghost use Rattle.sc_lower.specs.Lowerings.{image_of};
 ghost use Rattle.sc_serve.specs.Answer.{IsBadRecord, IsRecordUnread, IsReplayOf, IsReplayOn, IsReplayTo, IsReplayed, IsUnplayed, IsUnplayedRecord, TellsBadRecord};
 
 use crate::progress::Tell;
+use crate::running::explained_run;
 use crate::serve::{
     Answer, Fault, answer_explained, answer_refused, answer_unread, exit_of, root_if,
 };
@@ -14,10 +15,9 @@ use sc_arguments::ReplayOptions;
 use sc_audit::{ReadFault, Record, read_record};
 use sc_code::Program;
 use sc_driver::replay;
-use sc_explain_run::{Limit, Played, run_note};
+use sc_explain_run::{Limit, Played};
 use sc_explain_text::Lines;
 use sc_frontend::load_text;
-use sc_model::Status;
 use sc_source::files::{Files, NamedFile, read_source};
 use sc_source::reading::FileFault;
 use sc_source::source::Source;
@@ -111,14 +111,20 @@ fn play<'a, T: Tell>(
     tell_turns(alloc, program, options, source, recorded, teller)?;
     let outcome = replay(alloc, program, recorded)?;
     let exit = exit_of(outcome.statuses.as_slice());
-    let note = note_of(
-        alloc,
-        program,
-        options,
+    let played = Played {
         source,
-        recorded,
+        program,
+        version: recorded.version,
+        lines: recorded.lines.as_slice(),
+        limit: Limit::Record,
+        may_refuse: true,
+    };
+    let note = explained_run(
+        alloc,
+        played,
         outcome.statuses.as_slice(),
-    )?;
+        options.is_explained,
+    );
     Ok(Answer {
         text: outcome.report,
         object: None,
@@ -149,29 +155,6 @@ fn tell_turns<T: Tell>(
     Ok(())
 }
 
-/// The note on a replay beside its report, if it is asked for.
-fn note_of(
-    alloc: Global,
-    program: &Program,
-    options: &ReplayOptions<'_>,
-    source: &Source,
-    record: &Record,
-    statuses: &[Status],
-) -> Result<Vec<u8>, AllocError> {
-    if !options.is_explained {
-        return Ok(Vec::new(alloc));
-    }
-    let played = Played {
-        source,
-        program,
-        version: record.version,
-        lines: record.lines.as_slice(),
-        limit: Limit::Record,
-        may_refuse: true,
-    };
-    run_note(alloc, played, statuses)
-}
-
 /// What is answered where a file holds no record, and in which line of it, where that is asked for.
 fn answer_no_record<'a>(
     alloc: Global,
@@ -186,7 +169,7 @@ fn answer_no_record<'a>(
 {
     match fault {
         ReadFault::BadRecord { line } => {
-            let note = bad_line_note(alloc, name, line, is_explained)?;
+            let note = bad_line_note(alloc, name, line, is_explained);
             answer_refused(alloc, b"refused A1 BadRecord\n", note)
         }
         ReadFault::Unreadable(error) => Err(Fault::CannotRead(name, FileFault::Unreadable(error))),

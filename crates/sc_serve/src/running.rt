@@ -27,6 +27,7 @@ use sc_frontend::load_text;
 use sc_lockpass::{HandlerNumber, Version};
 use sc_model::Status;
 use sc_plant::{Bounds, Left, RunFault};
+use sc_request::Core;
 use sc_source::files::{Files, read_source};
 use sc_source::source::Source;
 use std::alloc::{AllocError, Global};
@@ -94,11 +95,8 @@ fn run_loaded<'a, R: Threads + Wait + Clock + Sync, T: Tell>(
     ensures unrun { IfErr result IsUnrun }
 {
     let Ended { left, statuses, .. } = run_watched(rt, alloc, program, options, source, teller)?;
-    let Assessment {
-        audited,
-        exit,
-        note,
-    } = assess(alloc, program, options, source, &left, statuses.as_slice())?;
+    let (audited, exit) = judge(alloc, program, options, &left, statuses.as_slice())?;
+    let note = note_of(alloc, program, options, source, &left, statuses.as_slice());
     let (mut text, lines) = left.into_report(alloc)?;
     text.extend_from_slice(audited.as_slice())?;
     Ok(Answer {
@@ -127,65 +125,22 @@ fn run_watched<'p, 'a, R: Threads + Wait + Clock + Sync, T: Tell>(
     let tracer = tracer_of(alloc, source, program, Version::Two, options.trace)?;
     let tracing = Tracing::new(teller, tracer);
     let mut watch = RunWatch::new(rt, tracing, options.is_explained);
-    run_bounded(rt, alloc, program, options, &mut watch)
-}
-
-/// Runs a program within the bounds that are asked for.
-fn run_bounded<'p, 'a, R: Threads + Wait + Clock + Sync, T: Tell>(
-    rt: &R,
-    alloc: Global,
-    program: &'p Program,
-    options: &RunOptions<'_>,
-    watch: &mut RunWatch<'_, '_, R, T>,
-) -> Result<Ended<'p>, Fault<'a>>
-    ensures left { IfOk result (λ ended. IsBoundedRun (image_of program.now) (bounds_of options.now) ended.turns ended.left) }
-    ensures ran { IfOk result (λ ended. let report = told.report (world_of ended.left) in
-        ∥ IsThreadRun (image_of program.now) ended.turns ended.left.lines.items report ended.statuses.items ∥₁) }
-    ensures unrun { IfErr result IsUnrun }
-{
     let bounds = Bounds {
         turns: options.turns,
         output: options.output_limit,
     };
-    match run_program(rt, alloc, program, options.workers, bounds, watch) {
-        Ok(_) if watch.tracing.is_lacking => Err(Fault::OutOfMemory),
+    let ended = run_program(rt, alloc, program, options.workers, bounds, &mut watch);
+    let is_lacking = watch.tracing.is_lacking;
+    drop(watch);
+    match ended {
+        Ok(_) if is_lacking => Err(Fault::OutOfMemory),
         Ok(ended) => Ok(ended),
         Err(fault) => Err(fault_of(fault)),
     }
 }
 
-/// An assessment of what a run has left.
-#[derive(Drop)]
-struct Assessment {
-    /// What an audit adds to the report.
-    audited: Vec<u8>,
-    exit: Exit,
-    note: Vec<u8>,
-}
-
-/// Assesses what a run has left.
-#[inline(never)]
-fn assess(
-    alloc: Global,
-    program: &Program,
-    options: &RunOptions<'_>,
-    source: &Source,
-    left: &Left<'_>,
-    statuses: &[Status],
-) -> Result<Assessment, AllocError>
-    ensures { IfOk result (λ seen.
-        IsJudged (image_of program.now) options.now.is_audited left.now [] statuses.now seen.audited.items seen.exit) }
-{
-    let (audited, exit) = judge(alloc, program, options, left, statuses)?;
-    let note = note_of(alloc, program, options, source, left, statuses)?;
-    Ok(Assessment {
-        audited,
-        exit,
-        note,
-    })
-}
-
 /// What an audit adds to the report, if one is asked for, and the status.
+#[inline(never)]
 fn judge(
     alloc: Global,
     program: &Program,
@@ -233,24 +188,13 @@ pub fn fault_of<'a>(fault: RunFault<'_>) -> Fault<'a>
 }
 
 /// Whether a handler has refused a request for which no handler waited.
-fn has_refused(left: &Left<'_>) -> bool {
-    for handler in 0..left.core.handler_count().min(HandlerNumber::MAX as usize) {
-        if left.core.refused(handler as HandlerNumber).unwrap_or(0) > 0 {
+fn has_refused(core: &Core) -> bool {
+    for handler in 0..core.handler_count().min(HandlerNumber::MAX as usize) {
+        if core.refused(handler as HandlerNumber).unwrap_or(0) > 0 {
             return true;
         }
     }
     false
-}
-
-/// How many bytes the handlers have printed together, where that is more than they may, and some have something to do still.
-fn printed_past(left: &Left<'_>, options: &RunOptions<'_>, statuses: &[Status]) -> Option<u64> {
-    match options.output_limit {
-        Some(most) if is_any_busy(statuses) => {
-            let printed = count_printed(left);
-            if printed > most { Some(printed) } else { None }
-        }
-        _ => None,
-    }
 }
 
 /// Whether a handler has something to do still.
@@ -274,6 +218,7 @@ fn count_printed(left: &Left<'_>) -> u64 {
 
 /// The note on a run beside its report: that its handlers have printed too much; and the states of its handlers, if
 /// that is asked for.
+#[inline(never)]
 fn note_of(
     alloc: Global,
     program: &Program,
@@ -284,27 +229,41 @@ fn note_of(
 ) -> Result<Vec<u8>, AllocError> {
     let mut lines = Lines::new(alloc);
     let mut limit = Limit::Turns(options.turns);
-    if let Some(printed) = printed_past(left, options, statuses) {
+    let printed = count_printed(left);
+    if printed > options.output_limit.unwrap_or(u64::MAX) && is_any_busy(statuses) {
         limit = Limit::Output;
         let turns = turns_of(left.lines.as_slice());
         lines.fill_number("stopped by --output-limit after ~ turns", turns);
         lines.fill_number(": the handlers have printed ~ bytes\n", printed)
     }
-    if options.is_explained {
-        let played = Played {
-            source,
-            program,
-            version: Version::Two,
-            lines: left.lines.as_slice(),
-            limit,
-            may_refuse: has_refused(left),
-        };
-        match run_note(alloc, played, statuses) {
-            Ok(note) => lines.push_bytes(note.as_slice()),
-            Err(_) => lines.lack(),
-        }
+    let played = Played {
+        source,
+        program,
+        version: Version::Two,
+        lines: left.lines.as_slice(),
+        limit,
+        may_refuse: has_refused(&left.core),
+    };
+    match explained_run(alloc, played, statuses, options.is_explained) {
+        Ok(note) => lines.push_bytes(note.as_slice()),
+        Err(_) => lines.lack(),
     }
     lines.finish()
+}
+
+/// Why handlers failed or wait after a run, or what they refused, if that is to be said.
+#[inline(never)]
+pub fn explained_run(
+    alloc: Global,
+    played: Played<'_>,
+    statuses: &[Status],
+    is_explained: bool,
+) -> Result<Vec<u8>, AllocError> {
+    if is_explained {
+        run_note(alloc, played, statuses)
+    } else {
+        Ok(Vec::new(alloc))
+    }
 }
 
 /// The record that is to be written, where a file is named for it.

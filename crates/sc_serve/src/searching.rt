@@ -105,7 +105,7 @@ fn search_loaded<'a, W: Watch + Tell>(
 struct VerdictText {
     text: Vec<u8>,
     object: Option<Vec<u8>>,
-    note: Vec<u8>,
+    note: Result<Vec<u8>, AllocError>,
 }
 
 /// Writes a verdict, of a search that took so many milliseconds.
@@ -123,7 +123,7 @@ fn write_verdict(
 {
     let text = verdict_text(alloc, options, verdict)?;
     let object = object_of(alloc, options, verdict)?;
-    let note = note_of(alloc, program, options, source, verdict, millis)?;
+    let note = note_of(alloc, program, options, source, verdict, millis);
     Ok(VerdictText { text, object, note })
 }
 
@@ -211,25 +211,41 @@ fn note_of(
     verdict: &Verdict,
     millis: Option<u64>,
 ) -> Result<Vec<u8>, AllocError> {
-    match lines_of(&verdict.finding) {
-        None => unfound_note(alloc, options, verdict.why, millis),
-        Some(lines) if options.is_explained => {
+    match &verdict.finding {
+        Finding::Nothing | Finding::Undecided => {
+            unfound_note(alloc, options, verdict.why, millis)
+        }
+        found => found_note(alloc, program, source, found, options.is_explained),
+    }
+}
+
+/// Why handlers wait or fail after the order that was found, if that is to be said; nothing if none was.
+#[inline(never)]
+pub fn found_note(
+    alloc: Global,
+    program: &Program,
+    source: &Source,
+    finding: &Finding,
+    is_explained: bool,
+) -> Result<Vec<u8>, AllocError> {
+    match lines_of(finding) {
+        Some(lines) if is_explained => {
             let played = Played {
                 source,
                 program,
                 version: Version::Two,
                 lines,
-                limit: limit_of(&verdict.finding),
+                limit: limit_of(finding),
                 may_refuse: true,
             };
             order_note(alloc, played)
         }
-        Some(_) => Ok(Vec::new(alloc)),
+        _ => Ok(Vec::new(alloc)),
     }
 }
 
 /// Where the order that was found ends.
-pub fn limit_of(finding: &Finding) -> Limit {
+fn limit_of(finding: &Finding) -> Limit {
     match finding {
         Finding::Stuck(_) => Limit::Stuck,
         Finding::Nothing | Finding::Fails(_) | Finding::Refused(_) | Finding::Undecided => {

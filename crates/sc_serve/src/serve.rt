@@ -70,7 +70,8 @@ pub struct Answer<'a> {
     /// What is written in place of the text, where an object of JSON is asked for.
     pub object: Option<Vec<u8>>,
     pub exit: Exit,
-    pub note: Vec<u8>,
+    /// An error if memory ran out for it: then there is no answer.
+    pub note: Result<Vec<u8>, AllocError>,
     pub record: Option<Recording<'a>>,
 }
 
@@ -89,11 +90,11 @@ impl<'a> Answer<'a> {
         ensures record { result.record ≡ None }
         ensures object { result.object ≡ None }
     {
-        Answer::noted(text, exit, Vec::new(alloc))
+        Answer::noted(text, exit, Ok(Vec::new(alloc)))
     }
 
     /// With this note.
-    pub fn noted(text: Vec<u8>, exit: Exit, note: Vec<u8>) -> Self
+    pub fn noted(text: Vec<u8>, exit: Exit, note: Result<Vec<u8>, AllocError>) -> Self
         ensures text { result.text ≡ text }
         ensures exit { result.exit ≡ exit }
         ensures record { result.record ≡ None }
@@ -412,7 +413,7 @@ pub fn answer_explained<'a>(
     ensures object { IfOk result (λ answer. answer.object ≡ None) }
     ensures untold { IfErr result (λ fault. fault ≡ spec.out_of_memory) }
 {
-    let note = explanation(alloc, source, explained, rejection)?;
+    let note = explanation(alloc, source, explained, rejection);
     answer_rejected(alloc, source, rejection, note)
 }
 
@@ -433,7 +434,7 @@ pub fn answer_unread<'a>(
     match fault {
         FileFault::TooLong => {
             let rejection = Rejection::Text(LexFault::SourceTooLong);
-            let note = too_long_note(alloc, name_at(names, file), is_explained)?;
+            let note = too_long_note(alloc, name_at(names, file), is_explained);
             answer_rejected(alloc, &Source::new(alloc), &rejection, note)
         }
         FileFault::OutOfMemory => Err(Fault::OutOfMemory),
@@ -449,7 +450,7 @@ fn answer_rejected<'a>(
     alloc: Global,
     source: &Source,
     rejection: &Rejection,
-    note: Vec<u8>,
+    note: Result<Vec<u8>, AllocError>,
 ) -> Result<Answer<'a>, Fault<'a>>
     ensures refused { IfOk result (λ answer. IsRefusalOf source.now rejection.now answer.text.items answer.exit) }
     ensures unrecorded { IfOk result (λ answer. answer.record ≡ None) }
@@ -486,8 +487,7 @@ pub fn examine<'a>(alloc: Global, command: &Command, text: &str) -> Result<Answe
         }
         Command::Print => {
             let printed = print_text(alloc, text)?;
-            let note = left_out(alloc, text)?;
-            Ok(Answer::noted(printed, Exit::Done, note))
+            Ok(Answer::noted(printed, Exit::Done, left_out(alloc, text)))
         }
     }
 }
@@ -505,7 +505,7 @@ pub(crate) fn formatted_text(alloc: Global, text: &str) -> Result<Vec<u8>, Rejec
 pub(crate) fn answer_refused<'a>(
     alloc: Global,
     line: &[u8],
-    note: Vec<u8>,
+    note: Result<Vec<u8>, AllocError>,
 ) -> Result<Answer<'a>, Fault<'a>>
     ensures text { IfOk result (λ answer. answer.text.items ≡ line.now) }
     ensures exit { IfOk result (λ answer. answer.exit ≡ Exit.Refused) }

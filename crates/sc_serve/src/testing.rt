@@ -241,7 +241,7 @@ fn answer_results<'a>(
 {
     let text = result_lines(alloc, results)?;
     let object = object_of(alloc, options.format, results)?;
-    let note = note_of(alloc, options, results)?;
+    let note = note_of(alloc, options, results);
     Ok(Answer {
         text,
         object,

@@ -15,7 +15,7 @@ pub struct Tracing<'w, 'r, T> {
     /// Shows the report.
     pub teller: &'w mut T,
     /// Makes the turns once more, if they are to be reported.
-    tracer: Option<Tracer<'r>>,
+    pub tracer: Option<Tracer<'r>>,
     /// How many lines of the record were gone through.
     seen: usize,
     /// Whether memory was refused to what was to be reported.
@@ -33,14 +33,9 @@ impl<'w, 'r, T: Tell> Tracing<'w, 'r, T> {
         }
     }
 
-    /// Whether turns are reported.
-    pub fn is_told(&self) -> bool {
-        self.tracer.is_some()
-    }
-
     /// Reports the lines of a record that weren't gone through, if turns are reported.
     pub fn follow(&mut self, lines: &[RecordLine]) {
-        if !self.is_told() {
+        if self.tracer.is_none() {
             return;
         }
         for line in lines.get(self.seen..).unwrap_or(&[]) {

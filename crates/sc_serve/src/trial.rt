@@ -12,8 +12,8 @@ ghost use Rattle.sc_serve.specs.Tests.{HasOutcome, IsOutcomeOf, IsOutcomeOfRun, 
 
 use crate::folder::Folder;
 use crate::progress::Tell;
-use crate::running::fault_of;
-use crate::searching::{limit_of, limits_by, lines_of};
+use crate::running::{explained_run, fault_of};
+use crate::searching::{found_note, limits_by};
 use crate::serve::Fault;
 use crate::tracing::Tracing;
 use crate::verdict::{lacks_memory, turns_of};
@@ -23,7 +23,7 @@ use sc_audit::RecordLine;
 use sc_class::Root;
 use sc_code::Program;
 use sc_driver::{Ended, run_program};
-use sc_explain_run::{Limit, Played, order_note, run_note};
+use sc_explain_run::{Limit, Played};
 use sc_lockpass::Version;
 use sc_model::Status;
 use sc_plant::{Bounds, Left};
@@ -41,7 +41,7 @@ use std::time::Clock;
 struct Trial {
     outcome: Outcome,
     order: Option<Vec<RecordLine>>,
-    note: Vec<u8>,
+    note: Result<Vec<u8>, AllocError>,
 }
 
 /// Plays the program of a test that is run from this root, and keeps the record of an order in which it fails.
@@ -68,6 +68,7 @@ pub fn try_test<'a, R: Threads + Wait + Clock + Sync, F: Files, W: Watch + Tell>
         order,
         note,
     } = play(rt, alloc, program, options, source, watch)?;
+    let note = note?;
     if let Some(lines) = &order {
         folder.keep(alloc, name.as_str(), lines.as_slice())?;
     }
@@ -119,15 +120,22 @@ fn run_test<'a, R: Threads + Wait + Clock + Sync, T: Tell>(
     drop(watch);
     match ended {
         Ok(Ended { left, statuses, .. }) => {
-            let note = run_note_of(alloc, program, options, source, &left, statuses.as_slice())?;
-            Ok(trial_of(left, note))
+            let statuses = statuses.as_slice();
+            Ok(trial_of(alloc, program, options, source, left, statuses))
         }
         Err(fault) => Err(fault_of(fault)),
     }
 }
 
-/// How a test came out whose run left this.
-fn trial_of(left: Left<'_>, note: Vec<u8>) -> Trial
+/// How a test came out whose run left this, with the handlers in these states.
+fn trial_of(
+    alloc: Global,
+    program: &Program,
+    options: &TestOptions<'_>,
+    source: &Source,
+    left: Left<'_>,
+    statuses: &[Status],
+) -> Trial
     ensures outcome { result.outcome ≡ spec.outcome_of_run (center_of left.entry.core) left.entry.lines.items }
     ensures order { lines_in result.order ≡ spec.order_of_run (center_of left.entry.core) left.entry.lines.items }
 {
@@ -135,39 +143,24 @@ fn trial_of(left: Left<'_>, note: Vec<u8>) -> Trial
         return Trial {
             outcome: Outcome::Passes,
             order: None,
-            note,
+            note: Ok(Vec::new(alloc)),
         };
     }
     let Left { lines, .. } = left;
+    let played = Played {
+        source,
+        program,
+        version: Version::Two,
+        lines: lines.as_slice(),
+        limit: Limit::Turns(options.turns),
+        may_refuse: true,
+    };
+    let note = explained_run(alloc, played, statuses, options.is_explained);
     Trial {
         outcome: Outcome::FailsAfter(turns_of(lines.as_slice())),
         order: Some(lines),
         note,
     }
-}
-
-/// Why handlers failed or wait after a run, or what they refused, if that is to be said.
-#[inline(never)]
-fn run_note_of(
-    alloc: Global,
-    program: &Program,
-    options: &TestOptions<'_>,
-    source: &Source,
-    left: &Left<'_>,
-    statuses: &[Status],
-) -> Result<Vec<u8>, AllocError> {
-    if !options.is_explained || passes(&left.core) {
-        return Ok(Vec::new(alloc));
-    }
-    let played = Played {
-        source,
-        program,
-        version: Version::Two,
-        lines: left.lines.as_slice(),
-        limit: Limit::Turns(options.turns),
-        may_refuse: true,
-    };
-    run_note(alloc, played, statuses)
 }
 
 /// Plays the program of a test in every order of its turns.
@@ -193,7 +186,13 @@ fn search_test<W: Watch>(
     if lacks_memory(verdict.why) {
         return Err(AllocError);
     }
-    let note = search_note_of(alloc, program, options, source, &verdict.finding)?;
+    let note = found_note(
+        alloc,
+        program,
+        source,
+        &verdict.finding,
+        options.is_explained,
+    );
     Ok(Trial {
         outcome: outcome_of(&verdict),
         order: order_of(verdict.finding),
@@ -245,30 +244,5 @@ fn order_of(finding: Finding) -> Option<Vec<RecordLine>>
             Some(order.lines)
         }
         Finding::Nothing | Finding::Undecided => None,
-    }
-}
-
-/// Why handlers wait or fail after the order that was found, if that is to be said.
-#[inline(never)]
-fn search_note_of(
-    alloc: Global,
-    program: &Program,
-    options: &TestOptions<'_>,
-    source: &Source,
-    finding: &Finding,
-) -> Result<Vec<u8>, AllocError> {
-    match lines_of(finding) {
-        Some(lines) if options.is_explained => {
-            let played = Played {
-                source,
-                program,
-                version: Version::Two,
-                lines,
-                limit: limit_of(finding),
-                may_refuse: true,
-            };
-            order_note(alloc, played)
-        }
-        _ => Ok(Vec::new(alloc)),
     }
 }

@@ -38,7 +38,7 @@ impl<'w, 'r, C: Clock, T: Tell> RunWatch<'w, 'r, C, T> {
     /// Before the first turn. How far the run is isn't shown if turns are reported, if it isn't asked for, or if
     /// there is no clock.
     pub fn new(clock: &'w C, tracing: Tracing<'w, 'r, T>, shows: bool) -> Self {
-        let is_shown = shows && !tracing.is_told() && tracing.teller.is_shown();
+        let is_shown = shows && tracing.tracer.is_none() && tracing.teller.is_shown();
         let pace = if is_shown { pace_of(clock) } else { None };
         RunWatch {
             clock,

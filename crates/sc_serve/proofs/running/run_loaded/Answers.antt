@@ -11,7 +11,7 @@ returns-clause-answer g c =
     let left = c.in_ok-left.field-0.left in
     let text = report (world_of left) in
     let judged = rw c.as_slice.ensures.value at c.in_ok-audited.ensures in
-    let all = reported text _ _ _ _ c.in_ok-text.ensures.report c.as_slice-2.ensures.value
+    let all = reported text _ _ _ _ c.in_ok-text.ensures.report c.as_slice-3.ensures.value
     c.in_ok-extend_from_slice.ensures.items in
     record {
       turns = c.in_ok-left.field-0.turns;
