@@ -7,7 +7,7 @@ ghost use Rattle.sc_serve.specs.AllFaults as spec;
 ghost use Rattle.sc_serve.specs.Refusal.{refused_line};
 
 use crate::explaining::listing_notes;
-use crate::json::faults_array;
+use crate::json::{faults_array, made};
 use crate::refusal::line_in;
 use crate::serve::{Exit, root_if};
 use crate::warned::warnings_of_text;
@@ -64,8 +64,7 @@ pub fn rejection_array(
                 return Ok(None);
             };
             let places = Places::of(alloc, source)?;
-            let array = faults_array(alloc, &places, &options.root, &[refused], &[])?;
-            Ok(Some(array))
+            made(faults_array(alloc, &places, &options.root, &[refused], &[]))
         }
     }
 }

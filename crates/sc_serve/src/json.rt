@@ -30,3 +30,11 @@ pub fn answer_object(alloc: Global, text: &[u8]) -> Result<Vec<u8>, AllocError> 
     lines.push("\n");
     lines.finish()
 }
+
+/// What is written in place of lines, if it could be made.
+pub fn made(object: Result<Vec<u8>, AllocError>) -> Result<Option<Vec<u8>>, AllocError> {
+    match object {
+        Ok(object) => Ok(Some(object)),
+        Err(error) => Err(error),
+    }
+}

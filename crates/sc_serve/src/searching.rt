@@ -8,7 +8,7 @@ ghost use Rattle.sc_serve.specs.Search as spec;
 ghost use Rattle.sc_serve.specs.Search.{IsSearchOf, IsSearchOfSource, IsSearchOn, IsTold};
 
 use crate::giving_up::unfound_note;
-use crate::json::search_object;
+use crate::json::{made, search_object};
 use crate::progress::Tell;
 use crate::serve::{Answer, Exit, Fault, Recording, answer_explained, answer_unread, root_if};
 use crate::verdict::{outcome_lines, verdict_lines};
@@ -196,7 +196,7 @@ fn object_of(
     ensures { options.now.format ≡ Format.Text → IfOk result (λ object. object ≡ None) }
 {
     match options.format {
-        Format::Json => Ok(Some(search_object(alloc, options, verdict)?)),
+        Format::Json => made(search_object(alloc, options, verdict)),
         Format::Text => Ok(None),
     }
 }

@@ -10,6 +10,7 @@ ghost use Rattle.sc_serve.specs.Tests as spec;
 ghost use Rattle.sc_serve.specs.Tests.{IsTestOfSource, IsTestOn, IsTestShaped, IsTested, shape_of};
 
 use crate::folder::Folder;
+use crate::json::made;
 use crate::progress::Tell;
 use crate::serve::{Answer, Exit, Fault, answer_explained, answer_unread, root_if};
 use crate::trial::try_test;
@@ -115,8 +116,8 @@ fn refusal_object(
 {
     match format {
         TestFormat::Text | TestFormat::Json => Ok(None),
-        TestFormat::Tap => Ok(Some(tap_refusal(alloc, line)?)),
-        TestFormat::Junit => Ok(Some(junit_refusal(alloc, line)?)),
+        TestFormat::Tap => made(tap_refusal(alloc, line)),
+        TestFormat::Junit => made(junit_refusal(alloc, line)),
     }
 }
 
@@ -274,9 +275,9 @@ fn object_of(
 {
     match format {
         TestFormat::Text => Ok(None),
-        TestFormat::Json => Ok(Some(json_object(alloc, results)?)),
-        TestFormat::Tap => Ok(Some(tap_lines(alloc, results)?)),
-        TestFormat::Junit => Ok(Some(junit_report(alloc, results)?)),
+        TestFormat::Json => made(json_object(alloc, results)),
+        TestFormat::Tap => made(tap_lines(alloc, results)),
+        TestFormat::Junit => made(junit_report(alloc, results)),
     }
 }
 
