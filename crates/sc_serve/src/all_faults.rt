@@ -3,12 +3,13 @@
 ghost use Rattle.std.specs.Prelude.{◌≡◌, IfOk, None, map};
 ghost use Rattle.sc_arguments.specs.declared.arguments.format.Format.TheVariants.{Text};
 ghost use Rattle.sc_class.specs.View.{root_of};
-ghost use Rattle.sc_serve.specs.AllFaults.{IsAllOf, IsAllOn};
+ghost use Rattle.sc_serve.specs.AllFaults.{IsAllOf, IsAllOn, list_exit, list_text};
+ghost use Rattle.sc_serve.specs.Answer.{IsRefusalOf};
 
 use crate::fault_list::{Beside, list_exit, list_text, rejection_array, write_beside};
 use crate::serve::{Answer, Fault, answer_explained, answer_unread, root_if};
 use sc_arguments::CheckOptions;
-use sc_frontend::{Rejection, check_parts};
+use sc_frontend::{Refused, Rejection, check_parts};
 use sc_places::Places;
 use sc_source::files::{Files, read_source};
 use sc_source::source::Source;
@@ -52,22 +53,48 @@ fn answer_parts<'a>(
     ensures record { IfOk result (λ answer. answer.record ≡ None) }
     ensures object { options.now.format ≡ Text → IfOk result (λ answer. answer.object ≡ None) }
 {
-    let refused = match check_parts(alloc, source.text(), &options.root) {
-        Ok(refused) => refused,
-        Err(rejection) => {
-            let explained = root_if(options.is_explained, &options.root);
-            let mut answer = answer_explained(alloc, source, &rejection, explained)?;
-            answer.object = rejection_array(alloc, options, source, &rejection)?;
-            return Ok(answer);
-        }
-    };
+    match check_parts(alloc, source.text(), &options.root) {
+        Ok(refused) => answer_list(alloc, options, source, refused.as_slice()),
+        Err(rejection) => answer_unreadable(alloc, options, source, &rejection),
+    }
+}
+
+/// The answer if the source text spells a system, of which this is refused.
+fn answer_list<'a>(
+    alloc: Global,
+    options: &CheckOptions,
+    source: &Source,
+    refused: &[Refused],
+) -> Result<Answer<'a>, Fault<'a>>
+    ensures answer { IfOk result (λ answer.
+        (answer.text.items ≡ list_text source.now refused.now) × (answer.exit ≡ list_exit refused.now)) }
+    ensures record { IfOk result (λ answer. answer.record ≡ None) }
+    ensures object { options.now.format ≡ Text → IfOk result (λ answer. answer.object ≡ None) }
+{
     let places = Places::of(alloc, source)?;
-    let Beside { note, array } = write_beside(alloc, options, &places, refused.as_slice())?;
+    let Beside { note, array } = write_beside(alloc, options, &places, refused)?;
     Ok(Answer {
-        text: list_text(alloc, &places, refused.as_slice())?,
+        text: list_text(alloc, &places, refused)?,
         object: array,
-        exit: list_exit(refused.as_slice()),
+        exit: list_exit(refused),
         note,
         record: None,
     })
+}
+
+/// The answer if the source text spells no system.
+fn answer_unreadable<'a>(
+    alloc: Global,
+    options: &CheckOptions,
+    source: &Source,
+    rejection: &Rejection,
+) -> Result<Answer<'a>, Fault<'a>>
+    ensures refused { IfOk result (λ answer. IsRefusalOf source.now rejection.now answer.text.items answer.exit) }
+    ensures record { IfOk result (λ answer. answer.record ≡ None) }
+    ensures object { options.now.format ≡ Text → IfOk result (λ answer. answer.object ≡ None) }
+{
+    let explained = root_if(options.is_explained, &options.root);
+    let mut answer = answer_explained(alloc, source, rejection, explained)?;
+    answer.object = rejection_array(alloc, options, source, rejection)?;
+    Ok(answer)
 }
