@@ -6,4 +6,5 @@ pub mod RefusalLemmas
 mod RunReports
 pub mod SearchLemmas
 pub mod ServedLemmas
+mod TargetLemmas
 pub mod TestLemmas
