@@ -46,6 +46,7 @@ _scoop_words() {
             '--record=[Writes the record of the run to this file, for `scoop replay`]:PATH:_files' \
             '--audit[Plays the record by one thread, and says whether that ends in the same]' \
             '--trace=-[Tells each turn that concerns others as it is made, or only what is printed, on standard error]::WHAT:(all print)' \
+            '--stats[Says in numbers what each handler did: turns, requests, waits and objects]' \
             '--explain[Shows where a refusal stands, or says why handlers failed or wait, on standard error; the default where that is a terminal]' \
             '--no-explain[Leaves that out]' \
             '--format=[How the answer is written: as lines, or as one object of JSON]:FORMAT:(text json)' \
@@ -55,6 +56,7 @@ _scoop_words() {
         ;;
     replay)
         _arguments '--trace=-[Tells each turn that concerns others as it is made, or only what is printed, on standard error]::WHAT:(all print)' \
+            '--stats[Says in numbers what each handler did: turns, requests, waits and objects]' \
             '--explain[Shows where a refusal stands, or says why handlers failed or wait, on standard error; the default where that is a terminal]' \
             '--no-explain[Leaves that out]' \
             '--format=[How the answer is written: as lines, or as one object of JSON]:FORMAT:(text json)' \

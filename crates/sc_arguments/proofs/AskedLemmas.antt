@@ -1,5 +1,6 @@
 -- What all arguments ask for.
-use Rattle.std.proofs.Common.{◌≡◌, ◌∙◌, ℕ, ◌==◌, ◌≤◌, Bool, false, List, [], ◌∷◌, Bor, length, map, drop, get_or, slice_index_or, Result, Ok, Err, IfOk, sym, ap, subst, arith}
+use Rattle.std.proofs.Common.{◌≡◌, ◌∙◌, ℕ, ◌==◌, ◌≤◌, ◌-◌, Bool, false, List, [], ◌∷◌, Bor, length, map, drop, take, get_or, slice_index_or, Result, Ok, Err, IfOk, sym, ap, subst, arith}
+use Rattle.std.proofs.lemmas.Grind.{common_steps}
 use Rattle.std.specs.List.{remove}
 use Rattle.sc_arguments.specs.Asked.{IsAskedFor, IsAskedOf, asks_for_help, texts_of}
 use Rattle.sc_arguments.specs.declared.arguments.Invocation.{Invocation}
@@ -16,6 +17,10 @@ asked-for text (x ∷ (y ∷ zs)) command d words name asks (Ok what) few first 
     let Q : List (List ℕ) → Type 0 = λ ws. IsAskedOf (text y) ws what in
     (sym help ∙ free, subst Q (ap (map text) rest) (subst P (same ∙ ap text first) asked))
 asked-for text (x ∷ (y ∷ zs)) command d words name asks (Err fault) few first rest same help free asked = tt
+
+-- all words behind the command
+pub words-behind : {X : Type 0} (arguments : List X) → take (length arguments - 2) (drop 2 arguments) ≡ drop 2 arguments
+words-behind arguments = grind (arith, common_steps)
 
 -- the first that is given, and the rest
 pub first_apart : (given rest : List (Bor (List ℕ))) (first : Bor (List ℕ)) → (length given == 0) ≡ false → first ≡ slice_index_or given 0 first →

@@ -86,6 +86,7 @@ pub record AreRunOptions (words : List (List ℕ)) (options : RunOptions) : Type
   pub output_limit : IsLimitBy (value_of (codes "--output-limit") words) options.output_limit
   pub record_name : option_map (λ name. name.now) options.record ≡ value_of (codes "--record") words
   pub is_audited : options.is_audited ≡ has_option (codes "--audit") words
+  pub has_stats : options.has_stats ≡ has_option (codes "--stats") words
 
 pub record AreChanceOptions (words : List (List ℕ)) (options : ChanceOptions) : Type 0 where
   pub root : IsRootIn words options.root
@@ -99,6 +100,7 @@ pub record AreChanceOptions (words : List (List ℕ)) (options : ChanceOptions) 
 pub record AreReplayOptions (words : List (List ℕ)) (options : ReplayOptions) : Type 0 where
   pub root : IsRootIn words options.root
   pub format : options.format ≡ format_in words
+  pub has_stats : options.has_stats ≡ has_option (codes "--stats") words
 
 pub record AreSearchOptions (words : List (List ℕ)) (options : SearchOptions) : Type 0 where
   pub root : IsRootIn words options.root

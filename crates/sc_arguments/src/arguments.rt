@@ -29,7 +29,7 @@ use crate::arguments::language_server::LANGUAGE_SERVER;
 use crate::arguments::numbers::{limit_by, number_up_to, small_number_up_to};
 use crate::arguments::options::{
     Beside, CODE, EXPLAIN, FILES, FLAG, FORMAT, KEPT, NO_EXPLAIN, OPTION, OUTPUT_LIMIT, RECORD,
-    ROOT, TRACE, Taken, argument,
+    ROOT, STATS, TRACE, Taken, argument,
 };
 use crate::arguments::root_option::read_root;
 use crate::arguments::searching::{SEARCH, read_search};
@@ -109,6 +109,8 @@ pub struct RunOptions<'a> {
     pub is_audited: bool,
     /// Which turns are reported as they are made; only with one worker.
     pub trace: Option<Trace>,
+    /// Whether it is said in numbers what each handler did.
+    pub has_stats: bool,
     /// Whether a refusal is also shown in its line of the text, and the handlers' states are explained.
     pub is_explained: bool,
     pub format: Format,
@@ -121,6 +123,8 @@ pub struct ReplayOptions<'a> {
     pub record: &'a str,
     /// Which turns are reported as they are made.
     pub trace: Option<Trace>,
+    /// Whether it is said in numbers what each handler did.
+    pub has_stats: bool,
     /// Whether a refusal is also shown in its line of the text, and the handlers' states are explained.
     pub is_explained: bool,
     pub format: Format,
@@ -338,6 +342,7 @@ const COMMANDS: [Described; 9] = [
         after_help: REPLAY_AFTER_HELP,
         takes: &[
             TRACE,
+            STATS,
             Taken {
                 help: RUN_EXPLAIN_HELP,
                 ..EXPLAIN
@@ -370,7 +375,7 @@ const COMMANDS: [Described; 9] = [
 ];
 
 /// What `run` takes.
-const RUN_TAKES: [Taken; 14] = [
+const RUN_TAKES: [Taken; 15] = [
     Taken {
         name: "--workers",
         help: WORKERS_HELP,
@@ -404,6 +409,10 @@ const RUN_TAKES: [Taken; 14] = [
     Taken {
         beside: Beside::Excludes("seed"),
         ..TRACE
+    },
+    Taken {
+        beside: Beside::Excludes("seed"),
+        ..STATS
     },
     Taken {
         help: RUN_EXPLAIN_HELP,
@@ -537,6 +546,7 @@ pub fn read_run<'a, S: AsStr>(
         record: value_of(words, "--record"),
         is_audited: has_option(words, "--audit"),
         trace: read_trace_by(options, workers)?,
+        has_stats: has_option(words, "--stats"),
         is_explained,
         format: read_format(words),
     })
@@ -563,6 +573,7 @@ fn read_replay<'a, S: AsStr>(
         root: read_root(alloc, words)?,
         record,
         trace: read_trace(options),
+        has_stats: has_option(words, "--stats"),
         is_explained,
         format: read_format(words),
     };

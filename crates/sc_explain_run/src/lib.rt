@@ -27,6 +27,7 @@ mod replay;
 mod scene;
 mod steps;
 mod supplier;
+mod tallying;
 mod telling;
 mod tracer;
 mod values;
@@ -36,4 +37,5 @@ mod words;
 
 pub use failure::{Played, order_note, run_note};
 pub use limit::Limit;
+pub use tallying::tally_of;
 pub use tracer::{Told, Tracer};

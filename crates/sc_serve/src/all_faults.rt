@@ -79,6 +79,7 @@ fn answer_list<'a>(
         exit: list_exit(refused),
         note,
         record: None,
+        beside: None,
     })
 }
 

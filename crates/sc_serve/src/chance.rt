@@ -144,6 +144,7 @@ fn answer_found<'a>(
         exit,
         note,
         record: recording_of(options.record, lines),
+        beside: None,
     })
 }
 
@@ -180,6 +181,7 @@ fn answer_nothing<'a>(
         exit: Exit::Done,
         note: unrecorded_note(alloc, options.record),
         record: None,
+        beside: None,
     })
 }
 

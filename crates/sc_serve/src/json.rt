@@ -12,20 +12,28 @@ mod verdict;
 
 use crate::json::refused::push_refusal;
 use crate::json::report::push_report;
+use crate::serve::Beside;
 pub use chance::{reports_object, run_object};
 pub use faults::faults_array;
 use sc_explain_text::Lines;
 use std::alloc::{AllocError, Global};
 pub use verdict::search_object;
 
-/// The object of the lines that answer a check, a run or a replay.
+/// The object of the lines that answer a check, a run or a replay, with the numbers of handlers, if there are some.
 #[inline(never)]
-pub fn answer_object(alloc: Global, text: &[u8]) -> Result<Vec<u8>, AllocError> {
+pub fn answer_object(
+    alloc: Global,
+    text: &[u8],
+    beside: &Option<Beside>,
+) -> Result<Vec<u8>, AllocError> {
     let mut lines = Lines::new(alloc);
     match text.strip_prefix(b"refused ") {
         Some(told) => push_refusal(alloc, &mut lines, told),
         None if text.starts_with(b"ok\n") => lines.push(r#"{"answer":"ok"}"#),
-        None => push_report(alloc, &mut lines, text),
+        None => match beside {
+            Some(beside) => push_report(alloc, &mut lines, text, beside.stats.as_slice()),
+            None => push_report(alloc, &mut lines, text, &[]),
+        },
     }
     lines.push("\n");
     lines.finish()

@@ -8,6 +8,7 @@
 
 mod all_faults;
 mod chance;
+mod counting;
 mod delivery;
 mod explaining;
 mod fault_list;

@@ -5,19 +5,21 @@ ghost use Rattle.sc_class.specs.View.{root_of};
 ghost use Rattle.sc_lower.specs.Lowerings.{image_of};
 ghost use Rattle.sc_serve.specs.Answer.{IsBadRecord, IsRecordUnread, IsReplayOf, IsReplayOn, IsReplayTo, IsReplayed, IsUnplayed, IsUnplayedRecord, TellsBadRecord};
 
+use crate::counting::{beside_of, push_stats};
 use crate::progress::Tell;
 use crate::running::explained_run;
 use crate::serve::{
     Answer, Fault, answer_explained, answer_refused, answer_unread, exit_of, root_if,
 };
 use crate::tracing::{Tracing, tracer_of};
-use sc_arguments::ReplayOptions;
+use sc_arguments::{Format, ReplayOptions};
 use sc_audit::{ReadFault, Record, read_record};
 use sc_code::Program;
 use sc_driver::replay;
 use sc_explain_run::{Limit, Played};
 use sc_explain_text::Lines;
 use sc_frontend::load_text;
+use sc_model::Status;
 use sc_source::files::{Files, NamedFile, read_source};
 use sc_source::reading::FileFault;
 use sc_source::source::Source;
@@ -119,19 +121,34 @@ fn play<'a, T: Tell>(
         limit: Limit::Record,
         may_refuse: true,
     };
-    let note = explained_run(
-        alloc,
-        played,
-        outcome.statuses.as_slice(),
-        options.is_explained,
-    );
+    let note = note_of(alloc, options, played, outcome.statuses.as_slice());
+    let has_member = options.has_stats && matches!(options.format, Format::Json);
+    let beside = beside_of(alloc, played, has_member)?;
     Ok(Answer {
         text: outcome.report,
         object: None,
         exit,
         note,
         record: None,
+        beside,
     })
+}
+
+/// The note on a replay: why handlers failed or wait, and what each did in numbers, as far as that is asked for.
+#[inline(never)]
+fn note_of(
+    alloc: Global,
+    options: &ReplayOptions<'_>,
+    played: Played<'_>,
+    statuses: &[Status],
+) -> Result<Vec<u8>, AllocError> {
+    let mut lines = Lines::new(alloc);
+    match explained_run(alloc, played, statuses, options.is_explained) {
+        Ok(note) => lines.push_bytes(note.as_slice()),
+        Err(_) => lines.lack(),
+    }
+    push_stats(&mut lines, played, options.format, options.has_stats);
+    lines.finish()
 }
 
 /// Reports the turns of a record, if that is asked for.

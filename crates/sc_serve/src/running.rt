@@ -9,15 +9,16 @@ ghost use Rattle.sc_world.specs.Reports as told;
 ghost use Rattle.std.specs.Option.{option_map};
 ghost use Rattle.sc_serve.specs.Answer.{IsJudged, IsRanOf, IsRunOfSource, IsRunOn, IsUnrun, IsUnrunOn, asked_of, audit_line, bounds_of, kept_of};
 
+use crate::counting::{beside_of, push_stats};
 use crate::numbered::numbered;
 use crate::progress::Tell;
 use crate::serve::{
-    Answer, Exit, Fault, Recording, answer_explained, answer_unread, exit_of, root_if,
+    Answer, Beside, Exit, Fault, Recording, answer_explained, answer_unread, exit_of, root_if,
 };
 use crate::tracing::{Tracing, tracer_of};
 use crate::verdict::turns_of;
 use crate::watching::RunWatch;
-use sc_arguments::RunOptions;
+use sc_arguments::{Format, RunOptions};
 use sc_audit::RecordLine;
 use sc_code::Program;
 use sc_driver::{AuditFault, Ended, audit, run_program};
@@ -97,6 +98,7 @@ fn run_loaded<'a, R: Threads + Wait + Clock + Sync, T: Tell>(
     let Ended { left, statuses, .. } = run_watched(rt, alloc, program, options, source, teller)?;
     let (audited, exit) = judge(alloc, program, options, &left, statuses.as_slice())?;
     let note = note_of(alloc, program, options, source, &left, statuses.as_slice());
+    let beside = beside_left(alloc, program, options, source, &left)?;
     let (mut text, lines) = left.into_report(alloc)?;
     text.extend_from_slice(audited.as_slice())?;
     Ok(Answer {
@@ -105,6 +107,7 @@ fn run_loaded<'a, R: Threads + Wait + Clock + Sync, T: Tell>(
         exit,
         note,
         record: recording_of(options.record, lines),
+        beside,
     })
 }
 
@@ -248,7 +251,29 @@ fn note_of(
         Ok(note) => lines.push_bytes(note.as_slice()),
         Err(_) => lines.lack(),
     }
+    push_stats(&mut lines, played, options.format, options.has_stats);
     lines.finish()
+}
+
+/// What is answered beside the report of what a run left.
+#[inline(never)]
+fn beside_left(
+    alloc: Global,
+    program: &Program,
+    options: &RunOptions<'_>,
+    source: &Source,
+    left: &Left<'_>,
+) -> Result<Option<Beside>, AllocError> {
+    let has_member = options.has_stats && matches!(options.format, Format::Json);
+    let played = Played {
+        source,
+        program,
+        version: Version::Two,
+        lines: left.lines.as_slice(),
+        limit: Limit::Turns(options.turns),
+        may_refuse: true,
+    };
+    beside_of(alloc, played, has_member)
 }
 
 /// Why handlers failed or wait after a run, or what they refused, if that is to be said.

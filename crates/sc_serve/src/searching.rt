@@ -97,6 +97,7 @@ fn search_loaded<'a, W: Watch + Tell>(
         exit,
         note,
         record: recording_of(options.record, verdict.finding),
+        beside: None,
     })
 }
 

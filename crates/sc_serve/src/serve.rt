@@ -73,6 +73,14 @@ pub struct Answer<'a> {
     /// An error if memory ran out for it: then there is no answer.
     pub note: Result<Vec<u8>, AllocError>,
     pub record: Option<Recording<'a>>,
+    pub beside: Option<Beside>,
+}
+
+/// What is answered to a run beside its report.
+#[derive(Drop)]
+pub struct Beside {
+    /// The numbers of its handlers as a member of JSON; nothing if its object isn't to have them.
+    pub stats: Vec<u8>,
 }
 
 /// The lines of a record, and the name of the file that it is written to.
@@ -106,6 +114,7 @@ impl<'a> Answer<'a> {
             exit,
             note,
             record: None,
+            beside: None,
         }
     }
 }
@@ -358,7 +367,8 @@ fn formatted<'a>(
     ensures { IfOk result (IsFormatted format answer.entry) }
 {
     if answer.object.is_none() && matches!(format, Format::Json) {
-        answer.object = Some(answer_object(alloc, answer.text.as_slice())?);
+        let object = answer_object(alloc, answer.text.as_slice(), &answer.beside)?;
+        answer.object = Some(object);
     }
     Ok(answer)
 }

@@ -249,6 +249,7 @@ fn answer_results<'a>(
         exit: exit_of(results),
         note,
         record: None,
+        beside: None,
     })
 }
 

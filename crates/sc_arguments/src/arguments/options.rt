@@ -109,6 +109,13 @@ pub const TRACE: Taken = Taken {
     ..OPTION
 };
 
+/// The option `--stats`.
+pub const STATS: Taken = Taken {
+    name: "--stats",
+    help: "Says in numbers what each handler did: turns, requests, waits and objects",
+    ..FLAG
+};
+
 /// The option `--root`.
 pub const ROOT: Taken = Taken {
     name: "--root",

@@ -9,7 +9,7 @@ use std::alloc::{AllocError, Global};
 pub fn run_object(alloc: Global, seed: u64, report: &[u8]) -> Result<Vec<u8>, AllocError> {
     let mut lines = Lines::new(alloc);
     lines.push(r#"{"answer":"run","report":"#);
-    push_report(alloc, &mut lines, report);
+    push_report(alloc, &mut lines, report, &[]);
     lines.fill_number(",\"seed\":~}\n", seed);
     lines.finish()
 }
@@ -22,7 +22,7 @@ pub fn reports_object(alloc: Global, outcomes: &Outcomes) -> Result<Vec<u8>, All
     for number in 0..outcomes.len() {
         let outcome = outcomes.outcome(number);
         lines.push(before);
-        push_report(alloc, &mut lines, outcome.report);
+        push_report(alloc, &mut lines, outcome.report, &[]);
         lines.fill_number(r#","runs":~"#, outcome.runs as u64);
         lines.fill_number(r#","seed":~}"#, outcome.seed);
         before = r#",{"report":"#;

@@ -21,8 +21,9 @@ struct Line<'t> {
 }
 
 /// Writes a report: each handler with its status, the code of its failure, how many requests it refused, and its
-/// output; how the run has stopped; and the answer of its audit, if there is one. Only outputs may need escapes.
-pub fn push_report(alloc: Global, lines: &mut Lines, report: &[u8]) {
+/// output; how the run has stopped; and the answer of its audit, if there is one. Only outputs may need escapes. A member
+/// with the numbers of the handlers, with a comma before it, is added if there is one.
+pub fn push_report(alloc: Global, lines: &mut Lines, report: &[u8], stats: &[u8]) {
     let mut reader = Reader { rest: report };
     let mut handlers = Lines::new(alloc);
     push_handlers(alloc, &mut handlers, &mut reader);
@@ -32,9 +33,11 @@ pub fn push_report(alloc: Global, lines: &mut Lines, report: &[u8]) {
         None => lines.push(r#"{"answer":"report","audit":null,"handlers":["#),
     }
     lines.push_lines(&handlers);
+    lines.push("]");
+    lines.push_bytes(stats);
     match stopped {
-        Some(stopped) => lines.fill_name(r#"],"stopped":"~"}"#, stopped),
-        None => lines.push(r#"],"stopped":null}"#),
+        Some(stopped) => lines.fill_name(r#","stopped":"~"}"#, stopped),
+        None => lines.push(r#","stopped":null}"#),
     }
 }
 

@@ -124,7 +124,7 @@ fn push_reports(alloc: Global, lines: &mut Lines, options: &SearchOptions<'_>, e
         lines.push(before);
         push_order(lines, Some(end.order.lines.as_slice()));
         lines.push(r#","report":"#);
-        push_report(alloc, lines, end.report.as_slice());
+        push_report(alloc, lines, end.report.as_slice(), &[]);
         before = r#"},{"order":"#;
     }
     lines.push(if ends.is_empty() { "]" } else { "}]" })

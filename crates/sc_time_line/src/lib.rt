@@ -1,0 +1,15 @@
+//! What happened in a run, turn by turn, and what is made of that for people: numbers of each handler.
+//!
+//! A [`Turn`] is what one turn did. Who plays a record hands each of its turns to a [`Tally`], which counts.
+#![tactic(auto)]
+
+mod condition;
+mod count;
+mod quoting;
+mod stats;
+mod tally;
+mod turn;
+
+pub use stats::{stats_lines, stats_member};
+pub use tally::Tally;
+pub use turn::{Began, Made, Sent, Taken, Turn};
