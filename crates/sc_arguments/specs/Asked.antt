@@ -15,6 +15,7 @@ use Rattle.sc_arguments.specs.declared.arguments.RunOptions.{RunOptions}
 use Rattle.sc_arguments.specs.declared.arguments.chance.ChanceOptions.{ChanceOptions}
 use Rattle.sc_arguments.specs.declared.arguments.chance.Until.{Until}
 use Rattle.sc_arguments.specs.declared.arguments.chance.Until.TheVariants as until
+use Rattle.sc_arguments.specs.declared.arguments.drawing.Drawings.{Drawings}
 use Rattle.sc_arguments.specs.declared.arguments.format.Format.{Format}
 use Rattle.sc_arguments.specs.declared.arguments.format.Format.TheVariants.{Json, Text}
 use Rattle.sc_arguments.specs.declared.arguments.searching.SearchOptions.{SearchOptions}
@@ -74,6 +75,10 @@ until_by None false = until.First
 
 -- ---- the options of each command
 
+-- the files that a run is drawn to
+pub record AreDrawings (words : List (List ℕ)) (drawings : Drawings) : Type 0 where
+  pub trace_events : option_map (λ name. name.now) drawings.trace_events ≡ value_of (codes "--trace-events") words
+
 pub record AreCheckOptions (words : List (List ℕ)) (options : CheckOptions) : Type 0 where
   pub root : IsRootIn words options.root
   pub format : options.format ≡ format_in words
@@ -87,6 +92,7 @@ pub record AreRunOptions (words : List (List ℕ)) (options : RunOptions) : Type
   pub record_name : option_map (λ name. name.now) options.record ≡ value_of (codes "--record") words
   pub is_audited : options.is_audited ≡ has_option (codes "--audit") words
   pub has_stats : options.has_stats ≡ has_option (codes "--stats") words
+  pub drawings : AreDrawings words options.drawings
 
 pub record AreChanceOptions (words : List (List ℕ)) (options : ChanceOptions) : Type 0 where
   pub root : IsRootIn words options.root
@@ -101,6 +107,7 @@ pub record AreReplayOptions (words : List (List ℕ)) (options : ReplayOptions) 
   pub root : IsRootIn words options.root
   pub format : options.format ≡ format_in words
   pub has_stats : options.has_stats ≡ has_option (codes "--stats") words
+  pub drawings : AreDrawings words options.drawings
 
 pub record AreSearchOptions (words : List (List ℕ)) (options : SearchOptions) : Type 0 where
   pub root : IsRootIn words options.root
@@ -110,6 +117,7 @@ pub record AreSearchOptions (words : List (List ℕ)) (options : SearchOptions) 
   pub memory : WritesUpTo 1000000 (value_or (codes "--memory") (codes "1000") words) options.memory
   pub record_name : option_map (λ name. name.now) options.record ≡ value_of (codes "--record") words
   pub lists_outcomes : options.lists_outcomes ≡ has_option (codes "--outcomes") words
+  pub drawings : AreDrawings words options.drawings
 
 pub record AreTestOptions (words : List (List ℕ)) (options : TestOptions) : Type 0 where
   pub class : option_map (λ name. name.now) options.class ≡ value_of (codes "--root-class") words

@@ -2,6 +2,7 @@
 
 mod chance;
 mod checking;
+mod drawing;
 mod format;
 mod formatting;
 mod given;
@@ -22,6 +23,7 @@ ghost use Rattle.sc_arguments.specs.Words.{given_in};
 
 use crate::arguments::chance::{SEED, TIMES, UNTIL, read_running};
 use crate::arguments::checking::{CHECK, read_checking};
+use crate::arguments::drawing::{TRACE_EVENTS, read_drawings};
 use crate::arguments::format::read_format;
 use crate::arguments::formatting::{FORMATTING, read_formatting};
 use crate::arguments::given::given_in;
@@ -40,6 +42,7 @@ pub use chance::{ChanceOptions, Until};
 use clap::builder::ValueParser;
 use clap::error::ErrorKind;
 use clap::{ArgAction, ArgMatches};
+pub use drawing::Drawings;
 pub use format::Format;
 pub use help::ask_for_help;
 use sc_class::Root;
@@ -111,6 +114,8 @@ pub struct RunOptions<'a> {
     pub trace: Option<Trace>,
     /// Whether it is said in numbers what each handler did.
     pub has_stats: bool,
+    /// The files that the run is drawn to.
+    pub drawings: Drawings<'a>,
     /// Whether a refusal is also shown in its line of the text, and the handlers' states are explained.
     pub is_explained: bool,
     pub format: Format,
@@ -125,6 +130,8 @@ pub struct ReplayOptions<'a> {
     pub trace: Option<Trace>,
     /// Whether it is said in numbers what each handler did.
     pub has_stats: bool,
+    /// The files that the run is drawn to.
+    pub drawings: Drawings<'a>,
     /// Whether a refusal is also shown in its line of the text, and the handlers' states are explained.
     pub is_explained: bool,
     pub format: Format,
@@ -343,6 +350,7 @@ const COMMANDS: [Described; 9] = [
         takes: &[
             TRACE,
             STATS,
+            TRACE_EVENTS,
             Taken {
                 help: RUN_EXPLAIN_HELP,
                 ..EXPLAIN
@@ -375,7 +383,7 @@ const COMMANDS: [Described; 9] = [
 ];
 
 /// What `run` takes.
-const RUN_TAKES: [Taken; 15] = [
+const RUN_TAKES: [Taken; 16] = [
     Taken {
         name: "--workers",
         help: WORKERS_HELP,
@@ -413,6 +421,10 @@ const RUN_TAKES: [Taken; 15] = [
     Taken {
         beside: Beside::Excludes("seed"),
         ..STATS
+    },
+    Taken {
+        beside: Beside::Excludes("seed"),
+        ..TRACE_EVENTS
     },
     Taken {
         help: RUN_EXPLAIN_HELP,
@@ -547,6 +559,7 @@ pub fn read_run<'a, S: AsStr>(
         is_audited: has_option(words, "--audit"),
         trace: read_trace_by(options, workers)?,
         has_stats: has_option(words, "--stats"),
+        drawings: read_drawings(words),
         is_explained,
         format: read_format(words),
     })
@@ -574,6 +587,7 @@ fn read_replay<'a, S: AsStr>(
         record,
         trace: read_trace(options),
         has_stats: has_option(words, "--stats"),
+        drawings: read_drawings(words),
         is_explained,
         format: read_format(words),
     };

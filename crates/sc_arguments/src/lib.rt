@@ -7,7 +7,7 @@
 mod arguments;
 
 pub use arguments::{
-    ChanceOptions, CheckOptions, Command, Format, Invocation, ReplayOptions, RunOptions,
+    ChanceOptions, CheckOptions, Command, Drawings, Format, Invocation, ReplayOptions, RunOptions,
     SearchOptions, Sought, TestFormat, TestOptions, Trace, Until, UsageFault, ask_for_help,
     read_arguments,
 };

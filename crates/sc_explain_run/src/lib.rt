@@ -9,6 +9,7 @@
 mod before;
 mod breakdown;
 mod chains;
+mod chronicle;
 mod clause;
 mod evaluation;
 mod failure;
@@ -35,6 +36,7 @@ mod waiting;
 mod waits;
 mod words;
 
+pub use chronicle::history_of;
 pub use failure::{Played, order_note, run_note};
 pub use limit::Limit;
 pub use tallying::tally_of;

@@ -25,7 +25,7 @@ pub enum Told {
 /// a world of its own, so the run is what it would be without it.
 #[derive(Drop)]
 pub struct Tracer<'r> {
-    replay: Replay<'r>,
+    pub replay: Replay<'r>,
     told: Told,
     waiting: Waiting,
     /// How many turns were made.
@@ -75,7 +75,7 @@ impl<'r> Tracer<'r> {
     }
 
     /// Makes a turn of a handler, if it has a job, and adds its description. Returns whether it did.
-    fn turn(&mut self, lines: &mut Lines, handler: HandlerNumber) -> bool {
+    pub fn turn(&mut self, lines: &mut Lines, handler: HandlerNumber) -> bool {
         let earlier = Earlier::of(&self.replay.scene(), handler);
         match self.replay.world.turn(handler) {
             Ok(Turned::Moved) => {}

@@ -48,6 +48,7 @@ MayBeWritten replaced_by name = IfSome name (λ n. IfSome (replaced_by n) (λ by
 -- that are read; what it holds can't be read; it can't be written; or memory ran out.
 abbrev pub IsUnwritable : Option (List ℕ) → Fault → Type 0
 IsUnwritable name (fault.NoRecord told) = name ≡ Some told.now
+IsUnwritable name (fault.NoDrawing told) = ⊥
 IsUnwritable name (fault.CannotRead told reading) = name ≡ Some told.now
 IsUnwritable name (fault.CannotRecord told error remains) = name ≡ Some told.now
 IsUnwritable name fault.OutOfMemory = Unit {0}

@@ -1,10 +1,11 @@
-//! How an answer leaves the program: what it prints, and the record that it writes to a file.
+//! How an answer leaves the program: what it prints, and the record and the pictures that it writes to files.
 
 ghost use Rattle.std.specs.Prelude.{◌≡◌, OnErr, OnOk};
 ghost use Rattle.std.specs.Io.KnownBytes.{Appends};
 ghost use Rattle.sc_audit.specs.Writing.{WritesBeginning};
 ghost use Rattle.sc_serve.specs.Served.{IsDelivered, IsGivenUp, number_of, written_of};
 
+use crate::drawing::write_drawings;
 use crate::serve::{Answer, Exit, Fault, Recording, end_with};
 use crate::target::fault_of;
 use sc_audit::{RecordLine, Unwritable, write_record, write_whole};
@@ -21,13 +22,35 @@ pub fn deliver<F: Files, O: Write, E: Write>(
 ) -> u8
     ensures { IsDelivered answer.now (O.contents out.old) (O.contents out.new) result }
 {
+    match print_and_draw(answer, files, out, err) {
+        Ok(()) => status_of(answer.exit),
+        Err(fault) => give_up(&fault, answer.exit, err),
+    }
+}
+
+/// Writes the pictures of an answer, prints it, and writes its record. If a picture can't be written, the rest is done all
+/// the same, unless memory ran out.
+#[tactic(auto, using(crate::proofs::ServedLemmas::all_begins, crate::proofs::ServedLemmas::none_begins))]
+fn print_and_draw<'a, F: Files, O: Write, E: Write>(
+    answer: &Answer<'a>,
+    files: &F,
+    out: &mut O,
+    err: &mut E,
+) -> Result<(), Fault<'a>>
+    ensures ok { OnOk result (Appends (O.contents out.old) (O.contents out.new) (written_of answer.now)) }
+    ensures err { OnErr result (WritesBeginning (O.contents out.old) (O.contents out.new) (written_of answer.now)) }
+{
+    let drawn = write_drawings(files, &answer.beside);
+    if let Err(Fault::OutOfMemory) = &drawn {
+        return drawn;
+    }
     let told = match &answer.record {
         None => print(answer, out, err),
         Some(recording) => print_and_record(answer, recording, files, out, err),
     };
     match told {
-        Ok(()) => status_of(answer.exit),
-        Err(fault) => give_up(&fault, answer.exit, err),
+        Ok(()) => drawn,
+        Err(fault) => Err(fault),
     }
 }
 

@@ -24,7 +24,7 @@ pub use verdict::search_object;
 pub fn answer_object(
     alloc: Global,
     text: &[u8],
-    beside: &Option<Beside>,
+    beside: &Option<Beside<'_>>,
 ) -> Result<Vec<u8>, AllocError> {
     let mut lines = Lines::new(alloc);
     match text.strip_prefix(b"refused ") {

@@ -8,8 +8,8 @@
 
 mod all_faults;
 mod chance;
-mod counting;
 mod delivery;
+mod drawing;
 mod explaining;
 mod fault_list;
 mod folder;

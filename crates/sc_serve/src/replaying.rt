@@ -5,7 +5,7 @@ ghost use Rattle.sc_class.specs.View.{root_of};
 ghost use Rattle.sc_lower.specs.Lowerings.{image_of};
 ghost use Rattle.sc_serve.specs.Answer.{IsBadRecord, IsRecordUnread, IsReplayOf, IsReplayOn, IsReplayTo, IsReplayed, IsUnplayed, IsUnplayedRecord, TellsBadRecord};
 
-use crate::counting::{beside_of, push_stats};
+use crate::drawing::{beside_of, push_stats};
 use crate::progress::Tell;
 use crate::running::explained_run;
 use crate::serve::{
@@ -101,7 +101,7 @@ fn play_record<'a, F: Files, T: Tell>(
 fn play<'a, T: Tell>(
     alloc: Global,
     program: &Program,
-    options: &ReplayOptions<'_>,
+    options: &ReplayOptions<'a>,
     source: &Source,
     recorded: &Record,
     teller: &mut T,
@@ -123,7 +123,7 @@ fn play<'a, T: Tell>(
     };
     let note = note_of(alloc, options, played, outcome.statuses.as_slice());
     let has_member = options.has_stats && matches!(options.format, Format::Json);
-    let beside = beside_of(alloc, played, has_member)?;
+    let beside = beside_of(alloc, played, &options.drawings, has_member)?;
     Ok(Answer {
         text: outcome.report,
         object: None,

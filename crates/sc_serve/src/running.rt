@@ -9,7 +9,7 @@ ghost use Rattle.sc_world.specs.Reports as told;
 ghost use Rattle.std.specs.Option.{option_map};
 ghost use Rattle.sc_serve.specs.Answer.{IsJudged, IsRanOf, IsRunOfSource, IsRunOn, IsUnrun, IsUnrunOn, asked_of, audit_line, bounds_of, kept_of};
 
-use crate::counting::{beside_of, push_stats};
+use crate::drawing::{beside_of, push_stats};
 use crate::numbered::numbered;
 use crate::progress::Tell;
 use crate::serve::{
@@ -257,13 +257,13 @@ fn note_of(
 
 /// What is answered beside the report of what a run left.
 #[inline(never)]
-fn beside_left(
+fn beside_left<'a>(
     alloc: Global,
     program: &Program,
-    options: &RunOptions<'_>,
+    options: &RunOptions<'a>,
     source: &Source,
     left: &Left<'_>,
-) -> Result<Option<Beside>, AllocError> {
+) -> Result<Option<Beside<'a>>, AllocError> {
     let has_member = options.has_stats && matches!(options.format, Format::Json);
     let played = Played {
         source,
@@ -273,7 +273,7 @@ fn beside_left(
         limit: Limit::Turns(options.turns),
         may_refuse: true,
     };
-    beside_of(alloc, played, has_member)
+    beside_of(alloc, played, &options.drawings, has_member)
 }
 
 /// Why handlers failed or wait after a run, or what they refused, if that is to be said.

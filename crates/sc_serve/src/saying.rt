@@ -31,7 +31,10 @@ fn push_fault<E: Write>(message: &mut Message<'_, E>, fault: &Fault<'_>) {
         Fault::CannotRecord(name, error, remains) => {
             push_unwritten(message, name, error, remains)
         }
-        Fault::NoCode(name) | Fault::NoRecord(name) => message.fill_name(template_of(fault), name),
+        Fault::NoCode(name) | Fault::NoRecord(name) | Fault::NoDrawing(name) => message.fill_name(
+            template_of(fault),
+            name,
+        ),
         _ => message.push(template_of(fault)),
     }
 }
@@ -52,6 +55,7 @@ fn template_of(fault: &Fault<'_>) -> &'static str {
         Fault::Usage(UsageFault::TwoReadings) => "the arguments can be read in two ways\n",
         Fault::NoCode(_) => "no code ~\n`scoop explain` lists the codes\n",
         Fault::NoRecord(_) => "~ is there and is no record: name another file\n",
+        Fault::NoDrawing(_) => "a picture doesn't replace ~: name another file\n",
         Fault::CannotWrite => "cannot write standard output\n",
         Fault::NoThread => "no thread\n",
         Fault::LogsDiffer => "logs differ\n",

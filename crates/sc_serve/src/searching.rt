@@ -7,10 +7,13 @@ ghost use Rattle.sc_serve.specs.Answer.{IsUnansweredOn, kept_of, out_of_memory};
 ghost use Rattle.sc_serve.specs.Search as spec;
 ghost use Rattle.sc_serve.specs.Search.{IsSearchOf, IsSearchOfSource, IsSearchOn, IsTold};
 
+use crate::drawing::beside_of;
 use crate::giving_up::unfound_note;
 use crate::json::{made, search_object};
 use crate::progress::Tell;
-use crate::serve::{Answer, Exit, Fault, Recording, answer_explained, answer_unread, root_if};
+use crate::serve::{
+    Answer, Beside, Exit, Fault, Recording, answer_explained, answer_unread, root_if,
+};
 use crate::verdict::{outcome_lines, verdict_lines};
 use sc_arguments::{Format, SearchOptions, Sought};
 use sc_audit::RecordLine;
@@ -91,13 +94,14 @@ fn search_loaded<'a, W: Watch + Tell>(
         alloc, program, options, source, &verdict, millis,
     )?;
     let exit = exit_of(&verdict);
+    let beside = beside_found(alloc, program, options, source, &verdict.finding)?;
     Ok(Answer {
         text,
         object,
         exit,
         note,
         record: recording_of(options.record, verdict.finding),
-        beside: None,
+        beside,
     })
 }
 
@@ -243,6 +247,29 @@ pub fn found_note(
         }
         _ => Ok(Vec::new(alloc)),
     }
+}
+
+/// The pictures of the order that was found, if one was and they are asked for.
+#[inline(never)]
+fn beside_found<'a>(
+    alloc: Global,
+    program: &Program,
+    options: &SearchOptions<'a>,
+    source: &Source,
+    finding: &Finding,
+) -> Result<Option<Beside<'a>>, AllocError> {
+    let Some(lines) = lines_of(finding) else {
+        return Ok(None);
+    };
+    let played = Played {
+        source,
+        program,
+        version: Version::Two,
+        lines,
+        limit: limit_of(finding),
+        may_refuse: true,
+    };
+    beside_of(alloc, played, &options.drawings, false)
 }
 
 /// Where the order that was found ends.

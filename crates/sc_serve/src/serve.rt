@@ -11,6 +11,7 @@ ghost use Rattle.sc_serve.specs.Served.{Answers, IsExplained, IsFormatted, IsGiv
 use crate::all_faults::answer_all_faults;
 use crate::chance::answer_chance;
 use crate::delivery::{deliver, status_of};
+use crate::drawing::check_drawings;
 use crate::explaining::{explanation, too_long_note};
 use crate::json::answer_object;
 use crate::layouts::answer_layout;
@@ -62,8 +63,8 @@ pub enum Exit {
     Done = 0,
 }
 
-/// What the program writes on standard output, what it ends with, what it adds on standard error, and the record that it
-/// writes to a file.
+/// What the program writes on standard output, what it ends with, what it adds on standard error, and the record and the
+/// pictures that it writes to files.
 #[derive(Drop)]
 pub struct Answer<'a> {
     pub text: Vec<u8>,
@@ -73,14 +74,23 @@ pub struct Answer<'a> {
     /// An error if memory ran out for it: then there is no answer.
     pub note: Result<Vec<u8>, AllocError>,
     pub record: Option<Recording<'a>>,
-    pub beside: Option<Beside>,
+    pub beside: Option<Beside<'a>>,
 }
 
 /// What is answered to a run beside its report.
 #[derive(Drop)]
-pub struct Beside {
+pub struct Beside<'a> {
     /// The numbers of its handlers as a member of JSON; nothing if its object isn't to have them.
     pub stats: Vec<u8>,
+    /// The files that it is drawn to.
+    pub drawings: Vec<Drawing<'a>>,
+}
+
+/// A file that a run is drawn to, and all its bytes.
+#[derive(Drop)]
+pub struct Drawing<'a> {
+    pub name: &'a str,
+    pub bytes: Vec<u8>,
 }
 
 /// The lines of a record, and the name of the file that it is written to.
@@ -133,6 +143,8 @@ pub enum Fault<'a> {
     CannotRecord(&'a str, io::Error, Option<Remains>),
     /// A file that the record isn't written to: it is there and is none, or one of the files that are read.
     NoRecord(&'a str),
+    /// A file that a picture isn't written to: it is there and is none of that kind, or is read or written otherwise.
+    NoDrawing(&'a str),
     /// A thread is refused.
     NoThread,
     /// The threads of a run have logs that differ, which never comes.
@@ -271,6 +283,7 @@ fn answer_to<'a, R: Threads + Wait + Clock + Sync, F: Files, W: Watch + Tell>(
     ensures { IfOk result (Answers (F.bytes_of files.now) invocation.now) }
 {
     check_target(alloc, files, invocation)?;
+    check_drawings(alloc, files, invocation)?;
     let answer = answer_unformatted(rt, alloc, invocation, files, watch)?;
     formatted(alloc, format_asked(invocation), answer)
 }

@@ -71,7 +71,7 @@ pub fn check_record<'a, F: Files>(
 
 /// Why a record can't be written to the file of this name, which can't be read. That it can't be written either is
 /// reported first.
-fn probed_fault<'a, F: Files>(files: &F, name: &'a str, fault: FileFault) -> Fault<'a>
+pub fn probed_fault<'a, F: Files>(files: &F, name: &'a str, fault: FileFault) -> Fault<'a>
     ensures { IsUnwritable (Some name.now) result }
 {
     match probe(files, name) {
@@ -81,7 +81,7 @@ fn probed_fault<'a, F: Files>(files: &F, name: &'a str, fault: FileFault) -> Fau
 }
 
 /// Whether writing the file `written` would replace one of the files `names`, which are read.
-fn is_read<F: Files>(files: &F, written: &str, names: &[&str]) -> bool {
+pub fn is_read<F: Files>(files: &F, written: &str, names: &[&str]) -> bool {
     for read in names {
         if files.is_replaced(written, *read) {
             return true;
@@ -105,7 +105,7 @@ fn may_replace<F: Files>(alloc: Global, files: &F, name: &str) -> Result<bool, F
 }
 
 /// Why what a file holds isn't known, if opening it failed with this error.
-fn unreadable(error: io::Error) -> FileFault {
+pub fn unreadable(error: io::Error) -> FileFault {
     if error.kind() == ErrorKind::OutOfMemory {
         FileFault::OutOfMemory
     } else {
@@ -135,7 +135,7 @@ fn is_heading(version: Version, text: &[u8]) -> bool
 }
 
 /// Tries whether a file of this name can be written.
-fn probe<'a, F: Files>(files: &F, name: &'a str) -> Result<(), Fault<'a>>
+pub fn probe<'a, F: Files>(files: &F, name: &'a str) -> Result<(), Fault<'a>>
     ensures { IfErr result (IsUnwritable (Some name.now)) }
 {
     match files.probe(name) {

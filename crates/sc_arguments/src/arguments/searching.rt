@@ -5,6 +5,7 @@ ghost use Rattle.sc_arguments.specs.Asked as spec;
 ghost use Rattle.sc_arguments.specs.Asked.{IsAskedOf, texts_of};
 ghost use Rattle.sc_arguments.specs.Words.{given_in, value_or};
 
+use crate::arguments::drawing::{Drawings, TRACE_EVENTS, read_drawings};
 use crate::arguments::format::{Format, read_format};
 use crate::arguments::numbers::number_up_to;
 use crate::arguments::options::{
@@ -31,6 +32,8 @@ pub struct SearchOptions<'a> {
     pub record: Option<&'a str>,
     /// Whether each outcome is to be listed.
     pub lists_outcomes: bool,
+    /// The files that the order that is found is drawn to.
+    pub drawings: Drawings<'a>,
     /// Whether a refusal is to be shown in its line of the text too, and why handlers wait or fail.
     pub is_explained: bool,
     pub format: Format,
@@ -118,7 +121,7 @@ const SEARCH_EXPLAIN_HELP: &str =
     "Shows where a refusal stands, or says who waits for whom, why one fails or why the search gave up, on standard error; the default where that is a terminal";
 
 /// What `search` takes.
-const SEARCH_TAKES: [Taken; 10] = [
+const SEARCH_TAKES: [Taken; 11] = [
     Taken {
         name: "--for",
         help: "What ends the search",
@@ -152,6 +155,7 @@ const SEARCH_TAKES: [Taken; 10] = [
         help: OUTCOMES_HELP,
         ..FLAG
     },
+    TRACE_EVENTS,
     Taken {
         help: SEARCH_EXPLAIN_HELP,
         ..EXPLAIN
@@ -193,6 +197,7 @@ pub fn read_search<'a, S: AsStr>(
         memory,
         record: value_of(words, "--record"),
         lists_outcomes: has_option(words, "--outcomes"),
+        drawings: read_drawings(words),
         is_explained,
         format: read_format(words),
     };

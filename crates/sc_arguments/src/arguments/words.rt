@@ -8,7 +8,7 @@ ghost use Rattle.sc_arguments.specs.Words as spec;
 use std::convert::AsStr;
 
 /// The options whose value may be the next word.
-const VALUED: [&str; 13] = [
+const VALUED: [&str; 14] = [
     "--root",
     "--root-class",
     "--workers",
@@ -22,6 +22,7 @@ const VALUED: [&str; 13] = [
     "--seed",
     "--times",
     "--until",
+    "--trace-events",
 ];
 
 /// The value of an option among the words after a command, if it is used.
