@@ -48,6 +48,7 @@ _scoop_words() {
             '--trace=-[Tells each turn that concerns others as it is made, or only what is printed, on standard error]::WHAT:(all print)' \
             '--stats[Says in numbers what each handler did: turns, requests, waits and objects]' \
             '--trace-events=[Writes the turns to this file in the Trace Event format, for Perfetto or Chrome'\''s viewer]:PATH:_files' \
+            '--timeline=[Draws the turns to this file, a page that a browser shows]:PATH:_files' \
             '--explain[Shows where a refusal stands, or says why handlers failed or wait, on standard error; the default where that is a terminal]' \
             '--no-explain[Leaves that out]' \
             '--format=[How the answer is written: as lines, or as one object of JSON]:FORMAT:(text json)' \
@@ -59,6 +60,7 @@ _scoop_words() {
         _arguments '--trace=-[Tells each turn that concerns others as it is made, or only what is printed, on standard error]::WHAT:(all print)' \
             '--stats[Says in numbers what each handler did: turns, requests, waits and objects]' \
             '--trace-events=[Writes the turns to this file in the Trace Event format, for Perfetto or Chrome'\''s viewer]:PATH:_files' \
+            '--timeline=[Draws the turns to this file, a page that a browser shows]:PATH:_files' \
             '--explain[Shows where a refusal stands, or says why handlers failed or wait, on standard error; the default where that is a terminal]' \
             '--no-explain[Leaves that out]' \
             '--format=[How the answer is written: as lines, or as one object of JSON]:FORMAT:(text json)' \
@@ -74,6 +76,7 @@ _scoop_words() {
             '--record=[Writes the record of the order that is found to this file]:PATH:_files' \
             '--outcomes[Lists each outcome: the report of an order that ends so]' \
             '--trace-events=[Writes the turns to this file in the Trace Event format, for Perfetto or Chrome'\''s viewer]:PATH:_files' \
+            '--timeline=[Draws the turns to this file, a page that a browser shows]:PATH:_files' \
             '--explain[Shows where a refusal stands, or says who waits for whom, why one fails or why the search gave up, on standard error; the default where that is a terminal]' \
             '--no-explain[Leaves that out]' \
             '--format=[How the answer is written: as lines, or as one object of JSON]:FORMAT:(text json)' \

@@ -78,6 +78,7 @@ until_by None false = until.First
 -- the files that a run is drawn to
 pub record AreDrawings (words : List (List ℕ)) (drawings : Drawings) : Type 0 where
   pub trace_events : option_map (λ name. name.now) drawings.trace_events ≡ value_of (codes "--trace-events") words
+  pub timeline : option_map (λ name. name.now) drawings.timeline ≡ value_of (codes "--timeline") words
 
 pub record AreCheckOptions (words : List (List ℕ)) (options : CheckOptions) : Type 0 where
   pub root : IsRootIn words options.root

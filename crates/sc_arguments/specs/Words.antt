@@ -13,7 +13,8 @@ abbrev pub valued_options : List (List ℕ)
 valued_options =
     codes "--root" ∷ codes "--root-class" ∷ codes "--workers" ∷ codes "--turns" ∷ codes "--output-limit" ∷
     codes "--record" ∷ codes "--format" ∷ codes "--for" ∷ codes "--states" ∷ codes "--memory" ∷ codes "--seed" ∷
-    codes "--times" ∷ codes "--until" ∷ codes "--trace-events" ∷ []
+    codes "--times" ∷ codes "--until" ∷ codes "--trace-events" ∷
+    codes "--timeline" ∷ []
 
 -- the word is an option whose value is the next word
 abbrev pub has_value : List ℕ → Bool

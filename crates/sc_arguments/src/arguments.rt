@@ -23,7 +23,7 @@ ghost use Rattle.sc_arguments.specs.Words.{given_in};
 
 use crate::arguments::chance::{SEED, TIMES, UNTIL, read_running};
 use crate::arguments::checking::{CHECK, read_checking};
-use crate::arguments::drawing::{TRACE_EVENTS, read_drawings};
+use crate::arguments::drawing::{TIMELINE, TRACE_EVENTS, read_drawings};
 use crate::arguments::format::read_format;
 use crate::arguments::formatting::{FORMATTING, read_formatting};
 use crate::arguments::given::given_in;
@@ -351,6 +351,7 @@ const COMMANDS: [Described; 9] = [
             TRACE,
             STATS,
             TRACE_EVENTS,
+            TIMELINE,
             Taken {
                 help: RUN_EXPLAIN_HELP,
                 ..EXPLAIN
@@ -383,7 +384,7 @@ const COMMANDS: [Described; 9] = [
 ];
 
 /// What `run` takes.
-const RUN_TAKES: [Taken; 16] = [
+const RUN_TAKES: [Taken; 17] = [
     Taken {
         name: "--workers",
         help: WORKERS_HELP,
@@ -425,6 +426,10 @@ const RUN_TAKES: [Taken; 16] = [
     Taken {
         beside: Beside::Excludes("seed"),
         ..TRACE_EVENTS
+    },
+    Taken {
+        beside: Beside::Excludes("seed"),
+        ..TIMELINE
     },
     Taken {
         help: RUN_EXPLAIN_HELP,

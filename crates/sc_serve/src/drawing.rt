@@ -9,7 +9,10 @@ use sc_explain_run::{Played, history_of, tally_of};
 use sc_explain_text::Lines;
 use sc_source::files::Files;
 use sc_source::reading::{FileFault, read_beginning};
-use sc_time_line::{History, TRACE_EVENTS_HEADING, stats_lines, stats_member, trace_events};
+use sc_time_line::{
+    History, TIMELINE_HEADING, TRACE_EVENTS_HEADING, stats_lines, stats_member, timeline,
+    trace_events,
+};
 use std::alloc::{AllocError, Global};
 
 // ---- what is made
@@ -30,7 +33,7 @@ pub fn beside_of<'a>(
     if has_member {
         beside.stats = member_of(alloc, played)?;
     }
-    if drawings.trace_events.is_some() {
+    if drawings.trace_events.is_some() || drawings.timeline.is_some() {
         let history = history_of(alloc, played)?;
         draw(alloc, played, drawings, &history, &mut beside.drawings)?;
     }
@@ -55,6 +58,10 @@ fn draw<'a>(
 ) -> Result<(), AllocError> {
     if let Some(name) = drawings.trace_events {
         let bytes = trace_events(alloc, played.source, history)?;
+        drawn.push(Drawing { name, bytes })?;
+    }
+    if let Some(name) = drawings.timeline {
+        let bytes = timeline(alloc, played.source, history)?;
         drawn.push(Drawing { name, bytes })?;
     }
     Ok(())
@@ -130,9 +137,18 @@ fn check_each<'a, F: Files>(
     record: Option<&'a str>,
     names: &[&'a str],
 ) -> Result<(), Fault<'a>> {
-    match drawings.trace_events {
+    if let Some(name) = drawings.trace_events {
+        if is_taken(files, name, record, names) {
+            return Err(Fault::NoDrawing(name));
+        }
+        check_drawing(alloc, files, name, TRACE_EVENTS_HEADING)?;
+    }
+    match drawings.timeline {
         Some(name) if is_taken(files, name, record, names) => Err(Fault::NoDrawing(name)),
-        Some(name) => check_drawing(alloc, files, name, TRACE_EVENTS_HEADING),
+        Some(name) if is_taken(files, name, drawings.trace_events, &[]) => {
+            Err(Fault::NoDrawing(name))
+        }
+        Some(name) => check_drawing(alloc, files, name, TIMELINE_HEADING),
         None => Ok(()),
     }
 }

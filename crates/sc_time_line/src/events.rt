@@ -97,7 +97,7 @@ fn push_flow(lines: &mut Lines, history: &History, turn: Turn, (from, to): (usiz
 }
 
 /// Adds what a turn did, in a few words.
-fn push_title(lines: &mut Lines, source: &Source, turn: Turn) {
+pub fn push_title(lines: &mut Lines, source: &Source, turn: Turn) {
     match turn.feature {
         Some(feature) => lines.fill_name(title_of(turn), written(source, feature)),
         None => lines.fill_name(title_of(turn), "a creation"),

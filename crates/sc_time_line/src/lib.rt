@@ -4,10 +4,15 @@
 //! [`History`], which keeps them and links them.
 #![tactic(auto)]
 
+mod arrows;
+mod bars;
 mod condition;
 mod count;
 mod events;
+mod filling;
 mod history;
+mod layout;
+mod page;
 mod quoting;
 mod stats;
 mod tally;
@@ -15,6 +20,7 @@ mod turn;
 
 pub use events::{TRACE_EVENTS_HEADING, trace_events};
 pub use history::History;
+pub use page::{TIMELINE_HEADING, timeline};
 pub use stats::{stats_lines, stats_member};
 pub use tally::Tally;
 pub use turn::{Began, Made, Sent, Taken, Turn};

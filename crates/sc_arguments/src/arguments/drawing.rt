@@ -12,6 +12,8 @@ use std::convert::AsStr;
 pub struct Drawings<'a> {
     /// The file of its trace events.
     pub trace_events: Option<&'a str>,
+    /// The file of its time line.
+    pub timeline: Option<&'a str>,
 }
 
 /// The option `--trace-events`.
@@ -22,11 +24,20 @@ pub const TRACE_EVENTS: Taken = Taken {
     ..OPTION
 };
 
+/// The option `--timeline`.
+pub const TIMELINE: Taken = Taken {
+    name: "--timeline",
+    help: "Draws the turns to this file, a page that a browser shows",
+    value_name: Some("PATH"),
+    ..OPTION
+};
+
 /// The files that the words after a command name for pictures.
 pub fn read_drawings<'a, S: AsStr>(words: &'a [S]) -> Drawings<'a>
     ensures { AreDrawings (map S.text words.entry.now) result }
 {
     Drawings {
         trace_events: value_of(words, "--trace-events"),
+        timeline: value_of(words, "--timeline"),
     }
 }

@@ -5,7 +5,7 @@ ghost use Rattle.sc_arguments.specs.Asked as spec;
 ghost use Rattle.sc_arguments.specs.Asked.{IsAskedOf, texts_of};
 ghost use Rattle.sc_arguments.specs.Words.{given_in, value_or};
 
-use crate::arguments::drawing::{Drawings, TRACE_EVENTS, read_drawings};
+use crate::arguments::drawing::{Drawings, TIMELINE, TRACE_EVENTS, read_drawings};
 use crate::arguments::format::{Format, read_format};
 use crate::arguments::numbers::number_up_to;
 use crate::arguments::options::{
@@ -121,7 +121,7 @@ const SEARCH_EXPLAIN_HELP: &str =
     "Shows where a refusal stands, or says who waits for whom, why one fails or why the search gave up, on standard error; the default where that is a terminal";
 
 /// What `search` takes.
-const SEARCH_TAKES: [Taken; 11] = [
+const SEARCH_TAKES: [Taken; 12] = [
     Taken {
         name: "--for",
         help: "What ends the search",
@@ -156,6 +156,7 @@ const SEARCH_TAKES: [Taken; 11] = [
         ..FLAG
     },
     TRACE_EVENTS,
+    TIMELINE,
     Taken {
         help: SEARCH_EXPLAIN_HELP,
         ..EXPLAIN

@@ -8,7 +8,7 @@ ghost use Rattle.sc_arguments.specs.Words as spec;
 use std::convert::AsStr;
 
 /// The options whose value may be the next word.
-const VALUED: [&str; 14] = [
+const VALUED: [&str; 15] = [
     "--root",
     "--root-class",
     "--workers",
@@ -23,6 +23,7 @@ const VALUED: [&str; 14] = [
     "--times",
     "--until",
     "--trace-events",
+    "--timeline",
 ];
 
 /// The value of an option among the words after a command, if it is used.
