@@ -124,9 +124,9 @@ impl<'t> ReadText<'t> {
 
     /// Where the next one of these words begins, from this offset on; there if none does.
     fn next(&self, from: u32, words: &[Terminal]) -> u32 {
-        let before = self.tokens.partition_point(|token| token.span.start < from);
-        for token in self.tokens.get(before..).unwrap_or(&[]) {
-            if let TokenKind::Terminal(word) = &token.kind
+        for token in self.tokens {
+            if token.span.start >= from
+                && let TokenKind::Terminal(word) = &token.kind
                 && words.contains(word)
             {
                 return token.span.start;

@@ -30,8 +30,7 @@ pub fn push_notification(
     lines.push(r#"],"uri":"#);
     push_quoted(alloc, lines, part.uri.as_str());
     if let Some(version) = part.version {
-        lines.push(r#","version":"#);
-        push_version(alloc, lines, version)
+        push_version(lines, version)
     }
     lines.push("}}")
 }
@@ -44,12 +43,10 @@ pub fn push_cleared(alloc: Global, lines: &mut Lines, uri: &str) {
     lines.push("}}")
 }
 
-/// Adds a version.
-fn push_version(alloc: Global, lines: &mut Lines, version: i64) {
-    match format!(in alloc; "{version}") {
-        Ok(digits) => lines.push(digits.as_str()),
-        Err(_) => lines.lack(),
-    }
+/// Adds the version of a document, after what is known of it before.
+fn push_version(lines: &mut Lines, version: i64) {
+    let mut digits = itoa::Buffer::new();
+    lines.fill_name(r#","version":~"#, digits.format(version))
 }
 
 /// Adds what is said of a refusal or a warning. Its members are in the order of their names.

@@ -1,7 +1,7 @@
 //! What the names of a system mean.
 
 use crate::failure::Failure;
-use crate::systems::{Joined, Place};
+use crate::systems::{Joined, Place, root_from};
 use sc_class::Root;
 use sc_symbols::{Mention, names_in, symbol_at};
 use std::alloc::{AllocError, Global};
@@ -36,21 +36,23 @@ pub fn name_at(
 /// The names of a system, from its root `APPLICATION.make` or, if it has none, from a root of its own. None if it can't be read or
 /// something else is at fault in its classes.
 fn named_text(alloc: Global, joined: &Joined) -> Result<Option<NamedText>, AllocError> {
-    let text = String::from_str(alloc, joined.text.as_str())?;
-    if let Some(named) = named_from(alloc, text, "application")? {
-        return Ok(Some(named));
+    let text = joined.text.as_str();
+    match named_from(alloc, text, "", "application")? {
+        Some(named) => Ok(Some(named)),
+        None => named_from(alloc, text, OWN_ROOT, "scoop_editor_root"),
     }
-    let mut text = String::from_str(alloc, joined.text.as_str())?;
-    text.push_str(OWN_ROOT)?;
-    named_from(alloc, text, "scoop_editor_root")
 }
 
-/// The names of a system from the procedure `make` of this class.
-fn named_from(alloc: Global, text: String, class: &str) -> Result<Option<NamedText>, AllocError> {
-    let root = Root {
-        class: String::from_str(alloc, class)?,
-        procedure: String::from_str(alloc, "make")?,
-    };
+/// The names of a system with one class more, from the procedure `make` of the class of this name.
+fn named_from(
+    alloc: Global,
+    joined: &str,
+    more: &str,
+    class: &str,
+) -> Result<Option<NamedText>, AllocError> {
+    let root = root_from(alloc, class)?;
+    let mut text = String::from_str(alloc, joined)?;
+    text.push_str(more)?;
     match names_in(alloc, text.as_str(), &root)? {
         Some(mentions) => Ok(Some(NamedText {
             text,

@@ -73,9 +73,9 @@ fn push_class(
     lines.push(before);
     lines.push(r#"{"children":["#);
     let mut between = "{";
-    for (index, feature) in class.features.iter().enumerate() {
+    for index in 0..class.features.len() {
         lines.push(between);
-        let entry = entry_of(feature, tokens, limit_of(class, index));
+        let entry = entry_of(&class.features[index], tokens, limit_of(class, index));
         push_symbol(alloc, lines, document, entry);
         between = ",{";
     }
@@ -92,7 +92,8 @@ fn push_folds(
     before: &'static str,
 ) -> &'static str {
     let mut before = push_fold(lines, document, class.span, before);
-    for (index, feature) in class.features.iter().enumerate() {
+    for index in 0..class.features.len() {
+        let feature = &class.features[index];
         if let FeatureKind::Routine(_) = &feature.kind {
             let entry = entry_of(feature, tokens, limit_of(class, index));
             before = push_fold(lines, document, entry.whole, before);

@@ -25,22 +25,43 @@ pub enum Request {
     Symbols,
 }
 
+/// The requests, each after its name.
+const REQUESTS: [(&str, Request); 9] = [
+    ("textDocument/codeAction", Request::Actions),
+    (
+        "textDocument/definition",
+        Request::Name(NameRequest::Definition),
+    ),
+    ("textDocument/documentSymbol", Request::Symbols),
+    ("textDocument/foldingRange", Request::Folds),
+    ("textDocument/formatting", Request::Layout),
+    ("textDocument/hover", Request::Hover),
+    (
+        "textDocument/prepareRename",
+        Request::Name(NameRequest::Renamable),
+    ),
+    (
+        "textDocument/references",
+        Request::Name(NameRequest::References),
+    ),
+    ("textDocument/rename", Request::Name(NameRequest::Renaming)),
+];
+
 impl Request {
     /// The request of this name, if there is one.
     pub fn named(method: &str) -> Option<Request> {
-        match method {
-            "textDocument/codeAction" => Some(Request::Actions),
-            "textDocument/definition" => Some(Request::Name(NameRequest::Definition)),
-            "textDocument/documentSymbol" => Some(Request::Symbols),
-            "textDocument/foldingRange" => Some(Request::Folds),
-            "textDocument/formatting" => Some(Request::Layout),
-            "textDocument/hover" => Some(Request::Hover),
-            "textDocument/prepareRename" => Some(Request::Name(NameRequest::Renamable)),
-            "textDocument/references" => Some(Request::Name(NameRequest::References)),
-            "textDocument/rename" => Some(Request::Name(NameRequest::Renaming)),
-            _ => None,
+        request_among(&REQUESTS, method)
+    }
+}
+
+/// The first of these requests that has this name.
+fn request_among(requests: &[(&str, Request)], method: &str) -> Option<Request> {
+    for (name, request) in requests {
+        if *name == method {
+            return Some(*request);
         }
     }
+    None
 }
 
 /// Adds what is answered to a request: null if the document isn't open.
@@ -55,10 +76,8 @@ pub fn answer_request(
         return Err(Failure::InvalidParams);
     };
     for system in systems {
-        if let Some(index) = system.joined.part_of(uri)
-            && let Some(part) = system.joined.parts.get(index)
-        {
-            return answer_part(alloc, lines, system, (index, part), request, params);
+        if let Some(numbered) = system.joined.part_of(uri) {
+            return answer_part(alloc, lines, system, numbered, request, params);
         }
     }
     lines.push("null");

@@ -227,8 +227,8 @@ impl Server {
 fn index_of(texts: &[OpenText], uri: &str) -> Option<usize>
     ensures { IfSome result (λ index. index < length texts.now) }
 {
-    for (index, open) in texts.iter().enumerate() {
-        if open.uri.as_str() == uri {
+    for index in 0..texts.len() {
+        if texts[index].uri.as_str() == uri {
             return Some(index);
         }
     }

@@ -220,7 +220,8 @@ fn publish<W: Write>(alloc: Global, server: &Server, out: &mut W) -> io::Result<
 fn publish_system<W: Write>(alloc: Global, system: &CheckedSystem, out: &mut W) -> io::Result<()>
     ensures { OnOk result (WritesMessages (W.contents out.old) (W.contents out.new)) }
 {
-    for (index, part) in system.joined.parts.iter().enumerate() {
+    for index in 0..system.joined.parts.len() {
+        let part = &system.joined.parts[index];
         let mut lines = Lines::new(alloc);
         push_notification(alloc, &mut lines, system, index, part);
         write_lines(out, lines)?;

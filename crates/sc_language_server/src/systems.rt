@@ -70,11 +70,12 @@ impl Joined {
         Ok(())
     }
 
-    /// The number of the part with this URI, if there is one.
-    pub fn part_of(&self, uri: &str) -> Option<usize> {
-        for (index, part) in self.parts.iter().enumerate() {
+    /// The part with this URI and its number, if there is one.
+    pub fn part_of(&self, uri: &str) -> Option<(usize, &Part)> {
+        for index in 0..self.parts.len() {
+            let part = &self.parts[index];
             if part.uri.as_str() == uri {
-                return Some(index);
+                return Some((index, part));
             }
         }
         None
@@ -101,27 +102,29 @@ impl Joined {
     pub fn place_of(&self, span: Option<Span>) -> Place {
         let Span { start, end } = span.unwrap_or(Span { start: 0, end: 0 });
         let (start, end) = (start as usize, end as usize);
-        let count = self.parts.partition_point(|part| part.start <= start);
-        let part = count.saturating_sub(1);
-        let before = match self.parts.get(part) {
-            Some(part) => part.start,
-            None => 0,
+        let mut place = Place {
+            part: 0,
+            start,
+            end,
         };
-        Place {
-            part,
-            start: start.saturating_sub(before),
-            end: end.saturating_sub(before),
+        for part in 0..self.parts.len() {
+            let before = self.parts[part].start;
+            if before <= start {
+                place = Place {
+                    part,
+                    start: start.saturating_sub(before),
+                    end: end.saturating_sub(before),
+                };
+            }
         }
+        place
     }
 }
 
 impl CheckedSystem {
     /// Checks the system of these documents, from its root `APPLICATION.make`.
     pub fn new(alloc: Global, joined: Joined) -> Result<Self, AllocError> {
-        let root = Root {
-            class: String::from_str(alloc, "application")?,
-            procedure: String::from_str(alloc, "make")?,
-        };
+        let root = root_from(alloc, "application")?;
         let findings = findings_in(alloc, &joined, &root)?;
         Ok(CheckedSystem { joined, findings })
     }
@@ -136,4 +139,12 @@ impl CheckedSystem {
             None => false,
         }
     }
+}
+
+/// The root of a system that begins with the procedure `make` of this class.
+pub fn root_from(alloc: Global, class: &str) -> Result<Root, AllocError> {
+    Ok(Root {
+        class: String::from_str(alloc, class)?,
+        procedure: String::from_str(alloc, "make")?,
+    })
 }
