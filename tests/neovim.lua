@@ -215,6 +215,18 @@ local function finds_names()
   expect('the file of a class', 'cell.e', vim.fn.fnamemodify(vim.uri_to_fname(found.uri or 'file:///'), ':t'))
 end
 
+-- What is in scope can be written, with its type.
+local function completes()
+  local line = place('count := 1')
+  vim.api.nvim_buf_set_lines(0, line + 1, line + 1, true, { '\t\t\tcount := co' })
+  vim.api.nvim_win_set_cursor(0, { line + 2, 13 })
+  local details = {}
+  for _, item in ipairs(ask('textDocument/completion', at_cursor()) or {}) do details[item.label] = item.detail or '' end
+  expect('what can be written', { 'count: INTEGER', 'cell: CELL', '' }, { details.count, details.cell, details['if'] })
+  vim.api.nvim_buf_set_lines(0, line + 1, line + 2, true, {})
+  expect('diagnostics after that', 0, #diagnostics(0))
+end
+
 -- A name is changed everywhere, in both files, or not at all.
 local function renames()
   go_to('CELL')
@@ -228,7 +240,7 @@ local function renames()
   expect('diagnostics after a name is changed', 0, #diagnostics(0))
 end
 
-local steps = { reads_a_fault, hovers, applies_a_help, follows_typing, formats, lists_symbols, folds, finds_names, renames }
+local steps = { reads_a_fault, hovers, applies_a_help, follows_typing, formats, lists_symbols, folds, finds_names, completes, renames }
 
 local function tries_server()
   local scoop = require('scoop')

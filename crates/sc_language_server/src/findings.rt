@@ -33,6 +33,14 @@ impl Finding {
             .trim_end()
     }
 
+    /// Whether no name of its document is known for it. A system without a root is run from one of its own.
+    pub fn hides_names(&self) -> bool {
+        match self.code {
+            None | Some(RefusalCode::Rule(_) | RefusalCode::NoRoot) => false,
+            Some(_) => true,
+        }
+    }
+
     /// Whether it has something of this part of a document, or touches it.
     pub fn touches(&self, place: Place) -> bool {
         let Place { part, start, end } = self.place;

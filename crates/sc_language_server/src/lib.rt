@@ -6,8 +6,11 @@
 #![tactic(auto)]
 
 mod actions;
+mod class_features;
+mod completion;
 mod declarations;
 mod diagnostics;
+mod earlier;
 mod failure;
 mod findings;
 mod framing;
@@ -19,10 +22,12 @@ mod naming;
 mod opening;
 mod outline;
 mod parameters;
+mod probing;
 mod requests;
 mod server;
 mod serving;
 mod systems;
+mod tokens;
 mod uris;
 mod workspace;
 mod written;

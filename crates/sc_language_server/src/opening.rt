@@ -5,15 +5,28 @@ use crate::uris::path_of;
 use sc_documents::replaced;
 use serde_json::Value;
 use std::alloc::{AllocError, Global};
+use std::mem::replace;
 
 /// A document that an editor has open: what it is called, the path of its file if it has one, the version that the editor knows
-/// it by, and its text.
+/// it by, its text, and of its earlier texts the last one whose names were known.
 #[derive(Drop)]
 pub struct OpenText {
     pub uri: String,
     pub path: Option<String>,
     pub version: Option<i64>,
     pub text: String,
+    pub kept: Option<String>,
+}
+
+impl OpenText {
+    /// Gives it another text. Its text until then is kept if its names are known.
+    pub fn change(&mut self, text: String, version: Option<i64>, has_known_names: bool) {
+        let before = replace(&mut self.text, text);
+        if has_known_names {
+            self.kept = Some(before);
+        }
+        self.version = version;
+    }
 }
 
 /// The document that is opened, if these parameters tell of one.
@@ -33,6 +46,7 @@ pub fn opened(alloc: Global, params: Option<&Value>) -> Result<Option<OpenText>,
         path,
         version: version_in(document),
         text,
+        kept: None,
     }))
 }
 

@@ -1,10 +1,12 @@
 //! What is answered to requests about a document.
 
 use crate::actions::push_actions;
+use crate::completion::push_completion;
 use crate::failure::Failure;
 use crate::hover::push_hover;
 use crate::layout::push_layout;
 use crate::name_requests::{NameRequest, push_name_answer};
+use crate::opening::OpenText;
 use crate::outline::{Outline, push_outline};
 use crate::parameters::{are_fixes_wanted, document_in, member, position_in, range_in};
 use crate::systems::{CheckedSystem, Part, Place};
@@ -17,6 +19,7 @@ use std::alloc::Global;
 #[derive(Clone, Copy)]
 pub enum Request {
     Actions,
+    Completion,
     Folds,
     Hover,
     Layout,
@@ -26,8 +29,9 @@ pub enum Request {
 }
 
 /// The requests, each after its name.
-const REQUESTS: [(&str, Request); 9] = [
+const REQUESTS: [(&str, Request); 10] = [
     ("textDocument/codeAction", Request::Actions),
+    ("textDocument/completion", Request::Completion),
     (
         "textDocument/definition",
         Request::Name(NameRequest::Definition),
@@ -69,6 +73,7 @@ pub fn answer_request(
     alloc: Global,
     lines: &mut Lines,
     systems: &[CheckedSystem],
+    texts: &[OpenText],
     request: Request,
     params: Option<&Value>,
 ) -> Result<(), Failure> {
@@ -77,7 +82,7 @@ pub fn answer_request(
     };
     for system in systems {
         if let Some(numbered) = system.joined.part_of(uri) {
-            return answer_part(alloc, lines, system, numbered, request, params);
+            return answer_part(alloc, lines, system, texts, numbered, request, params);
         }
     }
     lines.push("null");
@@ -89,6 +94,7 @@ fn answer_part(
     alloc: Global,
     lines: &mut Lines,
     system: &CheckedSystem,
+    texts: &[OpenText],
     (index, part): (usize, &Part),
     request: Request,
     params: Option<&Value>,
@@ -109,6 +115,10 @@ fn answer_part(
             } else {
                 lines.push("[]")
             }
+        }
+        Request::Completion => {
+            let place = place_at(index, part, params)?;
+            return push_completion(alloc, lines, system, texts, place);
         }
         Request::Hover => {
             let place = place_at(index, part, params)?;

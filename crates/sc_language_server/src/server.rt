@@ -7,7 +7,7 @@ use crate::grouping::systems_of;
 use crate::opening::{OpenText, changed, opened, version_in};
 use crate::parameters::{document_in, elements_in, member, text_in};
 use crate::requests::{Request, answer_request};
-use crate::systems::CheckedSystem;
+use crate::systems::{CheckedSystem, are_names_known};
 use crate::uris::path_of;
 use crate::workspace::push_found;
 use sc_explain_text::Lines;
@@ -16,8 +16,9 @@ use serde_json::Value;
 use std::alloc::{AllocError, Global};
 
 /// What the server can do.
-const CAPABILITIES: [&str; 4] = [
-    r#"{"capabilities":{"codeActionProvider":{"codeActionKinds":["quickfix"]},"definitionProvider":true,"#,
+const CAPABILITIES: [&str; 5] = [
+    r#"{"capabilities":{"codeActionProvider":{"codeActionKinds":["quickfix"]},"completionProvider":{"triggerCharacters":["."]},"#,
+    r#""definitionProvider":true,"#,
     r#""documentFormattingProvider":true,"documentSymbolProvider":true,"foldingRangeProvider":true,"hoverProvider":true,"#,
     r#""positionEncoding":"utf-16","referencesProvider":true,"renameProvider":{"prepareProvider":true},"#,
     r#""textDocumentSync":{"change":2,"openClose":true},"workspaceSymbolProvider":true},"serverInfo":{"name":"scoop","version":"0.1.0"}}"#,
@@ -111,7 +112,10 @@ impl Server {
             return Ok(());
         }
         match Request::named(method) {
-            Some(request) => answer_request(alloc, lines, self.systems.as_slice(), request, params),
+            Some(request) => {
+                let (systems, texts) = (self.systems.as_slice(), self.texts.as_slice());
+                answer_request(alloc, lines, systems, texts, request, params)
+            }
             None => Err(Failure::MethodNotFound),
         }
     }
@@ -187,9 +191,9 @@ impl Server {
         };
         match changed(alloc, self.texts[index].text.as_str(), changes) {
             Ok(Some(text)) => {
-                let open = &mut self.texts[index];
-                open.text = text;
-                open.version = version_in(member(params, "textDocument"));
+                let has_known_names = are_names_known(self.systems.as_slice(), uri);
+                let version = version_in(member(params, "textDocument"));
+                self.texts[index].change(text, version, has_known_names);
                 Ok(Effect::Checked)
             }
             Ok(None) => Ok(Effect::Nothing),

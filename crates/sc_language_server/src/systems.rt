@@ -129,6 +129,16 @@ impl CheckedSystem {
         Ok(CheckedSystem { joined, findings })
     }
 
+    /// Whether the names of the document of this number are known: nothing is at fault in its text and its classes.
+    pub fn has_known_names(&self, part: usize) -> bool {
+        for finding in &self.findings {
+            if finding.place.part == part && finding.hides_names() {
+                return false;
+            }
+        }
+        true
+    }
+
     /// Whether its documents are to be checked one by one: a class stands twice in them, or they are too long together.
     pub fn is_apart(&self) -> bool {
         match self.findings.first() {
@@ -139,6 +149,16 @@ impl CheckedSystem {
             None => false,
         }
     }
+}
+
+/// Whether the names of the document with this URI are known.
+pub fn are_names_known(systems: &[CheckedSystem], uri: &str) -> bool {
+    for system in systems {
+        if let Some((index, _)) = system.joined.part_of(uri) {
+            return system.has_known_names(index);
+        }
+    }
+    false
 }
 
 /// The root of a system that begins with the procedure `make` of this class.

@@ -40,3 +40,21 @@ fn push_position(lines: &mut Lines, position: Position) {
     lines.fill_number(r#"{"character":~"#, position.character as u64);
     lines.fill_number(r#","line":~}"#, position.line as u64)
 }
+
+/// Adds in quotes the first line of what is said.
+pub fn push_quoted_lines(alloc: Global, lines: &mut Lines, said: Lines) {
+    let Ok(said) = said.finish() else {
+        return lines.lack();
+    };
+    let said = str::from_utf8(said.as_slice()).unwrap_or("");
+    let (line, _) = said.split_once('\n').unwrap_or((said, ""));
+    push_quoted(alloc, lines, line)
+}
+
+/// Adds the item of a name: its number in the protocol's list of kinds, and the first line of what is said of it.
+pub fn push_item(alloc: Global, lines: &mut Lines, said: Lines, kind: u64, name: &str) {
+    lines.push(r#"{"detail":"#);
+    push_quoted_lines(alloc, lines, said);
+    lines.fill_number(r#","kind":~"#, kind);
+    lines.fill_name(r#","label":"~"}"#, name)
+}
