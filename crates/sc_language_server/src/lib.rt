@@ -26,6 +26,7 @@ mod probing;
 mod requests;
 mod server;
 mod serving;
+mod signature;
 mod systems;
 mod tokens;
 mod uris;

@@ -9,6 +9,7 @@ use crate::name_requests::{NameRequest, push_name_answer};
 use crate::opening::OpenText;
 use crate::outline::{Outline, push_outline};
 use crate::parameters::{are_fixes_wanted, document_in, member, position_in, range_in};
+use crate::signature::push_signature;
 use crate::systems::{CheckedSystem, Part, Place};
 use sc_documents::{Range, offset_of};
 use sc_explain_text::Lines;
@@ -25,11 +26,12 @@ pub enum Request {
     Layout,
     /// About the name at a position.
     Name(NameRequest),
+    Signature,
     Symbols,
 }
 
 /// The requests, each after its name.
-const REQUESTS: [(&str, Request); 10] = [
+const REQUESTS: [(&str, Request); 11] = [
     ("textDocument/codeAction", Request::Actions),
     ("textDocument/completion", Request::Completion),
     (
@@ -49,6 +51,7 @@ const REQUESTS: [(&str, Request); 10] = [
         Request::Name(NameRequest::References),
     ),
     ("textDocument/rename", Request::Name(NameRequest::Renaming)),
+    ("textDocument/signatureHelp", Request::Signature),
 ];
 
 impl Request {
@@ -123,6 +126,10 @@ fn answer_part(
         Request::Hover => {
             let place = place_at(index, part, params)?;
             return push_hover(alloc, lines, system, place);
+        }
+        Request::Signature => {
+            let place = place_at(index, part, params)?;
+            return push_signature(alloc, lines, system, texts, place);
         }
     }
     Ok(())
