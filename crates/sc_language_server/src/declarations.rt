@@ -31,21 +31,26 @@ impl<'t> ReadText<'t> {
     /// Adds the name at a place, with its type if it has one, and its line.
     fn push_named(&self, lines: &mut Lines, name: Span, role: Role, given: Option<EntityType>) {
         if let Some(given) = given {
-            self.push_given(lines, word_at(self.text, name), role, given)
+            let word = word_at(self.text, name);
+            lines.push(word);
+            self.push_type(lines, word, role, given);
+            lines.push("\n")
         }
         lines.push(line_at(self.text, name))
     }
 
-    /// Adds a name with its type. A block's name is on a handler of its own; the name in the tag of an object test is left out.
-    fn push_given(&self, lines: &mut Lines, name: &str, role: Role, given: EntityType) {
+    /// Adds what follows the name of an entity of this type: of a formal that is on a handler of its own the tag, and else the type. A
+    /// block's name is on a handler of its own, too; the name in the tag of an object test is left out.
+    pub fn push_type(&self, lines: &mut Lines, name: &str, role: Role, given: EntityType) {
         let class = self.class_name(given.class);
         let mark = if given.attached { "" } else { "detachable " };
         match (role, given.tag) {
-            (_, Tag::Own | Tag::None) => lines.fill("~: ~~\n", &[name, mark, class]),
+            (_, Tag::Own | Tag::None) => lines.fill(": ~~", &[mark, class]),
             (Role::Block, Tag::With(_)) => {
-                lines.fill("~: ~separate <~.handler> ~\n", &[name, mark, name, class])
+                lines.fill(": ~separate <~.handler> ~", &[mark, name, class])
             }
-            _ => lines.fill("~: ~separate ~\n", &[name, mark, class]),
+            (Role::Formal, Tag::With(_)) => lines.fill_name(" <~.handler>", name),
+            _ => lines.fill(": ~separate ~", &[mark, class]),
         }
     }
 

@@ -43,8 +43,7 @@ impl Finding {
 
     /// Whether it has something of this part of a document, or touches it.
     pub fn touches(&self, place: Place) -> bool {
-        let Place { part, start, end } = self.place;
-        part == place.part && start <= place.end && place.start <= end
+        self.place.touches(place)
     }
 }
 

@@ -15,6 +15,7 @@ mod failure;
 mod findings;
 mod framing;
 mod grouping;
+mod hints;
 mod hover;
 mod layout;
 mod name_requests;

@@ -3,6 +3,7 @@
 use crate::actions::push_actions;
 use crate::completion::push_completion;
 use crate::failure::Failure;
+use crate::hints::push_hints;
 use crate::hover::push_hover;
 use crate::layout::push_layout;
 use crate::name_requests::{NameRequest, push_name_answer};
@@ -22,6 +23,7 @@ pub enum Request {
     Actions,
     Completion,
     Folds,
+    Hints,
     Hover,
     Layout,
     /// About the name at a position.
@@ -31,7 +33,7 @@ pub enum Request {
 }
 
 /// The requests, each after its name.
-const REQUESTS: [(&str, Request); 11] = [
+const REQUESTS: [(&str, Request); 12] = [
     ("textDocument/codeAction", Request::Actions),
     ("textDocument/completion", Request::Completion),
     (
@@ -42,6 +44,7 @@ const REQUESTS: [(&str, Request); 11] = [
     ("textDocument/foldingRange", Request::Folds),
     ("textDocument/formatting", Request::Layout),
     ("textDocument/hover", Request::Hover),
+    ("textDocument/inlayHint", Request::Hints),
     (
         "textDocument/prepareRename",
         Request::Name(NameRequest::Renamable),
@@ -122,6 +125,10 @@ fn answer_part(
         Request::Completion => {
             let place = place_at(index, part, params)?;
             return push_completion(alloc, lines, system, texts, place);
+        }
+        Request::Hints => {
+            let place = place_in(index, part, range_in(member(params, "range")))?;
+            return push_hints(alloc, lines, &system.joined, place);
         }
         Request::Hover => {
             let place = place_at(index, part, params)?;

@@ -25,6 +25,13 @@ pub struct Place {
     pub end: usize,
 }
 
+impl Place {
+    /// Whether it has something of another place, or touches it.
+    pub fn touches(self, other: Place) -> bool {
+        self.part == other.part && self.start <= other.end && other.start <= self.end
+    }
+}
+
 /// The text of a system: that of each document, with a line feed after it.
 #[derive(Drop)]
 pub struct Joined {

@@ -26,6 +26,14 @@ pub fn push_place(lines: &mut Lines, joined: &Joined, place: Place) {
     }
 }
 
+/// Adds the position of the end of a part of a document of a system.
+pub fn push_end(lines: &mut Lines, joined: &Joined, place: Place) {
+    match joined.parts.get(place.part) {
+        Some(part) => push_position(lines, part.document.position_of(place.end)),
+        None => lines.push("null"),
+    }
+}
+
 /// Adds the range between two offsets of a document.
 pub fn push_range(lines: &mut Lines, document: &Document, start: usize, end: usize) {
     lines.push(r#"{"end":"#);
