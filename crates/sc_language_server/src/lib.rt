@@ -7,6 +7,7 @@
 
 mod actions;
 mod class_features;
+mod colours;
 mod completion;
 mod declarations;
 mod diagnostics;

@@ -1,6 +1,7 @@
 //! What is answered to requests about a document.
 
 use crate::actions::push_actions;
+use crate::colours::push_colours;
 use crate::completion::push_completion;
 use crate::failure::Failure;
 use crate::hints::push_hints;
@@ -21,6 +22,7 @@ use std::alloc::Global;
 #[derive(Clone, Copy)]
 pub enum Request {
     Actions,
+    Colours,
     Completion,
     Folds,
     Hints,
@@ -33,7 +35,7 @@ pub enum Request {
 }
 
 /// The requests, each after its name.
-const REQUESTS: [(&str, Request); 12] = [
+const REQUESTS: [(&str, Request); 13] = [
     ("textDocument/codeAction", Request::Actions),
     ("textDocument/completion", Request::Completion),
     (
@@ -54,6 +56,7 @@ const REQUESTS: [(&str, Request); 12] = [
         Request::Name(NameRequest::References),
     ),
     ("textDocument/rename", Request::Name(NameRequest::Renaming)),
+    ("textDocument/semanticTokens/full", Request::Colours),
     ("textDocument/signatureHelp", Request::Signature),
 ];
 
@@ -126,6 +129,7 @@ fn answer_part(
             let place = place_at(index, part, params)?;
             return push_completion(alloc, lines, system, texts, place);
         }
+        Request::Colours => return push_colours(alloc, lines, &system.joined, part),
         Request::Hints => {
             let place = place_in(index, part, range_in(member(params, "range")))?;
             return push_hints(alloc, lines, &system.joined, place);

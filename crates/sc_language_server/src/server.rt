@@ -16,12 +16,14 @@ use serde_json::Value;
 use std::alloc::{AllocError, Global};
 
 /// What the server can do.
-const CAPABILITIES: [&str; 7] = [
+const CAPABILITIES: [&str; 9] = [
     r#"{"capabilities":{"codeActionProvider":{"codeActionKinds":["quickfix"]},"completionProvider":{"triggerCharacters":["."]},"#,
     r#""definitionProvider":true,"#,
     r#""documentFormattingProvider":true,"documentSymbolProvider":true,"foldingRangeProvider":true,"hoverProvider":true,"#,
     r#""inlayHintProvider":true,"#,
     r#""positionEncoding":"utf-16","referencesProvider":true,"renameProvider":{"prepareProvider":true},"#,
+    r#""semanticTokensProvider":{"full":true,"legend":{"tokenModifiers":[],"tokenTypes":["class","property","method","parameter","#,
+    r#""variable","keyword","string","number","comment","operator"]}},"#,
     r#""signatureHelpProvider":{"triggerCharacters":["(",","]},"#,
     r#""textDocumentSync":{"change":2,"openClose":true},"workspaceSymbolProvider":true},"serverInfo":{"name":"scoop","version":"0.1.0"}}"#,
 ];
