@@ -76,6 +76,7 @@ complete -c scoop -n '__scoop_is search' -l states -x -d 'The most states that a
 complete -c scoop -n '__scoop_is search' -l memory -x -d 'The most memory that states take, in MB, 1 to 1000000'
 complete -c scoop -n '__scoop_is search' -l record -r -F -d 'Writes the record of the order that is found to this file'
 complete -c scoop -n '__scoop_is search' -l outcomes -d 'Lists each outcome: the report of an order that ends so'
+complete -c scoop -n '__scoop_is search' -l trace -a 'all print' -d 'Tells each turn of the found order that concerns others, or only what is printed, on standard error'
 complete -c scoop -n '__scoop_is search' -l trace-events -r -F -d 'Writes the turns to this file in the Trace Event format, for Perfetto or Chrome\'s viewer'
 complete -c scoop -n '__scoop_is search' -l timeline -r -F -d 'Draws the turns to this file, a page that a browser shows'
 complete -c scoop -n '__scoop_is search' -l explain -d 'Shows where a refusal stands, or says who waits for whom, why one fails or why the search gave up, on standard error; the default where that is a terminal'

@@ -75,6 +75,7 @@ _scoop_words() {
             '--memory=[The most memory that states take, in MB, 1 to 1000000]:MB:' \
             '--record=[Writes the record of the order that is found to this file]:PATH:_files' \
             '--outcomes[Lists each outcome: the report of an order that ends so]' \
+            '--trace=-[Tells each turn of the found order that concerns others, or only what is printed, on standard error]::WHAT:(all print)' \
             '--trace-events=[Writes the turns to this file in the Trace Event format, for Perfetto or Chrome'\''s viewer]:PATH:_files' \
             '--timeline=[Draws the turns to this file, a page that a browser shows]:PATH:_files' \
             '--explain[Shows where a refusal stands, or says who waits for whom, why one fails or why the search gave up, on standard error; the default where that is a terminal]' \

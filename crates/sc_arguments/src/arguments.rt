@@ -528,7 +528,7 @@ fn read_command<'a, S: AsStr>(
         "format" => Ok(read_formatting(words, given)),
         "run" => read_running(alloc, words, given, options, is_explained),
         "replay" => read_replay(alloc, words, given, options, is_explained),
-        "search" => read_search(alloc, words, given, is_explained),
+        "search" => read_search(alloc, words, given, read_trace(options), is_explained),
         "test" => read_tests(words, given, options),
         "explain" => Ok(Invocation::Explain(given.first().copied())),
         "lsp" => Ok(Invocation::LanguageServer),

@@ -11,7 +11,7 @@ use crate::running::explained_run;
 use crate::serve::{
     Answer, Fault, answer_explained, answer_refused, answer_unread, exit_of, root_if,
 };
-use crate::tracing::{Tracing, tracer_of};
+use crate::tracing::tell_turns;
 use sc_arguments::{Format, ReplayOptions};
 use sc_audit::{ReadFault, Record, read_record};
 use sc_code::Program;
@@ -110,17 +110,10 @@ fn play<'a, T: Tell>(
         answer.text.items answer.exit) }
     ensures plain { IfOk result (λ answer. (answer.record ≡ None) × (answer.object ≡ None)) }
 {
-    tell_turns(alloc, program, options, source, recorded, teller)?;
+    let played = recorded_run(program, source, recorded);
+    tell_turns(alloc, played, options.trace, teller)?;
     let outcome = replay(alloc, program, recorded)?;
     let exit = exit_of(outcome.statuses.as_slice());
-    let played = Played {
-        source,
-        program,
-        version: recorded.version,
-        lines: recorded.lines.as_slice(),
-        limit: Limit::Record,
-        may_refuse: true,
-    };
     let note = note_of(alloc, options, played, outcome.statuses.as_slice());
     let has_member = options.has_stats && matches!(options.format, Format::Json);
     let beside = beside_of(alloc, played, &options.drawings, has_member)?;
@@ -132,6 +125,18 @@ fn play<'a, T: Tell>(
         record: None,
         beside,
     })
+}
+
+/// A record as a run of the program of a source text.
+fn recorded_run<'r>(program: &'r Program, source: &'r Source, recorded: &'r Record) -> Played<'r> {
+    Played {
+        source,
+        program,
+        version: recorded.version,
+        lines: recorded.lines.as_slice(),
+        limit: Limit::Record,
+        may_refuse: true,
+    }
 }
 
 /// The note on a replay: why handlers failed or wait, and what each did in numbers, as far as that is asked for.
@@ -149,27 +154,6 @@ fn note_of(
     }
     push_stats(&mut lines, played, options.format, options.has_stats);
     lines.finish()
-}
-
-/// Reports the turns of a record, if that is asked for.
-#[inline(never)]
-fn tell_turns<T: Tell>(
-    alloc: Global,
-    program: &Program,
-    options: &ReplayOptions<'_>,
-    source: &Source,
-    record: &Record,
-    teller: &mut T,
-) -> Result<(), AllocError> {
-    let tracer = tracer_of(alloc, source, program, record.version, options.trace)?;
-    let mut tracing = Tracing::new(teller, tracer);
-    tracing.follow(record.lines.as_slice());
-    let is_lacking = tracing.is_lacking;
-    drop(tracing);
-    if is_lacking {
-        return Err(AllocError);
-    }
-    Ok(())
 }
 
 /// What is answered where a file holds no record, and in which line of it, where that is asked for.

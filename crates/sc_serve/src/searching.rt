@@ -14,6 +14,7 @@ use crate::progress::Tell;
 use crate::serve::{
     Answer, Beside, Exit, Fault, Recording, answer_explained, answer_unread, root_if,
 };
+use crate::tracing::tell_turns;
 use crate::verdict::{outcome_lines, verdict_lines};
 use sc_arguments::{Format, SearchOptions, Sought};
 use sc_audit::RecordLine;
@@ -94,7 +95,7 @@ fn search_loaded<'a, W: Watch + Tell>(
         alloc, program, options, source, &verdict, millis,
     )?;
     let exit = exit_of(&verdict);
-    let beside = beside_found(alloc, program, options, source, &verdict.finding)?;
+    let beside = show_found(alloc, program, options, source, &verdict.finding, watch)?;
     Ok(Answer {
         text,
         object,
@@ -233,43 +234,46 @@ pub fn found_note(
     finding: &Finding,
     is_explained: bool,
 ) -> Result<Vec<u8>, AllocError> {
-    match lines_of(finding) {
-        Some(lines) if is_explained => {
-            let played = Played {
-                source,
-                program,
-                version: Version::Two,
-                lines,
-                limit: limit_of(finding),
-                may_refuse: true,
-            };
-            order_note(alloc, played)
-        }
+    match found_run(program, source, finding) {
+        Some(played) if is_explained => order_note(alloc, played),
         _ => Ok(Vec::new(alloc)),
     }
 }
 
-/// The pictures of the order that was found, if one was and they are asked for.
+/// Reports the turns of the order that was found, and makes its pictures, if one was and they are asked for.
 #[inline(never)]
-fn beside_found<'a>(
+fn show_found<'a, T: Tell>(
     alloc: Global,
     program: &Program,
     options: &SearchOptions<'a>,
     source: &Source,
     finding: &Finding,
+    teller: &mut T,
 ) -> Result<Option<Beside<'a>>, AllocError> {
-    let Some(lines) = lines_of(finding) else {
+    let Some(played) = found_run(program, source, finding) else {
         return Ok(None);
     };
-    let played = Played {
-        source,
-        program,
-        version: Version::Two,
-        lines,
-        limit: limit_of(finding),
-        may_refuse: true,
-    };
+    tell_turns(alloc, played, options.trace, teller)?;
     beside_of(alloc, played, &options.drawings, false)
+}
+
+/// The order that was found as a run of the program of a source text, if one was.
+fn found_run<'r>(
+    program: &'r Program,
+    source: &'r Source,
+    finding: &'r Finding,
+) -> Option<Played<'r>> {
+    match lines_of(finding) {
+        Some(lines) => Some(Played {
+            source,
+            program,
+            version: Version::Two,
+            lines,
+            limit: limit_of(finding),
+            may_refuse: true,
+        }),
+        None => None,
+    }
 }
 
 /// Where the order that was found ends.

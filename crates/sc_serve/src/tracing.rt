@@ -4,7 +4,7 @@ use crate::progress::Tell;
 use sc_arguments::Trace;
 use sc_audit::RecordLine;
 use sc_code::Program;
-use sc_explain_run::{Told, Tracer};
+use sc_explain_run::{Played, Told, Tracer};
 use sc_lockpass::Version;
 use sc_source::source::Source;
 use std::alloc::{AllocError, Global};
@@ -60,6 +60,25 @@ impl<'w, 'r, T: Tell> Tracing<'w, 'r, T> {
             Err(_) => self.is_lacking = true,
         }
     }
+}
+
+/// Reports the turns of a record, if that is asked for.
+#[inline(never)]
+pub fn tell_turns<T: Tell>(
+    alloc: Global,
+    played: Played<'_>,
+    trace: Option<Trace>,
+    teller: &mut T,
+) -> Result<(), AllocError> {
+    let tracer = tracer_of(alloc, played.source, played.program, played.version, trace)?;
+    let mut tracing = Tracing::new(teller, tracer);
+    tracing.follow(played.lines);
+    let is_lacking = tracing.is_lacking;
+    drop(tracing);
+    if is_lacking {
+        return Err(AllocError);
+    }
+    Ok(())
 }
 
 /// A tracer that makes the turns of a run once more, if they are to be reported.

@@ -9,9 +9,10 @@ use crate::arguments::drawing::{Drawings, TIMELINE, TRACE_EVENTS, read_drawings}
 use crate::arguments::format::{Format, read_format};
 use crate::arguments::numbers::number_up_to;
 use crate::arguments::options::{
-    EXPLAIN, FILES, FLAG, FORMAT, KEPT, NO_EXPLAIN, OPTION, ROOT, Taken,
+    EXPLAIN, FILES, FLAG, FORMAT, KEPT, NO_EXPLAIN, OPTION, ROOT, TRACE, Taken,
 };
 use crate::arguments::root_option::read_root;
+use crate::arguments::tracing::Trace;
 use crate::arguments::words::{has_option, value_of, value_or};
 use crate::arguments::{Described, Invocation, UsageFault};
 use clap::builder::ValueParser;
@@ -32,6 +33,8 @@ pub struct SearchOptions<'a> {
     pub record: Option<&'a str>,
     /// Whether each outcome is to be listed.
     pub lists_outcomes: bool,
+    /// Which turns of a found order are reported.
+    pub trace: Option<Trace>,
     /// The files that the order that is found is drawn to.
     pub drawings: Drawings<'a>,
     /// Whether a refusal is to be shown in its line of the text too, and why handlers wait or fail.
@@ -115,13 +118,16 @@ pub const MEMORY_HELP: &str = "The most memory that states take, in MB, 1 to 100
 
 const FOUND_HELP: &str = "Writes the record of the order that is found to this file";
 
+const FOUND_TRACE_HELP: &str =
+    "Tells each turn of the found order that concerns others, or only what is printed, on standard error";
+
 const OUTCOMES_HELP: &str = "Lists each outcome: the report of an order that ends so";
 
 const SEARCH_EXPLAIN_HELP: &str =
     "Shows where a refusal stands, or says who waits for whom, why one fails or why the search gave up, on standard error; the default where that is a terminal";
 
 /// What `search` takes.
-const SEARCH_TAKES: [Taken; 12] = [
+const SEARCH_TAKES: [Taken; 13] = [
     Taken {
         name: "--for",
         help: "What ends the search",
@@ -155,6 +161,10 @@ const SEARCH_TAKES: [Taken; 12] = [
         help: OUTCOMES_HELP,
         ..FLAG
     },
+    Taken {
+        help: FOUND_TRACE_HELP,
+        ..TRACE
+    },
     TRACE_EVENTS,
     TIMELINE,
     Taken {
@@ -176,11 +186,12 @@ pub const SEARCH: Described = Described {
     takes: &SEARCH_TAKES,
 };
 
-/// What the words after `search` ask for, if these files are given among them.
+/// What the words after `search` ask for, if these files are given among them, and these turns are to be reported.
 pub fn read_search<'a, S: AsStr>(
     alloc: Global,
     words: &'a [S],
     given: Vec<&'a str>,
+    trace: Option<Trace>,
     is_explained: bool,
 ) -> Result<Invocation<'a>, UsageFault>
     ensures { let behind = map S.text words.entry.now in
@@ -198,6 +209,7 @@ pub fn read_search<'a, S: AsStr>(
         memory,
         record: value_of(words, "--record"),
         lists_outcomes: has_option(words, "--outcomes"),
+        trace,
         drawings: read_drawings(words),
         is_explained,
         format: read_format(words),
