@@ -7,6 +7,7 @@ use crate::tracer::{Told, Tracer};
 use sc_audit::RecordLine;
 use sc_explain_text::Lines;
 use sc_lockpass::HandlerNumber;
+use sc_model::Status;
 use sc_time_line::History;
 use std::alloc::{AllocError, Global};
 
@@ -71,14 +72,16 @@ fn add_made(
 ) {
     if let Some(turn) = turn_made(scene, handler, before) {
         history.add(turn, told);
-        hold_all(history, scene)
+        note_all(history, scene)
     }
 }
 
-/// Notes for each handler which one it is reserved for.
-fn hold_all(history: &mut History, scene: &Scene<'_>) {
+/// Notes for each handler which one it is reserved for, and whether it waits.
+fn note_all(history: &mut History, scene: &Scene<'_>) {
     for handler in 0..scene.handlers {
-        history.hold(handler, scene.core.holder(handler))
+        history.hold(handler, scene.core.holder(handler));
+        let is_waiting = matches!(scene.core.status(handler), Some(Status::Waiting));
+        history.wait(handler, is_waiting)
     }
 }
 

@@ -2,7 +2,7 @@
 
 use crate::events::push_title;
 use crate::filling::{fill_numbers, push_escaped};
-use crate::history::{Held, History, Moment};
+use crate::history::{Held, History, Moment, Wait};
 use crate::layout::{Layout, lane};
 use crate::stats::written;
 use crate::turn::{Made, Turn};
@@ -125,39 +125,31 @@ fn push_tip(lines: &mut Lines, source: &Source, number: usize, moment: &Moment) 
 
 /// Adds for how long handlers wait.
 pub fn push_waits(lines: &mut Lines, history: &History, layout: Layout) {
-    let Ok(mut waits) = vec![in lines.alloc(); 0_usize; MOST_HANDLERS] else {
-        return lines.lack();
-    };
-    let mut number = 1_usize;
-    for moment in history.moments.iter() {
-        let handler = moment.turn.handler;
-        if let Some(wait) = waits.get_mut(handler as usize) {
-            push_wait(lines, layout, handler, (*wait, number));
-            *wait = if moment.turn.is_waiting { number } else { 0 }
-        }
-        number = number.saturating_add(1)
-    }
-    let mut handler = 0;
-    for wait in waits.iter() {
-        push_wait(lines, layout, handler, (*wait, number));
-        handler = handler.saturating_add(1)
+    for wait in history.waits.iter() {
+        push_wait(lines, layout, *wait, history.turns)
     }
 }
 
-/// Adds that a handler waits from a turn to a turn, if it does.
-fn push_wait(
-    lines: &mut Lines,
-    layout: Layout,
-    handler: HandlerNumber,
-    (from, to): (usize, usize),
-) {
-    let left = layout.right(from);
-    let width = layout.left(to).saturating_sub(left);
-    if from > 0 && width > 0 {
-        let top = lane(handler).saturating_add(12);
+/// Adds that a handler waits, perhaps to the end after this number of turns.
+fn push_wait(lines: &mut Lines, layout: Layout, wait: Wait, turns: usize) {
+    let is_open = wait.to > turns;
+    let left = layout.right(wait.from);
+    let right = if is_open {
+        layout.right(wait.to)
+    } else {
+        layout.left(wait.to)
+    };
+    let width = right.saturating_sub(left);
+    if width > 0 {
+        let top = lane(wait.handler).saturating_add(12);
         let template = "<rect class=\"wait\" x=\"~\" y=\"~\" width=\"~\" height=\"10\"><title>";
         fill_numbers(lines, template, &[left, top, width]);
-        fill_numbers(lines, "waits from ~ to ~</title></rect>\n", &[from, to])
+        let template = if is_open {
+            "waits from ~ to the end</title></rect>\n"
+        } else {
+            "waits from ~ to ~</title></rect>\n"
+        };
+        fill_numbers(lines, template, &[wait.from, wait.to])
     }
 }
 

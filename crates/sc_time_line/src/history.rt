@@ -30,6 +30,14 @@ pub struct Held {
     pub to: usize,
 }
 
+/// That a handler waits, from after a turn to before a turn, which are counted from 1.
+#[derive(Clone, Copy)]
+pub struct Wait {
+    pub handler: HandlerNumber,
+    pub from: usize,
+    pub to: usize,
+}
+
 /// A request that a handler waits to take, or is serving.
 #[derive(Clone, Copy)]
 struct Request {
@@ -48,6 +56,8 @@ pub struct History {
     pub classes: Vec<Option<Span>>,
     /// Which handlers were reserved for which.
     pub held: Vec<Held>,
+    /// Which handlers waited.
+    pub waits: Vec<Wait>,
     /// How many turns were made, of which no more are kept than there may be.
     pub turns: usize,
     /// The requests that no handler has taken, in the order in which they were sent.
@@ -58,6 +68,8 @@ pub struct History {
     answers: Vec<usize>,
     /// For each handler the place of the reservation in which it is held, or of none.
     open: Vec<usize>,
+    /// For each handler the place of the wait that it is in, or of none.
+    waiting: Vec<usize>,
     /// Whether memory was refused to a part.
     pub is_lacking: bool,
 }
@@ -68,24 +80,26 @@ impl History {
     /// # Errors
     /// Memory ran out.
     pub fn new(alloc: Global) -> Result<History, AllocError> {
-        let open = match vec![in alloc; usize::MAX; MOST_HANDLERS] {
-            Ok(open) => open,
-            Err(error) => return Err(error),
+        let (Ok(open), Ok(waiting), Ok(answers)) = (
+            vec![in alloc; usize::MAX; MOST_HANDLERS],
+            vec![in alloc; usize::MAX; MOST_HANDLERS],
+            vec![in alloc; 0_usize; MOST_HANDLERS],
+        ) else {
+            return Err(AllocError);
         };
-        match vec![in alloc; 0_usize; MOST_HANDLERS] {
-            Ok(answers) => Ok(History {
-                moments: Vec::new(alloc),
-                classes: Vec::new(alloc),
-                held: Vec::new(alloc),
-                turns: 0,
-                pending: Vec::new(alloc),
-                served: Vec::new(alloc),
-                answers,
-                open,
-                is_lacking: false,
-            }),
-            Err(error) => Err(error),
-        }
+        Ok(History {
+            moments: Vec::new(alloc),
+            classes: Vec::new(alloc),
+            held: Vec::new(alloc),
+            waits: Vec::new(alloc),
+            turns: 0,
+            pending: Vec::new(alloc),
+            served: Vec::new(alloc),
+            answers,
+            open,
+            waiting,
+            is_lacking: false,
+        })
     }
 
     /// Whether no more turns are kept.
@@ -250,6 +264,30 @@ impl History {
                 to: turns,
             };
             if let Err(_) = self.held.push(held) {
+                self.is_lacking = true
+            }
+        }
+    }
+
+    /// Notes whether a handler waits after the turn that was added last.
+    pub fn wait(&mut self, handler: HandlerNumber, is_waiting: bool) {
+        let turns = self.turns;
+        let Some(waiting) = self.waiting.get_mut(handler as usize) else {
+            return;
+        };
+        let next = turns.saturating_add(1);
+        if !is_waiting {
+            *waiting = usize::MAX
+        } else if let Some(wait) = self.waits.get_mut(*waiting) {
+            wait.to = next
+        } else {
+            *waiting = self.waits.len();
+            let wait = Wait {
+                handler,
+                from: turns,
+                to: next,
+            };
+            if let Err(_) = self.waits.push(wait) {
                 self.is_lacking = true
             }
         }
