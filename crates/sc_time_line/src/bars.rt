@@ -132,19 +132,13 @@ pub fn push_waits(lines: &mut Lines, history: &History, layout: Layout) {
 
 /// Adds that a handler waits, perhaps to the end after this number of turns.
 fn push_wait(lines: &mut Lines, layout: Layout, wait: Wait, turns: usize) {
-    let is_open = wait.to > turns;
     let left = layout.right(wait.from);
-    let right = if is_open {
-        layout.right(wait.to)
-    } else {
-        layout.left(wait.to)
-    };
-    let width = right.saturating_sub(left);
+    let width = layout.right(wait.to).saturating_sub(left);
     if width > 0 {
         let top = lane(wait.handler).saturating_add(12);
         let template = "<rect class=\"wait\" x=\"~\" y=\"~\" width=\"~\" height=\"10\"><title>";
         fill_numbers(lines, template, &[left, top, width]);
-        let template = if is_open {
+        let template = if wait.to > turns {
             "waits from ~ to the end</title></rect>\n"
         } else {
             "waits from ~ to ~</title></rect>\n"

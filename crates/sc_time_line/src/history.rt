@@ -30,7 +30,7 @@ pub struct Held {
     pub to: usize,
 }
 
-/// That a handler waits, from after a turn to before a turn, which are counted from 1.
+/// That a handler waits, from after a turn to the end of a turn, which are counted from 1.
 #[derive(Clone, Copy)]
 pub struct Wait {
     pub handler: HandlerNumber,
