@@ -8,5 +8,7 @@
 #![tactic(auto)]
 
 mod edges;
+mod length;
 
 pub use edges::{Edge, may_move};
+pub use length::{Length, length_of};
