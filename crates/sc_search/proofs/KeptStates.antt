@@ -56,9 +56,9 @@ met_alike aim.Any w u alike same (inl stuck) = inl (subst AreStuck same stuck)
 met_alike aim.Any w u alike same (inr (inl failed)) = inr (inl (subst HasFailed same failed))
 met_alike aim.Any w u alike same (inr (inr refused)) = inr (inr (refused_alike w u alike refused))
 
-module _ (a : Aim) (w : PlainWorld) (from : Option ℕ) (x : Met) (b : Bool) (not_met : b ≡ false) (tells : IsTrue b ↔ IsMet a w) where
+module _ (a : Aim) (w : PlainWorld) (from : Option ℕ) (turns : ℕ) (x : Met) (b : Bool) (not_met : b ≡ false) (tells : IsTrue b ↔ IsMet a w) where
   -- the state was met before
-  pub keeps_found : (y : Met) (number : ℕ) → y.states ≡ x.states → slice_get x.states number ≡ Some (kept w) → AddsEdge from number x.edges y.edges → Keeps a w from x y
+  pub keeps_found : (y : Met) (number : ℕ) → y.states ≡ x.states → slice_get x.states number ≡ Some (kept w) → AddsEdge from number turns x.edges y.edges → Keeps a w from turns x y
   keeps_found y number same at edge = record {
     among = record { number = number; stands = ap (λ (ms : List PlainKept). slice_get ms number) same ∙ at };
     grows = inl same;
@@ -67,7 +67,7 @@ module _ (a : Aim) (w : PlainWorld) (from : Option ℕ) (x : Met) (b : Bool) (no
   }
 
   -- it is met now
-  pub keeps_new : (y : Met) → y.states ≡ x.states ++ kept w ∷ [] → AddsEdge from (length x.states) x.edges y.edges → Keeps a w from x y
+  pub keeps_new : (y : Met) → y.states ≡ x.states ++ kept w ∷ [] → AddsEdge from (length x.states) turns x.edges y.edges → Keeps a w from turns x y
   keeps_new y more edge = record {
     among = record { number = length x.states; stands = ap (λ (ms : List PlainKept). slice_get ms (length x.states)) more ∙ get_last x.states (kept w) };
     grows = inr more;

@@ -13,3 +13,5 @@ pub mod Waits
 mod IdleHandlers
 mod Verdicts
 mod Rows
+mod Lengths
+mod Follows

@@ -1,11 +1,13 @@
 -- Worlds that are loaded, and the worlds that were reached.
-use Rattle.std.proofs.Common.{◌≡◌, ◌⊎◌, ◌<◌, ◌++◌, ◌∷◌, [], ◌∙◌, ℕ, zero, suc, List, Option, Some, get_or, length, slice_get, refl, sym, ap, subst, append_assoc}
+use Rattle.std.proofs.Common.{◌≡◌, ◌⊎◌, ◌≤◌, ◌<◌, ◌+◌, ◌++◌, ◌∷◌, [], ◌∙◌, ℕ, zero, suc, true, List, Option, Some, None, get_or, is_some, length, slice_get, refl, sym, ap, subst, append_assoc}
 use Rattle.std.proofs.lemmas.List.{append-nil}
 use Rattle.std.proofs.lemmas.Option.{get_or_from_slice_get}
 use Rattle.sc_lockpass.specs.Versions.{most_handlers}
 use Rattle.sc_lockpass.specs.declared.version.Version.{Version}
 use Rattle.sc_model.specs.declared.status.Status.{Status}
 use Rattle.sc_code.specs.declared.program.Image.{Image}
+use Rattle.sc_region.specs.declared.job.Job.{Job}
+use Rattle.sc_request.specs.Logs.{pick_for}
 use Rattle.sc_play.specs.Regions.{PlainRegion}
 use Rattle.sc_world.specs.Free.{OpeningsAreLinked, RunsStayLinked}
 use Rattle.sc_world.specs.Kept.{AreKeptAlike, IsOf, KeptAlikeReadAlike, KeptAlikeTurnAlike, OpeningsAreOf, PlainKept, RunsStayOf, kept}
@@ -25,7 +27,7 @@ use Rattle.sc_search.specs.Waiting.{IsPlayed}
 use Rattle.sc_search.proofs.Joins.{same_follow}
 use Rattle.sc_search.proofs.KeptStates.{met_alike}
 use Rattle.sc_search.proofs.Reasons.{there_is}
-use Rattle.sc_search.proofs.TriedTurns.{plays_on, tries}
+use Rattle.sc_search.proofs.TriedTurns.{plays_on, tries, tries_none}
 
 module _ (open_of : OpeningsAreOf) (stay_of : RunsStayOf) (p : Image) (v : Version) where
   pub of_reached : (order : List ℕ) (w : PlainWorld) → Runs order (opened p v) w → IsOf p (most_handlers v) w
@@ -93,8 +95,9 @@ module _ (open_of : OpeningsAreOf) (stay_of : RunsStayOf) (p : Image) (v : Versi
     }
 
   -- what is kept of one is kept of the other
-  pub keeps_alike : (a : Aim) (w u : PlainWorld) (from : Option ℕ) (x y : Met) → kept w ≡ kept u → statuses w ≡ statuses u → Keeps a u from x y → Keeps a w from x y
-  keeps_alike a w u from x y alike same k = record {
+  pub keeps_alike : (a : Aim) (w u : PlainWorld) (from : Option ℕ) (turns : ℕ) (x y : Met) → kept w ≡ kept u → statuses w ≡ statuses u → Keeps a u from turns x y →
+      Keeps a w from turns x y
+  keeps_alike a w u from turns x y alike same k = record {
     among = record { number = k.among.number; stands = k.among.stands ∙ ap (λ (z : PlainKept). Some z) (sym alike) };
     grows = subst (λ (z : PlainKept). (y.states ≡ x.states) ⊎ (y.states ≡ x.states ++ z ∷ [])) (sym alike) k.grows;
     edge = k.edge;
@@ -137,16 +140,26 @@ module _ (open_of : OpeningsAreOf) (stay_of : RunsStayOf) (p : Image) (v : Versi
         (t.after, (before.0, before.1, follows_alike h m before.0 alike on.2, t.turn), t.kept)
 
     -- a turn in a loaded world, joined with others, is tried
-    pub tries_alike : (a : Aim) (joined : ℕ) (order : List ℕ) (number h : ℕ) (w m u : PlainWorld) (x y : Met) → IsOf p (most_handlers v) w → IsOf p (most_handlers v) m →
-        IsAlikeAfter p v order w → slice_get x.states number ≡ Some (kept w) → IsTurn h w m → GoesOnUpTo joined h m u → Keeps a u (Some number) x y →
-        Tries p v a joined x y number h
-    tries_alike a joined order number h w m u x y of its after at turn on keeps =
-        let t = alike_turn p (most_handlers v) w after.world (record { of = of; its = of_reached order after.world after.runs; same = sym after.alike }) h m turn in
+    pub tries_alike : (a : Aim) (joined : ℕ) (order : List ℕ) (number h counted : ℕ) (w m u : PlainWorld) (x y : Met) → IsOf p (most_handlers v) w →
+        IsOf p (most_handlers v) m → IsAlikeAfter p v order w → slice_get x.states number ≡ Some (kept w) → is_some (pick_for h w.center) ≡ true → IsTurn h w m →
+        (on : GoesOnUpTo joined h m u) → 1 + on.turns ≤ counted → Keeps a u (Some number) counted x y → Tries p v a joined x y number h
+    tries_alike a joined order number h counted w m u x y of its after at job turn on few keeps =
+        let start : AreKeptAlike p (most_handlers v) w after.world = record { of = of; its = of_reached order after.world after.runs; same = sym after.alike } in
+        let t = alike_turn p (most_handlers v) w after.world start h m turn in
+        let has_job : is_some (pick_for h after.world.center) ≡ true = ap (λ (j : Option Job). is_some j) (sym ((alike_read p (most_handlers v) w after.world start).jobs h)) ∙ job in
         let next : IsPlayed p v t.after = (order ++ h ∷ [], runs-more order h (opened p v) after.world t.after after.runs t.turn) in
         let last = goes_alike h on.turns m u t.after its next t.kept on.goes_on in
         let there : IsPlayed p v last.0 = plays_on p v h on.turns t.after last.0 next last.1 in
         let same : statuses last.0 ≡ statuses u =
         (alike_read p (most_handlers v) last.0 u (record { of = of_reached there.0 last.0 there.1; its = of_on h on.turns m u its on.goes_on; same = last.2 })).statuses in
-        tries p v a joined order number h after.world last.0 x y after.runs (at ∙ ap (λ (z : PlainKept). Some z) (sym after.alike))
+        tries p v a joined order number h counted after.world last.0 x y after.runs (at ∙ ap (λ (z : PlainKept). Some z) (sym after.alike)) has_job
         (record { next = t.after; turn = t.turn; on = record { turns = on.turns; few = on.few; goes_on = last.1 } })
-        (keeps_alike a last.0 u (Some number) x y last.2 same keeps)
+        few (keeps_alike a last.0 u (Some number) counted x y last.2 same keeps)
+
+    -- without a job in a loaded world, none is tried
+    pub tries_none_alike : (a : Aim) (joined : ℕ) (order : List ℕ) (number h : ℕ) (w : PlainWorld) (x : Met) → IsOf p (most_handlers v) w → IsAlikeAfter p v order w →
+        slice_get x.states number ≡ Some (kept w) → pick_for h w.center ≡ None → Tries p v a joined x x number h
+    tries_none_alike a joined order number h w x of after at none =
+        tries_none p v a joined number h order after.world x
+        (record { runs = after.runs; stands = at ∙ ap (λ (z : PlainKept). Some z) (sym after.alike) })
+        (sym ((alike_read p (most_handlers v) w after.world (record { of = of; its = of_reached order after.world after.runs; same = sym after.alike })).jobs h) ∙ none)

@@ -105,13 +105,14 @@ pub met_same : (x y : Met) → x.states ≡ y.states → x.edges ≡ y.edges →
 met_same x y states edges = λ i. record { states = states i; edges = edges i }
 
 -- what was kept before is the same
-pub keeps_since : (a : Aim) (w : PlainWorld) (parent : Option ℕ) (x y z : Met) → y.states ≡ x.states → y.edges ≡ x.edges → Keeps a w parent y z → Keeps a w parent x z
-keeps_since a w parent x y z states edges k = subst (λ (m : Met). Keeps a w parent m z) (met_same y x states edges) k
+pub keeps_since : (a : Aim) (w : PlainWorld) (parent : Option ℕ) (turns : ℕ) (x y z : Met) → y.states ≡ x.states → y.edges ≡ x.edges → Keeps a w parent turns y z →
+    Keeps a w parent turns x z
+keeps_since a w parent turns x y z states edges k = subst (λ (m : Met). Keeps a w parent turns m z) (met_same y x states edges) k
 
 -- the state is that of the world
-pub keeps_pushed : (a : Aim) (w : PlainWorld) (parent : Option ℕ) (x y : Met) (k : PlainKept) (number : ℕ) → (IsMet a w → ⊥) → y.states ≡ x.states ++ k ∷ [] →
-    k ≡ kept w → number ≡ length x.states → AddsEdge parent number x.edges y.edges → Keeps a w parent x y
-keeps_pushed a w parent x y k number unmet more same last edge = record {
+pub keeps_pushed : (a : Aim) (w : PlainWorld) (parent : Option ℕ) (turns : ℕ) (x y : Met) (k : PlainKept) (number : ℕ) → (IsMet a w → ⊥) → y.states ≡ x.states ++ k ∷ [] →
+    k ≡ kept w → number ≡ length x.states → AddsEdge parent number turns x.edges y.edges → Keeps a w parent turns x y
+keeps_pushed a w parent turns x y k number unmet more same last edge = record {
   among = record {
     number = number;
     stands =

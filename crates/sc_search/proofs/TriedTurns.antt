@@ -1,6 +1,6 @@
 -- Turns that are tried.
 use Rattle.std.proofs.Common.{◌≡◌, ◌⊎◌, ◌+◌, ◌<◌, ◌^◌, ◌≤◌, ◌++◌, ◌∙◌, inl, inr, ℕ, zero, suc, Bool, true, false, List, [], ◌∷◌, Option, Some, None, get_or, is_some, length, slice_get, refl, sym, ap, subst, arith}
-use Rattle.std.specs.Prelude.{nat_lt, if◌then◌else◌}
+use Rattle.std.specs.Prelude.{min, nat_lt, if◌then◌else◌}
 use Rattle.std.proofs.lemmas.Bool.{cases_lt, ltb-true}
 use Rattle.std.proofs.lemmas.Option.{slice_get-get_or, slice_get_within}
 use Rattle.sc_lockpass.specs.declared.version.Version.{Version}
@@ -8,7 +8,6 @@ use Rattle.sc_code.specs.declared.program.Image.{Image}
 use Rattle.sc_region.specs.declared.job.Job.{Job}
 use Rattle.sc_request.specs.Logs.{Center, pick_for}
 use Rattle.sc_orders.specs.declared.edges.Edge.{Edge}
-use Rattle.sc_orders.specs.Edges.{HasEdge}
 use Rattle.sc_world.specs.Kept.{PlainKept, kept}
 use Rattle.sc_world.specs.Turning.{IsTurn, Runs, TurnsUnder}
 use Rattle.sc_world.specs.Worlds.{PlainWorld, opened}
@@ -17,23 +16,32 @@ use Rattle.sc_search.specs.declared.aims.Aim.{Aim}
 use Rattle.sc_search.specs.Closed.{IsAmong, IsClosed, IsUnmet}
 use Rattle.sc_search.specs.Aims.{IsMet}
 use Rattle.sc_search.specs.Joined.{GoesOn, IsJoinedTurn}
-use Rattle.sc_search.specs.Steps.{AddsEdge, AreTurns, AreUnmet, Extends, IsEdge, IsExplored, IsTriedAlong, IsTriedAt, Keeps, Opens, OpensAlone, Stands, Tries, TriesAll}
+use Rattle.sc_search.specs.Steps.{AddsEdge, AreTurns, AreUnmet, Extends, IsCountedEdge, IsEdge, IsExplored, IsTriedAlong, IsTriedAt, Keeps, Opens, OpensAlone, Stands, Tries, TriesAll}
 use Rattle.sc_search.specs.Views.{Met, nothing_met}
 use Rattle.sc_search.specs.Waiting.{IsPlayed}
 use Rattle.sc_search.proofs.KeptStates.{get_before, get_either, get_last, same_some}
 
 -- an edge that is added
-adds_stay : (from : Option ℕ) (to : ℕ) (es fs : List Edge) → AddsEdge from to es fs → (place : ℕ) (e : Edge) → slice_get es place ≡ Some e → slice_get fs place ≡ Some e
-adds_stay None to es fs same place e at = subst (λ (xs : List Edge). slice_get xs place ≡ Some e) (sym same) at
-adds_stay (Some from) to es fs more place e at = subst (λ (xs : List Edge). slice_get xs place ≡ Some e) (sym more.3) (get_before es more.0 place e at)
+adds_stay : (from : Option ℕ) (to turns : ℕ) (es fs : List Edge) → AddsEdge from to turns es fs → (place : ℕ) (e : Edge) → slice_get es place ≡ Some e → slice_get fs place ≡ Some e
+adds_stay None to turns es fs same place e at = subst (λ (xs : List Edge). slice_get xs place ≡ Some e) (sym same) at
+adds_stay (Some from) to turns es fs more place e at = subst (λ (xs : List Edge). slice_get xs place ≡ Some e) (sym more.3) (get_before es more.0 place e at)
 
-adds_here : (from to : ℕ) (es fs : List Edge) → AddsEdge (Some from) to es fs → HasEdge fs from to
-adds_here from to es fs more = record {
-  place = length es;
-  edge = more.0;
-  at = subst (λ (xs : List Edge). slice_get xs (length es) ≡ Some more.0) (sym more.3) (get_last es more.0);
-  from_is = more.1;
-  to_is = more.2;
+at_least : (n m e : ℕ) → n ≤ m → e ≡ min m 4294967295 → (n ≤ e) ⊎ (e ≡ 4294967295)
+at_least n m e few is = elim (cases_lt m 4294967295) [
+  | inl less ↦ inl (omega (arith, few, is, less))
+  | inr more ↦ inr (omega (arith, is, more))
+]
+
+adds_here : (from to counted turns : ℕ) (es fs : List Edge) → counted ≤ turns → AddsEdge (Some from) to turns es fs → IsCountedEdge fs from to counted
+adds_here from to counted turns es fs few more = record {
+  has = record {
+    place = length es;
+    edge = more.0;
+    at = subst (λ (xs : List Edge). slice_get xs (length es) ≡ Some more.0) (sym more.3) (get_last es more.0);
+    from_is = more.1;
+    to_is = more.2;
+  };
+  counts = at_least counted turns more.0.turns few more.4;
 }
 
 module _ (p : Image) (v : Version) (a : Aim) where
@@ -93,28 +101,29 @@ module _ (p : Image) (v : Version) (a : Aim) (joined : ℕ) where
     before = is.before;
     after = is.after;
     played = is.played;
+    has_job = is.has_job;
     turn = is.turn;
     from = stay e.from (kept is.before) is.from;
     to = stay e.to (kept is.after) is.to;
   }
 
   -- the first state is kept
-  pub extends_opening : (hs : List ℕ) (w : PlainWorld) (x y : Met) → Runs hs (opened p v) w → Keeps a w None x y → Extends p v a joined x y
-  extends_opening hs w x y runs keeps = record {
+  pub extends_opening : (hs : List ℕ) (w : PlainWorld) (turns : ℕ) (x y : Met) → Runs hs (opened p v) w → Keeps a w None turns x y → Extends p v a joined x y
+  extends_opening hs w turns x y runs keeps = record {
     stay = grows_stay w x.states y.states keeps.grows;
     unmet = grows_unmet hs w x.states y.states runs keeps.unmet keeps.grows;
-    edges_stay = adds_stay None keeps.among.number x.edges y.edges keeps.edge;
+    edges_stay = adds_stay None keeps.among.number turns x.edges y.edges keeps.edge;
     turns = λ all place e at. edge_still x.states y.states e (grows_stay w x.states y.states keeps.grows)
         (all place e (subst (λ (xs : List Edge). slice_get xs place ≡ Some e) keeps.edge at));
   }
 
   -- a world to which the turn of a handler leads is kept
-  pub extends_kept : (hs : List ℕ) (number h : ℕ) (u w : PlainWorld) (x y : Met) → Runs hs (opened p v) u → slice_get x.states number ≡ Some (kept u) → IsJoinedTurn joined h u w →
-      Keeps a w (Some number) x y → Extends p v a joined x y
-  extends_kept hs number h u w x y runs at turn keeps = record {
+  pub extends_kept : (hs : List ℕ) (number h turns : ℕ) (u w : PlainWorld) (x y : Met) → Runs hs (opened p v) u → slice_get x.states number ≡ Some (kept u) →
+      is_some (pick_for h u.center) ≡ true → IsJoinedTurn joined h u w → Keeps a w (Some number) turns x y → Extends p v a joined x y
+  extends_kept hs number h turns u w x y runs at has_job turn keeps = record {
     stay = stay;
     unmet = grows_unmet all.0 w x.states y.states all.1 keeps.unmet keeps.grows;
-    edges_stay = adds_stay (Some number) keeps.among.number x.edges y.edges keeps.edge;
+    edges_stay = adds_stay (Some number) keeps.among.number turns x.edges y.edges keeps.edge;
     turns = λ all place e at_e. one all place e
         (get_either x.edges keeps.edge.0 place e (subst (λ (xs : List Edge). slice_get xs place ≡ Some e) keeps.edge.3 at_e));
   }
@@ -131,6 +140,7 @@ module _ (p : Image) (v : Version) (a : Aim) (joined : ℕ) where
         before = u;
         after = w;
         played = (hs, runs);
+        has_job = has_job;
         turn = turn;
         from = subst (λ (n : ℕ). slice_get y.states n ≡ Some (kept u)) (sym keeps.edge.1) (stay number (kept u) at);
         to = subst (λ (n : ℕ). slice_get y.states n ≡ Some (kept w)) (sym keeps.edge.2) keeps.among.stands;
@@ -152,16 +162,22 @@ module _ (p : Image) (v : Version) (a : Aim) (joined : ℕ) where
     edge = along t.edge;
   }
     where
-      along : (t.tried.among.number ≡ number) ⊎ HasEdge y.edges number t.tried.among.number → (t.tried.among.number ≡ number) ⊎ HasEdge z.edges number t.tried.among.number
-      along (inl same) = inl same
-      along (inr has) = inr (record { place = has.place; edge = has.edge; at = e.edges_stay has.place has.edge has.at; from_is = has.from_is; to_is = has.to_is })
+      along : ((t.tried.among.number ≡ number) × (pick_for h t.tried.before.center ≡ None)) ⊎ IsCountedEdge y.edges number t.tried.among.number (1 + t.tried.turn.on.turns) →
+          ((t.tried.among.number ≡ number) × (pick_for h t.tried.before.center ≡ None)) ⊎ IsCountedEdge z.edges number t.tried.among.number (1 + t.tried.turn.on.turns)
+      along (inl none) = inl none
+      along (inr is) =
+          let has = is.has in
+          inr (record {
+            has = record { place = has.place; edge = has.edge; at = e.edges_stay has.place has.edge has.at; from_is = has.from_is; to_is = has.to_is };
+            counts = is.counts;
+          })
 
   -- ---- one turn
 
-  pub tries : (hs : List ℕ) (number h : ℕ) (u w : PlainWorld) (x y : Met) → Runs hs (opened p v) u → slice_get x.states number ≡ Some (kept u) → IsJoinedTurn joined h u w →
-      Keeps a w (Some number) x y → Tries p v a joined x y number h
-  tries hs number h u w x y runs at turn keeps = record {
-    extends = extends_kept hs number h u w x y runs at turn keeps;
+  pub tries : (hs : List ℕ) (number h turns : ℕ) (u w : PlainWorld) (x y : Met) → Runs hs (opened p v) u → slice_get x.states number ≡ Some (kept u) →
+      is_some (pick_for h u.center) ≡ true → (turn : IsJoinedTurn joined h u w) → 1 + turn.on.turns ≤ turns → Keeps a w (Some number) turns x y → Tries p v a joined x y number h
+  tries hs number h turns u w x y runs at has_job turn few keeps = record {
+    extends = extends_kept hs number h turns u w x y runs at has_job turn keeps;
     tried = λ k here. record {
       tried = record {
         before = u;
@@ -170,7 +186,7 @@ module _ (p : Image) (v : Version) (a : Aim) (joined : ℕ) where
         turn = turn;
         among = keeps.among;
       };
-      edge = inr (adds_here number keeps.among.number x.edges y.edges keeps.edge);
+      edge = inr (adds_here number keeps.among.number (1 + turn.on.turns) turns x.edges y.edges few keeps.edge);
     };
   }
 
@@ -187,7 +203,7 @@ module _ (p : Image) (v : Version) (a : Aim) (joined : ℕ) where
       turn = record { next = w; turn = stays h w e; on = record { turns = 0; few = omega arith; goes_on = refl } };
       among = record { number = number; stands = stands.stands };
     };
-    edge = inl refl;
+    edge = inl (refl, e);
   }
 
   pub tries_none : (number h : ℕ) (hs : List ℕ) (w : PlainWorld) (x : Met) → Stands p v x.states number hs w → pick_for h w.center ≡ None → Tries p v a joined x x number h
@@ -287,11 +303,11 @@ module _ (p : Image) (v : Version) (a : Aim) (joined : ℕ) where
 -- ---- the opening
 
 module _ (p : Image) (v : Version) (a : Aim) where
-  pub opens_kept : (w : PlainWorld) (x y : Met) → x ≡ nothing_met → Runs [] (opened p v) w → Keeps a w None x y → OpensAlone p v a y
-  opens_kept w x y none runs keeps = record {
+  pub opens_kept : (w : PlainWorld) (turns : ℕ) (x y : Met) → x ≡ nothing_met → Runs [] (opened p v) w → Keeps a w None turns x y → OpensAlone p v a y
+  opens_kept w turns x y none runs keeps = record {
     opens = record {
       opens = subst (λ (u : PlainWorld). IsAmong y.states (kept u)) runs keeps.among;
-      unmet = (extends_opening p v a 0 [] w x y runs keeps).unmet (λ i k at. nowhere i k (subst (λ (m : Met). slice_get m.states i ≡ Some k) none at));
+      unmet = (extends_opening p v a 0 [] w turns x y runs keeps).unmet (λ i k at. nowhere i k (subst (λ (m : Met). slice_get m.states i ≡ Some k) none at));
     };
     alone = keeps.edge ∙ ap (λ (m : Met). m.edges) none;
   }

@@ -16,6 +16,7 @@ use Rattle.sc_search.specs.declared.verdict.Finding.TheVariants as finding
 use Rattle.sc_search.specs.declared.verdict.Verdict.{Verdict}
 use Rattle.sc_search.specs.Closed.{IsClosed}
 use Rattle.sc_search.specs.Found.{EndsFirst, LeadsTo, RunsUnmet, turns_of}
+use Rattle.sc_search.specs.Lengths.{IsLength}
 use Rattle.sc_search.specs.Limits.{StaysWithin}
 use Rattle.sc_search.specs.Memory.{bytes_of}
 use Rattle.sc_search.specs.Verdicts.{IsShown}
@@ -61,18 +62,19 @@ module _ (p : Image) (v : Version) (a : Aim) (ks : List PlainKept) (b : Bool) wh
   -- of states that are closed and in which no handler waits for good
   pub closed_shown : {E : Type 0} (r : Result Verdict E) → IsClosed p v a ks → AreMoving p v a ks →
       IfOk r (λ d. d.is_whole ≡ true → (b ≡ true) × (nowhere ≡ None) × (d.finding ≡ finding.Nothing)) →
-      IfOk r (λ d. d.states ≡ min (length ks) 4294967295) → IfOk r (IsShown p v a)
-  closed_shown (Ok d) closed moving whole count = λ e. record { nothing = (whole e).2; states = ks; number = count; closed = closed; moving = moving }
-  closed_shown (Err e) closed moving whole count = tt
+      IfOk r (λ d. d.states ≡ min (length ks) 4294967295) → (joined : ℕ) → IfOk r (λ d. IsLength p v joined d.length) → IfOk r (IsShown p v a)
+  closed_shown (Ok d) closed moving whole count joined long = λ e.
+      record { nothing = (whole e).2; states = ks; number = count; closed = closed; moving = moving; joined = joined; long = long }
+  closed_shown (Err e) closed moving whole count joined long = tt
 
   -- if stuck handlers aren't looked for, or the search stopped before
   pub other_shown : {E : Type 0} (r : Result Verdict E) (s : Option Stop) → IfNone s (IsClosed p v a ks) → (s ≡ None → seeks_stuck a ≡ true → ⊥) →
       IfOk r (λ d. d.is_whole ≡ true → (b ≡ true) × (s ≡ None) × (d.finding ≡ finding.Nothing)) →
-      IfOk r (λ d. d.states ≡ min (length ks) 4294967295) → IfOk r (IsShown p v a)
-  other_shown (Ok d) None closed other whole count =
-      λ e. record { nothing = (whole e).2; states = ks; number = count; closed = closed; moving = λ seeks. absurd (other refl seeks) }
-  other_shown (Ok d) (Some s) closed other whole count = λ e. never_none s (whole e).1
-  other_shown (Err e) s closed other whole count = tt
+      IfOk r (λ d. d.states ≡ min (length ks) 4294967295) → (joined : ℕ) → IfOk r (λ d. IsLength p v joined d.length) → IfOk r (IsShown p v a)
+  other_shown (Ok d) None closed other whole count joined long =
+      λ e. record { nothing = (whole e).2; states = ks; number = count; closed = closed; moving = λ seeks. absurd (other refl seeks); joined = joined; long = long }
+  other_shown (Ok d) (Some s) closed other whole count joined long = λ e. never_none s (whole e).1
+  other_shown (Err e) s closed other whole count joined long = tt
 
   -- one that found an order isn't whole
   pub found_shown : {E : Type 0} (r : Result Verdict E) → IfOk r (λ d. d.is_whole ≡ false) → IfOk r (IsShown p v a)

@@ -128,7 +128,10 @@ module _ (alike : KeptAlikeReadAlike) (open_of : OpeningsAreOf) (stay : RunsStay
               turn = single h t.tried.before t.tried.after t.tried.turn;
             };
             is_in = (plays_joined p v 0 h t.tried.before t.tried.after before t.tried.turn, t.tried.among.stands);
-            edge = t.edge;
+            edge = elim t.edge [
+              | inl none ↦ inl none.0
+              | inr is ↦ inr is.has
+            ];
           };
     }
 

@@ -12,4 +12,5 @@ pub mod Views
 pub mod Memory
 pub mod Stored
 pub mod Stops
+pub mod Lengths
 pub mod Verdicts

@@ -1,29 +1,33 @@
 -- How a search goes on.
-use Rattle.std.specs.Prelude.{◌≡◌, ◌⊎◌, ◌<◌, ◌^◌, ◌++◌, ◌∷◌, [], ℕ, List, Option, Some, None, length, slice_get}
+use Rattle.std.specs.Prelude.{◌≡◌, ◌⊎◌, ◌≤◌, ◌<◌, ◌+◌, ◌^◌, ◌++◌, ◌∷◌, [], ℕ, List, Option, Some, None, is_some, length, min, slice_get, true}
 use Rattle.sc_lockpass.specs.declared.version.Version.{Version}
 use Rattle.sc_code.specs.declared.program.Image.{Image}
 use Rattle.sc_world.specs.Kept.{PlainKept, kept}
 use Rattle.sc_orders.specs.declared.edges.Edge.{Edge}
 use Rattle.sc_orders.specs.Edges.{HasEdge}
+use Rattle.sc_request.specs.Logs.{pick_for}
 use Rattle.sc_world.specs.Turning.{Runs}
 use Rattle.sc_world.specs.Worlds.{PlainWorld, opened}
 use Rattle.sc_search.specs.declared.aims.Aim.{Aim}
 use Rattle.sc_search.specs.Aims.{IsMet}
 use Rattle.sc_search.specs.Closed.{IsAmong, IsTried, IsUnmet}
-use Rattle.sc_search.specs.Joined.{IsJoinedTurn}
+use Rattle.sc_search.specs.Joined.{GoesOnUpTo, IsJoinedTurn}
 use Rattle.sc_search.specs.Views.{Met}
 use Rattle.sc_search.specs.Waiting.{IsPlayed}
 
--- An edge from the state of the first number to that of the second is added, unless there is no first.
-abbrev pub AddsEdge : Option ℕ → ℕ → List Edge → List Edge → Type 0
-AddsEdge None to es fs = fs ≡ es
-AddsEdge (Some from) to es fs = (e : Edge) × (e.from ≡ from) × (e.to ≡ to) × (fs ≡ es ++ e ∷ [])
+-- An edge from the state of the first number to that of the second is added, unless there is no first. It has this number
+-- of turns, or the largest that fits.
+abbrev pub AddsEdge : Option ℕ → ℕ → ℕ → List Edge → List Edge → Type 0
+AddsEdge None to turns es fs = fs ≡ es
+AddsEdge (Some from) to turns es fs =
+    (e : Edge) × (e.from ≡ from) × (e.to ≡ to) × (fs ≡ es ++ e ∷ []) × (e.turns ≡ min turns 4294967295)
 
--- The state of the world was met, or is met now, and an edge leads to it. It doesn't show what is looked for.
-pub record Keeps (a : Aim) (w : PlainWorld) (from : Option ℕ) (x y : Met) : Type 0 where
+-- The state of the world was met, or is met now, and an edge of this number of turns leads to it. It doesn't show what is
+-- looked for.
+pub record Keeps (a : Aim) (w : PlainWorld) (from : Option ℕ) (turns : ℕ) (x y : Met) : Type 0 where
   pub among : IsAmong y.states (kept w)
   pub grows : (y.states ≡ x.states) ⊎ (y.states ≡ x.states ++ kept w ∷ [])
-  pub edge : AddsEdge from among.number x.edges y.edges
+  pub edge : AddsEdge from among.number turns x.edges y.edges
   pub unmet : IsMet a w → ⊥
 
 -- None of the states shows what is looked for.
@@ -50,12 +54,20 @@ pub record Stands (p : Image) (v : Version) (ks : List PlainKept) (number : ℕ)
 abbrev pub IsLedTo : Image → Version → List PlainKept → ℕ → List ℕ → Type 0
 IsLedTo p v ks number path = (w : PlainWorld) × Stands p v ks number path w
 
--- The edge is the turn of a handler, joined with others, from a world in a state to one in another, or in the same.
+-- Turns of the handler that may follow at once, at most this number of them, lead from the first world to the second. They
+-- are counted: the second list is longer than the first by as many or more.
+pub record GoesOnCounted (most h : ℕ) (first second : List ℕ) (x y : PlainWorld) : Type 0 where
+  pub goes : GoesOnUpTo most h x y
+  pub counted : length first + goes.turns ≤ length second
+
+-- The edge is the turn of a handler with a job, joined with others, from a world in a state to one in another, or in the
+-- same.
 pub record IsEdge (p : Image) (v : Version) (joined : ℕ) (ks : List PlainKept) (e : Edge) : Type 0 where
   pub handler : ℕ
   pub before : PlainWorld
   pub after : PlainWorld
   pub played : IsPlayed p v before
+  pub has_job : is_some (pick_for handler before.center) ≡ true
   pub turn : IsJoinedTurn joined handler before after
   pub from : slice_get ks e.from ≡ Some (kept before)
   pub to : slice_get ks e.to ≡ Some (kept after)
@@ -70,10 +82,17 @@ pub record Extends (p : Image) (v : Version) (a : Aim) (joined : ℕ) (x y : Met
   pub edges_stay : (place : ℕ) (e : Edge) → slice_get x.edges place ≡ Some e → slice_get y.edges place ≡ Some e
   pub turns : AreTurns p v joined x → AreTurns p v joined y
 
--- The turn of the handler is tried in the state of this number, and leads along an edge, or stays in the state.
+-- An edge leads from the first state to the second. It counts at least this number of turns, or the most that an edge can.
+pub record IsCountedEdge (edges : List Edge) (from to turns : ℕ) : Type 0 where
+  pub has : HasEdge edges from to
+  pub counts : (turns ≤ has.edge.turns) ⊎ (has.edge.turns ≡ 4294967295)
+
+-- The turn of the handler is tried in the state of this number, and leads along an edge that counts it and those it is
+-- joined with. Without a job it has no edge, and stays in the state.
 pub record IsTriedAlong (p : Image) (v : Version) (joined : ℕ) (x : Met) (number : ℕ) (k : PlainKept) (h : ℕ) : Type 0 where
   pub tried : IsTried p v joined x.states k h
-  pub edge : (tried.among.number ≡ number) ⊎ HasEdge x.edges number tried.among.number
+  pub edge : ((tried.among.number ≡ number) × (pick_for h tried.before.center ≡ None))
+      ⊎ IsCountedEdge x.edges number tried.among.number (1 + tried.turn.on.turns)
 
 abbrev pub IsTriedAt : Image → Version → ℕ → Met → Met → ℕ → ℕ → Type 0
 IsTriedAt p v joined x y number h =

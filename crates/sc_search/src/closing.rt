@@ -18,6 +18,7 @@ use crate::replay::Subject;
 use crate::verdict::Reason;
 use crate::watch::Watch;
 use sc_lockpass::HandlerNumber;
+use sc_world::Turned;
 use sc_world::laws::{
     kept_alike_read_alike, kept_alike_turn_alike, openings_are_of_their_program,
     runs_stay_of_their_program,
@@ -169,7 +170,9 @@ fn move_on<'p>(
     openings_are_of_their_program();
     runs_stay_of_their_program();
     progress.load(subject, number)?;
-    progress.turn(subject, handler)?;
+    if let Turned::Nothing = progress.turn(subject, handler)? {
+        return Ok(None);
+    }
     let mut turns = Vec::from_slice(subject.alloc, &[handler])?;
     progress.go_on(subject, number, handler, joined, &mut turns)?;
     let way = Way {

@@ -2,14 +2,15 @@
 ghost use Rattle.std.specs.Prelude.{◌≡◌, ◌≤◌, ◌<◌, [], ℕ, Some, IfNone, IfOk, IfSome, OnOk, get_or, length, slice_get};
 ghost use Rattle.sc_world.specs.Views.{world_in};
 ghost use Rattle.sc_world.specs.Kept.{kept};
-ghost use Rattle.sc_world.specs.Turning.{IsTurn};
+ghost use Rattle.sc_request.specs.Logs.{pick_for};
+ghost use Rattle.sc_world.specs.Turning.{IsTurn, turned_by};
 ghost use Rattle.sc_world.specs.Reports as told;
 ghost use Rattle.sc_world.specs.Worlds.{opened};
 ghost use Rattle.sc_search.specs.Aims.{IsMet};
 ghost use Rattle.sc_search.specs.Steps.{AddsEdge, Keeps};
 
 use crate::ends::{FoundEnd, push_outcome};
-use crate::joining::go_on;
+use crate::following::follow;
 use crate::judging::{Kind, is_met, some_is};
 use crate::limits::Limits;
 use crate::memory::bytes_since;
@@ -20,11 +21,11 @@ use crate::watch::{Stage, Watch};
 use sc_lockpass::HandlerNumber;
 use sc_model::Status;
 use sc_orders::Edge;
-use sc_world::Configuration;
 use sc_world::laws::{
     kept_alike_read_alike, kept_alike_turn_alike, openings_are_linked,
     openings_are_of_their_program, runs_stay_linked, runs_stay_of_their_program,
 };
+use sc_world::{Configuration, Turned};
 use std::alloc::AllocError;
 
 /// How many turns may be played for each state that may be kept.
@@ -77,7 +78,7 @@ pub(crate) struct Way<'w> {
 
 impl<'p> Progress<'p> {
     ghost use Rattle.sc_search.specs.Stored.{IsAlikeAfter, IsFrom, IsTupleOf, order_after};
-    ghost use Rattle.sc_search.specs.Joined.{GoesOnUpTo};
+    ghost use Rattle.sc_search.specs.Steps.{GoesOnCounted};
     ghost use Rattle.sc_search.specs.Memory.{bytes_of};
     ghost use Rattle.sc_search.specs.Stops.{HasReached, Moves, StopsFor};
     ghost use Rattle.sc_search.specs.Views.{met_of, nothing_met, orders_of, states_of, tuples_in};
@@ -199,7 +200,7 @@ impl<'p> Progress<'p> {
         Ok(())
     }
 
-    /// Makes the turn of a handler in the world.
+    /// Makes the turn of a handler in the world, if it has one.
     ///
     /// # Errors
     /// Memory ran out.
@@ -207,16 +208,17 @@ impl<'p> Progress<'p> {
         &mut self,
         subject: Subject<'p>,
         handler: HandlerNumber,
-    ) -> Result<(), AllocError>
+    ) -> Result<Turned, AllocError>
         requires reached { HasReached subject.program.now.image subject.version subject.aim self.old }
         ensures store { self.new.store ≡ self.old.store }
         ensures edges { self.new.edges ≡ self.old.edges }
         ensures reached { OnOk result (HasReached subject.entry.program.now.image subject.entry.version subject.entry.aim self.new) }
+        ensures turned { IfOk result (λ turned. turned ≡ turned_by (pick_for handler (world_in self.old.world).center)) }
         ensures turn { OnOk result (IsTurn handler (world_in self.old.world) (world_in self.new.world)) }
     {
         runs_stay_of_their_program();
-        self.world.turn(handler)?;
-        Ok(())
+        let turned = self.world.turn(handler)?;
+        Ok(turned)
     }
 
     /// Makes further turns of a handler in the world, which began in the state with the number: at most `most`, as long as they
@@ -238,10 +240,10 @@ impl<'p> Progress<'p> {
         ensures edges { self.new.edges ≡ self.old.edges }
         ensures reached { OnOk result (HasReached subject.entry.program.now.image subject.entry.version subject.entry.aim self.new) }
         ensures moves { OnOk result (Moves turns.old.items turns.new.items (world_in self.old.world) (world_in self.new.world)) }
-        ensures goes { OnOk result (GoesOnUpTo most handler (world_in self.old.world) (world_in self.new.world)) }
+        ensures goes { OnOk result (GoesOnCounted most handler turns.old.items turns.new.items (world_in self.old.world) (world_in self.new.world)) }
     {
         let begun = self.store.region(number, handler);
-        go_on(subject.alloc, &mut self.world, begun, handler, most, turns)?;
+        follow(subject.alloc, &mut self.world, begun, handler, most, turns)?;
         Ok(())
     }
 
@@ -316,7 +318,7 @@ impl<'p> Progress<'p> {
             (order_after (orders_of self.old) way.parent way.turns.now) (world_in self.old.world) }
         requires reached { HasReached subject.program.now.image subject.version subject.aim self.old }
         ensures keeps { IfOk result (λ stop. IfNone stop
-            (Keeps subject.entry.aim (world_in self.old.world) way.entry.parent (met_of self.old) (met_of self.new))) }
+            (Keeps subject.entry.aim (world_in self.old.world) way.entry.parent (length way.entry.turns.now) (met_of self.old) (met_of self.new))) }
         ensures reached { IfOk result (λ stop. IfNone stop (HasReached subject.entry.program.now.image subject.entry.version subject.entry.aim self.new)) }
         ensures stops { IfOk result (λ stop. IfSome stop (StopsFor subject.entry.program.now.image subject.entry.version subject.entry.aim limits)) }
     {
@@ -391,7 +393,7 @@ impl<'p> Progress<'p> {
         requires told { statuses.now ≡ told.statuses (world_in self.old.world) }
         requires unmet { IsMet subject.aim (world_in self.old.world) → ⊥ }
         ensures keeps { IfOk result (λ stop. IfNone stop
-            (Keeps subject.entry.aim (world_in self.old.world) way.entry.parent (met_of self.old) (met_of self.new))) }
+            (Keeps subject.entry.aim (world_in self.old.world) way.entry.parent (length way.entry.turns.now) (met_of self.old) (met_of self.new))) }
         ensures reached { IfOk result (λ stop. IfNone stop (HasReached subject.entry.program.now.image subject.entry.version subject.entry.aim self.new)) }
         ensures stops { IfOk result (λ stop. IfSome stop (StopsFor subject.entry.program.now.image subject.entry.version subject.entry.aim limits)) }
     {
@@ -440,7 +442,7 @@ impl<'p> Progress<'p> {
         ensures world { self.new.world ≡ self.old.world }
         ensures tuple { self.new.tuple ≡ self.old.tuple }
         ensures turns { self.new.turns ≡ self.old.turns }
-        ensures edge { OnOk result (AddsEdge way.entry.parent to self.old.edges.items self.new.edges.items) }
+        ensures edge { OnOk result (AddsEdge way.entry.parent to (length way.entry.turns.now) self.old.edges.items self.new.edges.items) }
     {
         if let Some(from) = way.parent {
             let turns = way.turns.len().min(u32::MAX as usize) as u32;

@@ -1,8 +1,9 @@
 //! The search.
-ghost use Rattle.std.specs.Prelude.{◌≡◌, ◌≤◌, IfOk, None, false, length, min, true};
+ghost use Rattle.std.specs.Prelude.{◌≡◌, ◌≤◌, ℕ, IfOk, None, false, length, min, true};
 ghost use Rattle.sc_search.specs.Closed.{IsClosedFor};
 ghost use Rattle.sc_search.specs.Ends.{AreEnds};
 ghost use Rattle.sc_search.specs.Found.{IsFirst, IsFound};
+ghost use Rattle.sc_search.specs.Lengths.{IsLength, length_from};
 ghost use Rattle.sc_search.specs.Limits.{LacksMemory, SaysWhy, SaysWhyFor, StaysWithin, has_given_up};
 ghost use Rattle.sc_search.specs.Memory.{bytes_of};
 ghost use Rattle.sc_search.specs.Steps.{IsExplored};
@@ -16,7 +17,6 @@ use crate::choices::play_choices;
 use crate::closing::play_all;
 use crate::ends::ends_after;
 use crate::judging::seeks_stuck;
-use crate::length::length_of;
 use crate::limits::Limits;
 use crate::progress::{Progress, Stop};
 use crate::replay::{Shown, Subject, finding_after, stuck_after};
@@ -25,6 +25,10 @@ use crate::waiting::{all_may_move, first_stuck};
 use crate::watch::Watch;
 use sc_code::Program;
 use sc_lockpass::{HandlerNumber, Version};
+use sc_orders::length_of;
+use sc_world::laws::{
+    kept_alike_read_alike, openings_are_of_their_program, runs_stay_of_their_program,
+};
 use std::alloc::{AllocError, Global};
 
 /// How many turns that may follow at once are joined with the one before them.
@@ -231,7 +235,7 @@ fn stuck_verdict<'p>(
 {
     let met = progress.store.len();
     let bytes = progress.bytes();
-    let length = orders_length(subject.alloc, &progress)?;
+    let length = orders_length(subject, &progress, true)?;
     let ends = ends_after(subject, &progress.outcomes)?;
     let Shown { finding, why } = stuck_after(subject, progress, number)?;
     Ok(Verdict {
@@ -245,13 +249,47 @@ fn stuck_verdict<'p>(
     })
 }
 
-/// How long orders are, if all turns of all states were played.
-fn orders_length(alloc: Global, progress: &Progress<'_>) -> Result<Length, AllocError> {
+/// How long orders are, if all turns of all states were played, or choices alone. The first state of all turns is the opening.
+///
+/// # Errors
+/// Memory ran out.
+fn orders_length(
+    subject: Subject<'_>,
+    progress: &Progress<'_>,
+    is_all: bool,
+) -> Result<Length, AllocError>
+    ensures { is_all ≡ true → (joined : ℕ) → IsExplored subject.entry.program.now.image subject.entry.version joined (met_of progress.now) →
+        HasReached subject.entry.program.now.image subject.entry.version subject.entry.aim progress.now →
+        IfOk result (IsLength subject.entry.program.now.image subject.entry.version joined) }
+{
+    kept_alike_read_alike();
+    openings_are_of_their_program();
+    runs_stay_of_their_program();
     if progress.store.len() == 0 {
         return Ok(Length::Unknown);
     }
-    let first = progress.store.order(0)?.len().min(u32::MAX as usize) as u32;
-    length_of(alloc, first, progress.store.len() as usize, &progress.edges)
+    let first = progress.store.order(0)?.len();
+    if is_all && first > 0 {
+        return Ok(Length::Unknown);
+    }
+    let length = length_of(
+        subject.alloc,
+        first.min(u32::MAX as usize) as u32,
+        progress.store.len() as usize,
+        &progress.edges,
+    )?;
+    Ok(length_from(length))
+}
+
+/// How long orders are, if edges lead on so. The largest number may be that of an edge that doesn't count all its turns.
+fn length_from(length: sc_orders::Length) -> Length
+    ensures { result ≡ length_from length }
+{
+    match length {
+        sc_orders::Length::AtMost(most) if most < u32::MAX => Length::AtMost(most),
+        sc_orders::Length::Endless => Length::Endless,
+        sc_orders::Length::AtMost(_) | sc_orders::Length::Unknown => Length::Unknown,
+    }
 }
 
 /// The verdict of a search that stopped so, and played all turns or choices alone.
@@ -267,6 +305,9 @@ fn verdict_of(
     ensures states { IfOk result (λ verdict. verdict.states ≡ min (length (states_of progress.entry)) 4294967295) }
     ensures bytes { IfOk result (λ verdict. verdict.bytes ≡ bytes_of progress.entry) }
     ensures whole { IfOk result (λ verdict. verdict.is_whole ≡ true → (is_all ≡ true) × (stop ≡ None) × (verdict.finding ≡ Finding.Nothing)) }
+    ensures long { is_all ≡ true → (joined : ℕ) → IsExplored subject.entry.program.now.image subject.entry.version joined (met_of progress.entry) →
+        HasReached subject.entry.program.now.image subject.entry.version subject.entry.aim progress.entry →
+        IfOk result (λ verdict. IsLength subject.entry.program.now.image subject.entry.version joined verdict.length) }
     ensures done { stop ≡ None → IfOk result (λ verdict. (verdict.finding ≡ Finding.Nothing) × (verdict.is_whole ≡ is_all) × (verdict.why ≡ None)) }
     ensures why { IfOk result (λ verdict. SaysWhyAt subject.entry stop verdict.is_whole verdict.finding verdict.why) }
 {
@@ -275,7 +316,7 @@ fn verdict_of(
     let worlds = progress.give_up(Reason::Worlds);
     let is_whole = is_all && stop.is_none();
     let length = match stop {
-        None => orders_length(subject.alloc, &progress)?,
+        None => orders_length(subject, &progress, is_all)?,
         Some(_) => Length::Unknown,
     };
     let Shown { finding, why } = shown_at(subject, stop, worlds)?;

@@ -1,4 +1,4 @@
-use Rattle.std.proofs.Common.{true, Some, None}
+use Rattle.std.proofs.Common.{refl, true, Some, None}
 use Rattle.sc_search.specs.Stops.{StopsFor}
 use Rattle.sc_search.specs.Views.{states_of}
 use Rattle.sc_search.proofs.KeptStates.{at_none}
@@ -19,6 +19,8 @@ returns-then-branch-clause-whole g c =
     closed_shown c.args.subject.program.now.image c.args.subject.version c.args.subject.aim (states_of c.play_all-played.new.progress) true
     c.verdict_of-then-branch.result (at_none c.in_ok-stop.field-0 c.in_default.is c.in_ok-stop.ensures.closed) (c.in_ok-all_may_move.ensures c.if-branch.true)
     c.verdict_of-then-branch.ensures.whole c.verdict_of-then-branch.ensures.states
+    1000 (c.verdict_of-then-branch.ensures.long refl 1000 (at_none c.in_ok-stop.field-0 c.in_default.is c.in_ok-stop.ensures.explored)
+    (at_none c.in_ok-stop.field-0 c.in_default.is c.in_ok-stop.ensures.reached))
 
 pub returns-then-branch-clause-why : goal.returns-then-branch-clause-why
 returns-then-branch-clause-why g c =

@@ -1,4 +1,4 @@
-use Rattle.std.proofs.Common.{◌≡◌, ◌∙◌, true, false, Some, None, sym}
+use Rattle.std.proofs.Common.{◌≡◌, ◌∙◌, refl, true, false, Some, None, sym}
 use Rattle.sc_search.specs.Limits.{SaysWhyFor}
 use Rattle.sc_search.specs.Stops.{StopsFor}
 use Rattle.sc_search.specs.Views.{states_of}
@@ -13,6 +13,8 @@ returns-clause-whole g c =
     c.verdict_of-2.result None (at_none c.in_ok-stop.field-0 c.in_default.is c.in_ok-stop.ensures.closed)
     (λ e seeks. let no : false ≡ true = sym c.if-seeks_stuck.false ∙ c.seeks_stuck.ensures ∙ seeks in cc)
     c.verdict_of-2.ensures.whole c.verdict_of-2.ensures.states
+    0 (c.verdict_of-2.ensures.long refl 0 (at_none c.in_ok-stop.field-0 c.in_default.is c.in_ok-stop.ensures.explored)
+    (at_none c.in_ok-stop.field-0 c.in_default.is c.in_ok-stop.ensures.reached))
 
 pub returns-clause-why : goal.returns-clause-why
 returns-clause-why g c =

@@ -1,4 +1,4 @@
-use Rattle.std.proofs.Common.{◌≡◌, ◌∙◌, ℕ, List, Some, slice_get, sym, ap, subst}
+use Rattle.std.proofs.Common.{◌≡◌, ◌∙◌, ℕ, List, Some, length, slice_get, sym, ap, subst}
 use Rattle.sc_request.specs.Cores.{center_of}
 use Rattle.sc_world.specs.declared.configuration.Configuration.{Configuration}
 use Rattle.sc_world.specs.Views.{world_in}
@@ -45,10 +45,10 @@ returns-in-Some-clause-keeps c =
     ∙ ap (λ (u : Configuration). kept (world_in u)) world in
     let at : slice_get (states_of x) c.in-Some.number ≡ Some (kept w) =
     ap (λ (ks : List PlainKept). slice_get ks c.in-Some.number) (sym states) ∙ c.in-Some.ensures.found ∙ ap (λ (k : PlainKept). Some k) kept_is in
-    let edge : AddsEdge c.args.way.parent c.in-Some.number x.edges.items c.push_edge.new.self.edges.items =
-    subst (λ es. AddsEdge c.args.way.parent c.in-Some.number es.items c.push_edge.new.self.edges.items) (c.number.ensures.edges ∙ c.count_turns.ensures.edges)
+    let edge : AddsEdge c.args.way.parent c.in-Some.number (length c.args.way.turns.now) x.edges.items c.push_edge.new.self.edges.items =
+    subst (λ es. AddsEdge c.args.way.parent c.in-Some.number (length c.args.way.turns.now) es.items c.push_edge.new.self.edges.items) (c.number.ensures.edges ∙ c.count_turns.ensures.edges)
     c.in_ok-push_edge-in-Some.ensures.edge in
-    keeps_found a w c.args.way.parent (met_of x) c.is_met.result c.if-is_met.false tells (met_of c.push_edge.new.self) c.in-Some.number
+    keeps_found a w c.args.way.parent (length c.args.way.turns.now) (met_of x) c.is_met.result c.if-is_met.false tells (met_of c.push_edge.new.self) c.in-Some.number
     (ap states_in c.push_edge.ensures.store ∙ states) at edge
 
 pub keep_new-requires-clause-unmet : goal.keep_new-requires-clause-unmet

@@ -1,4 +1,4 @@
-use Rattle.std.proofs.Common.{◌≡◌, ◌++◌, ◌∷◌, ◌∙◌, [], ℕ, List, sym, ap, subst, arith}
+use Rattle.std.proofs.Common.{◌≡◌, ◌++◌, ◌∷◌, ◌∙◌, [], ℕ, List, length, sym, ap, subst, arith}
 use Rattle.sc_lockpass.specs.Versions.{most_handlers}
 use Rattle.sc_model.specs.declared.status.Status.{Status}
 use Rattle.sc_world.specs.declared.configuration.Configuration.{Configuration}
@@ -33,9 +33,9 @@ returns-clause-keeps c =
     let w = world_in x.world in
     let before : c.push_edge.new.self.store ≡ x.store = c.push_edge.ensures.store ∙ c.push_end.ensures.store in
     let tuple : c.deref.result.now ≡ x.tuple.items = c.deref.ensures.value ∙ ap (λ v. v.items) (c.push_edge.ensures.tuple ∙ c.push_end.ensures.tuple) in
-    let edge : AddsEdge c.args.way.parent c.len-number.result x.edges.items c.push_edge.new.self.edges.items =
-    subst (λ es. AddsEdge c.args.way.parent c.len-number.result es.items c.push_edge.new.self.edges.items) c.push_end.ensures.edges c.in_ok-push_edge.ensures.edge in
-    keeps_pushed a w c.args.way.parent (met_of x) (record { states = states_in c.push.new.self; edges = c.push_edge.new.self.edges.items })
+    let edge : AddsEdge c.args.way.parent c.len-number.result (length c.args.way.turns.now) x.edges.items c.push_edge.new.self.edges.items =
+    subst (λ es. AddsEdge c.args.way.parent c.len-number.result (length c.args.way.turns.now) es.items c.push_edge.new.self.edges.items) c.push_end.ensures.edges c.in_ok-push_edge.ensures.edge in
+    keeps_pushed a w c.args.way.parent (length c.args.way.turns.now) (met_of x) (record { states = states_in c.push.new.self; edges = c.push_edge.new.self.edges.items })
     (state_by (contents_in x.store) (parts_in x.store) x.tuple.items) c.len-number.result c.requires.unmet
     (c.in_ok-push.ensures.states
     ∙ ap (λ (s : Store). states_in s ++ state_by (contents_in s) (parts_in s) c.deref.result.now ∷ []) before

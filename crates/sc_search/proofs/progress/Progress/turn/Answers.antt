@@ -8,5 +8,5 @@ returns-clause-reached c = record {
   reached = c.requires.reached.reached;
   stored = c.requires.reached.stored;
   of = c.runs_stay_of_their_program.ensures c.args.subject.program.now.image (most_handlers c.args.subject.version) (c.args.handler ∷ []) (world_in c.args.self.now.world)
-      (world_in c.turn.new.self) c.requires.reached.of (world_in c.turn.new.self, c.in_ok-turn.ensures.ok, refl);
+      (world_in c.turn.new.self) c.requires.reached.of (world_in c.turn.new.self, c.in_ok-turned.ensures.ok, refl);
 }
