@@ -15,7 +15,7 @@ use Rattle.sc_handler.specs.Changes.{session_ended}
 use Rattle.sc_handler.specs.Handlers.{Handler, HandlerStage, Idle, Runs, HasMade, Reserves, Awaits, State, has_frames, has_requests, standing_in}
 use Rattle.sc_handler.specs.Picking.{job_at, job_for_entry, job_of, job_reserving, needs}
 use Rattle.sc_refines_world.proofs.OtherStages.{has_job, job_there}
-use Rattle.sc_movers.proofs.ChangedStates.{Apart, Change, Harmless, changed, stage_own, true_false}
+use Rattle.sc_movers.proofs.ChangedStates.{Change, FreesNone, Harmless, changed, stage_own, true_false}
 use Rattle.sc_movers.proofs.ChangedTurns.{and_left, and_right, same_held}
 
 -- ---- tests of all or any
@@ -68,7 +68,7 @@ pub record Loosens (c : Change) (s : State) : Type 0 where
   pub requests : (k : ℕ) → may_be_reserved (standing_in s k) (s.rights.queue k) ≡ true → has_requests (c.at k (s.handlers k)).queue ≡ has_requests (s.handlers k).queue
   pub grows : (k : ℕ) → (s.handlers k).sessions ≤ (c.at k (s.handlers k)).sessions
 
-module _ (h n : ℕ) (safe closed spared : ℕ → Bool) (c : Change) (harm : Harmless h n safe closed spared c) (s : State) (are : Apart h safe s) where
+module _ (h n : ℕ) (safe closed spared : ℕ → Bool) (c : Change) (harm : Harmless h n safe closed spared c) (s : State) (frees : FreesNone h c s) where
   abbrev t : State
   t = changed c s
 
@@ -77,7 +77,7 @@ module _ (h n : ℕ) (safe closed spared : ℕ → Bool) (c : Change) (harm : Ha
     where
       one : (o : Option ℕ) → unheld t.rights h o ≡ unheld s.rights h o
       one None = refl
-      one (Some k) = ap (λ (b : Bool). if b then None else Some k) (same_held h n safe closed spared c harm s are k)
+      one (Some k) = ap (λ (b : Bool). if b then None else Some k) (same_held h n safe closed spared c harm s frees k)
 
   module _ (loose : Loosens c s) where
     may_still : (k : ℕ) → may_be_reserved (standing_in s k) (s.rights.queue k) ≡ true → may_be_reserved (standing_in t k) (t.rights.queue k) ≡ true

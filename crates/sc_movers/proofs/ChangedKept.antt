@@ -42,7 +42,7 @@ ended_own : (b : Bool) (x : Handler) → OwnStays x (session_ended b x)
 ended_own true x = (refl, refl, refl)
 ended_own false x = (refl, refl, refl)
 
-ended_queue : (b : Bool) (x : Handler) → (session_ended b x).queue ≡ x.queue
+pub ended_queue : (b : Bool) (x : Handler) → (session_ended b x).queue ≡ x.queue
 ended_queue true x = refl
 ended_queue false x = refl
 
@@ -50,7 +50,7 @@ told_own : (b : Bool) (x : Handler) → OwnStays x (told b x)
 told_own true x = (refl, refl, refl)
 told_own false x = (refl, refl, refl)
 
-told_queue : (b : Bool) (x : Handler) → (told b x).queue ≡ x.queue
+pub told_queue : (b : Bool) (x : Handler) → (told b x).queue ≡ x.queue
 told_queue true x = refl
 told_queue false x = refl
 
@@ -254,7 +254,7 @@ module _ (g h n : ℕ) (safe closed spared : ℕ → Bool) (apart : h ≡ g → 
       stay_then s (return_rights p.passed s) (finish p a s) (returned_stays p.passed s none)
       (answers_stay p.request.is_waited p.request.poster a (return_rights p.passed s))
 
-  fails_stay : (why : Cause) (s : State) → Are s → Stays s (fail h why s)
+  pub fails_stay : (why : Cause) (s : State) → Are s → Stays s (fail h why s)
   fails_stay why s are = record {
     more = omega arith;
     queue = λ k e. ap (λ (b : Bool). if b then None else s.rights.queue k) (are.not_its k e);

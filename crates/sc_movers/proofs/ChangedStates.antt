@@ -77,6 +77,10 @@ pub record Change : Type 0 where
 abbrev pub changed : Change → State → State
 changed c s = record s { handlers = λ k. c.at k (s.handlers k); rights = rights.release c.frees s.rights }
 
+-- None of those that are released is the handler's.
+abbrev pub FreesNone : ℕ → Change → State → Type 0
+FreesNone h c s = (k : ℕ) → is_among k c.frees ≡ true → is_handler h (s.rights.queue k) ≡ false
+
 -- No right to post to these is the handler's. They are there.
 pub record Apart (h : ℕ) (safe : ℕ → Bool) (s : State) : Type 0 where
   pub not_its : (k : ℕ) → safe k ≡ true → is_handler h (s.rights.queue k) ≡ false
@@ -219,15 +223,19 @@ module _ (h n : ℕ) (safe closed spared : ℕ → Bool) (c : Change) (harm : Ha
       ap (answer_to p.request.is_waited p.request.poster a) (returned_changed p.passed s none)
       ∙ answers_changed p.request.is_waited p.request.poster a (return_rights p.passed s) hears
 
+  -- none of those that are released is the handler's, if none that are safe are
+  pub frees_none : (s : State) → Apart h safe s → FreesNone h c s
+  frees_none s f k e = f.not_its k (harm.freed k e)
+
   -- whom the handler may post to
-  pub same_holder : (s : State) → Apart h safe s → (k : ℕ) → is_handler h ((changed c s).rights.queue k) ≡ is_handler h (s.rights.queue k)
+  pub same_holder : (s : State) → FreesNone h c s → (k : ℕ) → is_handler h ((changed c s).rights.queue k) ≡ is_handler h (s.rights.queue k)
   same_holder s f k = by (is_among k c.frees) refl
     where
       by : (a : Bool) → is_among k c.frees ≡ a → is_handler h (if is_among k c.frees then None else s.rights.queue k) ≡ is_handler h (s.rights.queue k)
-      by true e = ap (λ (b : Bool). is_handler h (if b then None else s.rights.queue k)) e ∙ sym (f.not_its k (harm.freed k e))
+      by true e = ap (λ (b : Bool). is_handler h (if b then None else s.rights.queue k)) e ∙ sym (f k e)
       by false e = ap (λ (b : Bool). is_handler h (if b then None else s.rights.queue k)) e
 
-  pub fails_changed : (why : Cause) (s : State) → Apart h safe s → fail h why (changed c s) ≡ changed c (fail h why s)
+  pub fails_changed : (why : Cause) (s : State) → FreesNone h c s → fail h why (changed c s) ≡ changed c (fail h why s)
   fails_changed why s f =
       same_states (fail h why (changed c s)) (changed c (fail h why s)) refl (λ k. one k (cases_eq k h)) (λ k. lost (is_among k c.frees) (s.rights.queue k)) (λ k. refl)
     where

@@ -10,6 +10,7 @@ use Rattle.sc_lockpass.specs.Passing.{Passed}
 use Rattle.sc_lockpass.specs.wait_conditions.Reservations.{mark_of}
 use Rattle.sc_lockpass.specs.declared.wait_conditions.mark.Marked.{Marked}
 use Rattle.sc_lockpass.specs.declared.wait_conditions.session.Release.TheVariants as release_at
+use Rattle.sc_model.specs.declared.cause.Cause.{Cause}
 use Rattle.sc_model.specs.declared.cause.Cause.TheVariants as cause
 use Rattle.sc_model.specs.Limits.{max_queue}
 use Rattle.sc_region.specs.declared.value.Value.{Value}
@@ -20,7 +21,7 @@ use Rattle.sc_region.specs.declared.job.Want.{Want}
 use Rattle.sc_region.specs.declared.job.Want.TheVariants as want
 use Rattle.sc_handler.specs.Handlers.{Posted, posted, Replied, Refused, HandlerStage, Idle, Runs, HasMade, Reserves, Awaits, Service, Handler, State, put, with_stage}
 use Rattle.sc_handler.specs.Changes.{counted_refusal, session_ended, takes, takes_answer}
-use Rattle.sc_handler.specs.Fits.{fits_first, is_request_of}
+use Rattle.sc_handler.specs.Fits.{fails_by_supplier, fits_first, is_request_of}
 use Rattle.sc_request.specs.Sessions.{fail, finish, is_callback, passed_if, passes, release, reserve, send, with_handler}
 use Rattle.sc_request.specs.Settling.{asks_of, awaits_if, begun, creates, creates_with, creation, done, done_if, ends, ends_service, made_at, may_ask, may_post_to_all, posts_unheld, sends, settled, waits_again}
 use Rattle.sc_movers.proofs.ChangedStates as states
@@ -54,6 +55,32 @@ posts_to h k q c held other none = by (k == h) q c held other none
 
 pub to_another : (h : ℕ) (r : Request) (b : Bool) → (is_request_of h r && b) ≡ true → not (r.target.handler == h) ≡ true
 to_another h r b e = and_right _ (not (r.target.handler == h)) (and_left (is_request_of h r) b e)
+
+-- ---- a handler that is told that a supplier has failed fails
+
+abbrev pub told_cause : Bool → Want → Cause
+told_cause true w = cause.NotHeld
+told_cause false (want.Fail why) = if fails_by_supplier (want.Fail why) then why else cause.BadCode
+told_cause false w = cause.BadCode
+
+pub told_fails : (h most : ℕ) (w : Want) (s : State) → settled most h job.Failed 1 w s ≡ fail h (told_cause (posts_unheld h w s) w) s
+told_fails h most w s = by (posts_unheld h w s) w
+  where
+    either : (why : Cause) (b : Bool) → done_if false (b && true) most h (want.Fail why) s ≡ fail h (if b then why else cause.BadCode) s
+    either why true = refl
+    either why false = refl
+
+    by : (b : Bool) (v : Want) → done_if b (fails_by_supplier v && may_ask h v s) most h v s ≡ fail h (told_cause b v) s
+    by true v = refl
+    by false want.Continue = refl
+    by false (want.Reserve ls) = refl
+    by false (want.Post r) = refl
+    by false (want.Ask r passes) = refl
+    by false (want.Create class procedure actuals passes) = refl
+    by false (want.Release ls) = refl
+    by false (want.Wait ls) = refl
+    by false (want.Done v ls refused) = refl
+    by false (want.Fail why) = either why (fails_by_supplier (want.Fail why))
 
 -- What is known of the other handler's turn: it reserves none of these, none of them was made for it, and none returns as the
 -- request that it serves ends. It answers none that is spared.
@@ -163,22 +190,22 @@ module _ (h n : ℕ) (safe closed spared : ℕ → Bool) (c : Change) (harm : Ha
 
   -- ---- what is asked for is the same
 
-  pub same_held : (s : State) → Are s → (k : ℕ) → held (f s).rights h k ≡ held s.rights h k
-  same_held s are k = ap (λ (b : Bool). (k == h) || b || is_handler h (s.rights.top k)) (states.same_holder h n safe closed spared c harm s are k)
+  pub same_held : (s : State) → states.FreesNone h c s → (k : ℕ) → held (f s).rights h k ≡ held s.rights h k
+  same_held s none k = ap (λ (b : Bool). (k == h) || b || is_handler h (s.rights.top k)) (states.same_holder h n safe closed spared c harm s none k)
 
   same_all : (ls : List ℕ) (s : State) → Are s → may_post_to_all h ls (f s) ≡ may_post_to_all h ls s
-  same_all ls s are = ap (λ (P : ℕ → Bool). list_all P ls) (fun_ext (states.same_holder h n safe closed spared c harm s are))
+  same_all ls s are = ap (λ (P : ℕ → Bool). list_all P ls) (fun_ext (states.same_holder h n safe closed spared c harm s (states.frees_none h n safe closed spared c harm s are)))
 
-  same_unheld : (w : Want) (s : State) → Are s → posts_unheld h w (f s) ≡ posts_unheld h w s
-  same_unheld want.Continue s are = refl
-  same_unheld (want.Reserve ls) s are = refl
-  same_unheld (want.Post r) s are = ap not (same_held s are r.target.handler)
-  same_unheld (want.Ask r passing) s are = ap not (same_held s are r.target.handler)
-  same_unheld (want.Create class procedure actuals passing) s are = refl
-  same_unheld (want.Release ls) s are = refl
-  same_unheld (want.Wait ls) s are = refl
-  same_unheld (want.Done v ls refused) s are = refl
-  same_unheld (want.Fail why) s are = refl
+  pub same_unheld : (w : Want) (s : State) → states.FreesNone h c s → posts_unheld h w (f s) ≡ posts_unheld h w s
+  same_unheld want.Continue s none = refl
+  same_unheld (want.Reserve ls) s none = refl
+  same_unheld (want.Post r) s none = ap not (same_held s none r.target.handler)
+  same_unheld (want.Ask r passing) s none = ap not (same_held s none r.target.handler)
+  same_unheld (want.Create class procedure actuals passing) s none = refl
+  same_unheld (want.Release ls) s none = refl
+  same_unheld (want.Wait ls) s none = refl
+  same_unheld (want.Done v ls refused) s none = refl
+  same_unheld (want.Fail why) s none = refl
 
   same_may : (w : Want) (s : State) → Are s → may_ask h w (f s) ≡ may_ask h w s
   same_may want.Continue s are = refl
@@ -196,6 +223,9 @@ module _ (h n : ℕ) (safe closed spared : ℕ → Bool) (c : Change) (harm : Ha
   if_changed : (b : Bool) (s t u v : State) → u ≡ f s → v ≡ f t → (if b then u else v) ≡ f (if b then s else t)
   if_changed true s t u v p q = p
   if_changed false s t u v p q = q
+
+  fails_so : (why : Cause) (s : State) → Are s → fail h why (f s) ≡ f (fail h why s)
+  fails_so why s are = states.fails_changed h n safe closed spared c harm why s (states.frees_none h n safe closed spared c harm s are)
 
   -- whom the handler may post to isn't closed
   pub open_to : (s : State) → Are s → (k : ℕ) → is_handler h (s.rights.queue k) ≡ true → closed k ≡ false
@@ -230,9 +260,9 @@ module _ (h n : ℕ) (safe closed spared : ℕ → Bool) (c : Change) (harm : Ha
       (room (is_callback h k s) opens)
       ∙ if_changed (is_some (s.handlers k).failure) (fail h cause.SupplierFailed s) (if full then fail h cause.QueueFull s else sends h k r passing waits s)
       (fail h cause.SupplierFailed (f s)) (if full then fail h cause.QueueFull (f s) else sends h k r passing waits (f s))
-      (states.fails_changed h n safe closed spared c harm cause.SupplierFailed s are)
+      (fails_so cause.SupplierFailed s are)
       (if_changed full (fail h cause.QueueFull s) (sends h k r passing waits s) (fail h cause.QueueFull (f s)) (sends h k r passing waits (f s))
-      (states.fails_changed h n safe closed spared c harm cause.QueueFull s are) (sends_changed k r passing waits s are opens))
+      (fails_so cause.QueueFull s are) (sends_changed k r passing waits s are opens))
     where
       full : Bool
       full = not (is_callback h k s) && not (nat_lt (length (s.handlers k).queue) max_queue)
@@ -274,7 +304,7 @@ module _ (h n : ℕ) (safe closed spared : ℕ → Bool) (c : Change) (harm : Ha
       (creates_with passing h s.count r (with_handler s.count h (f s))) (fail h cause.TooManyHandlers (f s))
       (ap (creates_with passing h s.count r) (states.one_more_changed h n safe closed spared c harm s are more)
       ∙ creates_one_changed passing s.count r t (more_apart s are) (new_open s are))
-      (states.fails_changed h n safe closed spared c harm cause.TooManyHandlers s are)
+      (fails_so cause.TooManyHandlers s are)
 
   -- it ends the request that it served last
   abbrev over_as : Service → List Service → Handler → Handler
@@ -310,7 +340,7 @@ module _ (h n : ℕ) (safe closed spared : ℕ → Bool) (c : Change) (harm : Ha
 
   ends_changed : (v : Option Value) (ls : List ℕ) (refused : Bool) (es : List Service) (s : State) → Are s →
       ((e : Service) (rest : List Service) → es ≡ e ∷ rest → EndsBeside safe spared e) → ends h v ls refused es (f s) ≡ f (ends h v ls refused es s)
-  ends_changed v ls refused [] s are none = states.fails_changed h n safe closed spared c harm cause.BadCode s are
+  ends_changed v ls refused [] s are none = fails_so cause.BadCode s are
   ends_changed v ls refused (e ∷ es) s are none = service_changed refused v ls e es s (none e es refl)
 
   -- counts of what is the other's are the same
@@ -359,13 +389,13 @@ module _ (h n : ℕ) (safe closed spared : ℕ → Bool) (c : Change) (harm : Ha
     done_changed most (want.Done v ls refused) s are more held may none =
         ap (λ (es : List Service). ends h v ls.items refused es (f s)) (states.services_own h n safe closed spared c harm s)
         ∙ ends_changed v ls.items refused (s.handlers h).services s are (none v ls refused refl)
-    done_changed most (want.Fail why) s are more held may none = states.fails_changed h n safe closed spared c harm why s are
+    done_changed most (want.Fail why) s are more held may none = fails_so why s are
 
     if_done : (a b : Bool) (most : ℕ) (w : Want) (s : State) → Are s → (a ≡ false → b ≡ true → done most h w (f s) ≡ f (done most h w s)) →
         done_if a b most h w (f s) ≡ f (done_if a b most h w s)
-    if_done true b most w s are comes = states.fails_changed h n safe closed spared c harm cause.NotHeld s are
+    if_done true b most w s are comes = fails_so cause.NotHeld s are
     if_done false true most w s are comes = comes refl refl
-    if_done false false most w s are comes = states.fails_changed h n safe closed spared c harm cause.BadCode s are
+    if_done false false most w s are comes = fails_so cause.BadCode s are
 
     -- The turn of the other handler does the same after the change as before.
     pub settled_changed : (most : ℕ) (j : Job) (w : Want) (s : State) → n ≤ s.count → Are s → Beside h safe spared j w s → settled most h j 1 w (f s) ≡ f (settled most h j 1 w s)
@@ -377,7 +407,7 @@ module _ (h n : ℕ) (safe closed spared : ℕ → Bool) (c : Change) (harm : Ha
         ap (λ (u : HandlerStage). done_if (posts_unheld h w (begun h j (f s))) (fits_first u j w && may_ask h w (begun h j (f s))) most h w (begun h j (f s)))
         (states.stage_own h n safe closed spared c harm s)
         ∙ ap (λ (u : State). done_if (posts_unheld h w u) (fits && may_ask h w u) most h w u) (begun_changed j s b.granted)
-        ∙ ap (λ (a : Bool). done_if a (fits && may_ask h w (f t)) most h w (f t)) (same_unheld w t its)
+        ∙ ap (λ (a : Bool). done_if a (fits && may_ask h w (f t)) most h w (f t)) (same_unheld w t (states.frees_none h n safe closed spared c harm t its))
         ∙ ap (λ (a : Bool). done_if (posts_unheld h w t) (fits && a) most h w (f t)) (same_may w t its)
         ∙ if_done (posts_unheld h w t) (fits && may_ask h w t) most w t its
         (λ unheld e. done_changed most w t its (omega (arith, more, same)) unheld (and_right fits (may_ask h w t) e)
@@ -385,3 +415,12 @@ module _ (h n : ℕ) (safe closed spared : ℕ → Bool) (c : Change) (harm : Ha
           returns = b.returns (and_left fits (may_ask h w t) e) v ls refused is e0 es first;
           answers = b.answers (and_left fits (may_ask h w t) e) v ls refused is e0 es first;
         }))
+
+  -- ---- it is told that a supplier has failed
+
+  -- So does the turn of one that is told so, if nothing that is released was its own: it fails.
+  pub told_changed : (most : ℕ) (w : Want) (s : State) → states.FreesNone h c s → settled most h job.Failed 1 w (f s) ≡ f (settled most h job.Failed 1 w s)
+  told_changed most w s none =
+      told_fails h most w (f s) ∙ ap (λ (b : Bool). fail h (told_cause b w) (f s)) (same_unheld w s none)
+      ∙ states.fails_changed h n safe closed spared c harm (told_cause (posts_unheld h w s) w) s none
+      ∙ ap f (sym (told_fails h most w s))

@@ -7,7 +7,9 @@ pub mod Failed
 pub mod Kept
 pub mod MoveChanges
 pub mod MoverEnds
+pub mod MoverJobs
 pub mod MoverStates
+pub mod MoverTakes
 pub mod MoverTurns
 pub mod Movers
 pub mod ReturnedWorlds

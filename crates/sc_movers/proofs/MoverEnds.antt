@@ -26,8 +26,8 @@ use Rattle.sc_movers.specs.Returned.{HearsNothing, UnlentWait, is_unlent_of, wai
 use Rattle.sc_movers.proofs.ChangedStates.{true_false}
 use Rattle.sc_movers.proofs.ChangedTurns.{and_left, and_right}
 use Rattle.sc_movers.proofs.ChangedKept.{ended_deaf, is_deaf}
-use Rattle.sc_movers.proofs.MoveChanges.{is_hearer}
-use Rattle.sc_movers.proofs.MoverStates.{WaitsFor, deaf, hearer_waits, move_in}
+use Rattle.sc_movers.proofs.MoveChanges.{Move, is_hearer}
+use Rattle.sc_movers.proofs.MoverStates.{WaitsFor, deaf}
 
 -- ---- the request that ends
 
@@ -96,14 +96,17 @@ told_only p g s j hears due = by (s.handlers p).answer refl hears.answer
     )
 
 -- who is to hear the answer has nothing to do, so another handler with a job isn't it
-pub other_hears : (g : ℕ) (w : Want) (s : State) → is_mover g w s ≡ true → UnlentWait s → (h : ℕ) (j : Job) → job_of h s ≡ Some j → is_hearer h (move_in g w s).answers ≡ false
-other_hears g w s moves unlent h j due = by (is_hearer h (move_in g w s).answers) refl
+pub other_hears : (g : ℕ) (s : State) (m : Move) → ((k : ℕ) → is_hearer k m.answers ≡ true → IsOpen k s × (waits_unlent k g s ≡ true)) → UnlentWait s →
+    (h : ℕ) (j : Job) → job_of h s ≡ Some j → is_hearer h m.answers ≡ false
+other_hears g s m hears unlent h j due = by (is_hearer h m.answers) refl
   where
-    by : (b : Bool) → is_hearer h (move_in g w s).answers ≡ b → is_hearer h (move_in g w s).answers ≡ false
+    by : (b : Bool) → is_hearer h m.answers ≡ b → is_hearer h m.answers ≡ false
     by true e =
-        let so = hearer_waits g w s h e in
-        let hears = (unlent h g (unlent_there g w s moves h so.0)).1 (has_job h s j due).stands in
-        true_false (sym (told_only h g s j hears due).1 ∙ so.1)
+        let so = hears h e in
+        let waits = (unlent h g so.1).1 (has_job h s j due).stands in
+        true_false (
+        sym (told_only h g s j waits due).1
+        ∙ ap (λ (o : Option Cause). is_some o || is_some (s.handlers h).answer) so.0.alive ∙ ap (λ (o : Option Answer). is_some o) so.0.unanswered)
     by false e = e
 
 -- ---- a handler that is told so fails

@@ -32,7 +32,7 @@ use Rattle.sc_movers.proofs.ChangedStates.{changed, same_states, true_false}
 use Rattle.sc_movers.proofs.ChangedTurns.{and_left, and_right, to_another}
 use Rattle.sc_movers.proofs.ChangedJobs.{all_then}
 use Rattle.sc_movers.proofs.ChangedKept.{Stay, all_among, is_deaf}
-use Rattle.sc_movers.proofs.MoveChanges.{Heard, Move, Stand, change, ended_so, hears_as, is_closed, is_hearer, is_safe, is_target, moved_at, sent_as, stand_for, stands_as}
+use Rattle.sc_movers.proofs.MoveChanges.{Heard, Move, Stand, change, ended_so, hears_as, is_closed, is_hearer, is_safe, is_target, for, moved_at, or_right, sent_as, stand_for, stands_as, takes_as}
 
 abbrev pub counts : State → ℕ → ℕ
 counts s k = (s.handlers k).sessions
@@ -41,8 +41,8 @@ abbrev pub deaf : State → ℕ → Bool
 deaf s k = is_deaf (s.handlers k)
 
 -- a move that changes nothing, and one that sends a request, with where its handler stands then
-abbrev no_move : Move
-no_move = record { stand = None; ends = false; frees = []; sent = None; answers = None }
+abbrev pub no_move : Move
+no_move = record { takes = false; stand = None; ends = false; frees = []; sent = None; answers = None }
 
 abbrev sending : Option Stand → Request → Bool → Move
 sending o r waits = record no_move {
@@ -55,7 +55,7 @@ abbrev outcome : Bool → Option Value → Answer
 outcome true v = Refused
 outcome false v = Replied v
 
-abbrev heard_by : Bool → Option ℕ → Answer → (ℕ → Bool) → Option Heard
+abbrev pub heard_by : Bool → Option ℕ → Answer → (ℕ → Bool) → Option Heard
 heard_by true (Some p) a deafs = if deafs p then None else Some (record { hearer = p; answer = a })
 heard_by waited poster a deafs = None
 
@@ -78,6 +78,7 @@ move_of (Release ks) entry services sessions deafs = record no_move { ends = tru
 move_of (Wait ks) entry services sessions deafs =
     record no_move { stand = Some (record { stage = Reserves entry (mark_of sessions ks.items); entry = entry; services = services }); frees = ks.items }
 move_of (Done v ks refused) entry services sessions deafs = record {
+  takes = false;
   stand = over_as entry services;
   ends = true;
   frees = ks.items;
@@ -97,7 +98,7 @@ no_stand : (b : Bool) (x : Handler) → stands_as (if b then None else None) x �
 no_stand true x = refl
 no_stand false x = refl
 
-handler_is : (g : ℕ) (o : Option ℕ) → is_handler g o ≡ true → o ≡ Some g
+pub handler_is : (g : ℕ) (o : Option ℕ) → is_handler g o ≡ true → o ≡ Some g
 handler_is g None e = true_false (sym e)
 handler_is g (Some k) e = ap (λ (m : ℕ). Some m) (eqb-true k g e)
 
@@ -105,7 +106,7 @@ no_failure : (o : Option Cause) → not (is_some o) ≡ true → o ≡ None
 no_failure None e = refl
 no_failure (Some why) e = true_false (sym e)
 
-no_frames : (stage : HandlerStage) → not (has_frames stage) ≡ true → stage ≡ Idle
+pub no_frames : (stage : HandlerStage) → not (has_frames stage) ≡ true → stage ≡ Idle
 no_frames Idle e = refl
 no_frames Runs e = true_false (sym e)
 no_frames (HasMade k) e = true_false (sym e)
@@ -184,7 +185,7 @@ module _ (g : ℕ) (s : State) where
   stands_so o y k true e same = same ∙ ap (λ (m : ℕ). stands_as (Some o) (s.handlers m)) (sym (eqb-true k g e))
   stands_so o y k false e same = refl
 
-  if_done : (a b : Bool) (most : ℕ) (w : Want) → a ≡ false → b ≡ true → done_if a b most g w s ≡ done most g w s
+  pub if_done : (a b : Bool) (most : ℕ) (w : Want) → a ≡ false → b ≡ true → done_if a b most g w s ≡ done most g w s
   if_done true b most w i e = true_false i
   if_done false true most w i e = refl
   if_done false false most w i e = true_false (sym e)
@@ -263,67 +264,101 @@ deaf_so (Some s) false None x = refl
 deaf_so (Some s) true (Some p) x = refl
 deaf_so (Some s) false (Some p) x = refl
 
-no_passed : (o : Option Passed) → is_none o ≡ true → o ≡ None
+takes_deaf : (b : Bool) (x : Handler) → is_deaf (takes_as b x) ≡ is_deaf x
+takes_deaf true x = refl
+takes_deaf false x = refl
+
+pub no_passed : (o : Option Passed) → is_none o ≡ true → o ≡ None
 no_passed None e = refl
 no_passed (Some p) e = true_false (sym e)
 
 waited_if : (w : Bool) → (false || w) ≡ true → w ≡ true
 waited_if w e = e
 
--- Its handler stands over this, releases these, and answers who waits, if it isn't deaf.
-module _ (g : ℕ) (s : State) (o : Stand) (ks : List ℕ) (refused : Bool) (v : Option Value) where
-  abbrev over : Option Heard → Move
-  over q = record { stand = Some o; ends = true; frees = ks; sent = None; answers = q }
+-- The handler moves so, and answers who waits, if it isn't deaf.
+module _ (g : ℕ) (m : Move) (refused : Bool) (v : Option Value) where
+  abbrev answering : Option Heard → Move
+  answering q = record m { answers = q }
 
-  -- it stands so in this state
-  module _ (u : State) (count : u.count ≡ s.count) (queue : (k : ℕ) → u.rights.queue k ≡ (if is_among k ks then None else s.rights.queue k))
-      (top : (k : ℕ) → u.rights.top k ≡ s.rights.top k) (stand : (k : ℕ) → u.handlers k ≡ moved_at g (over None) k (s.handlers k)) where
-    abbrev a : Answer
-    a = outcome refused v
+  abbrev said : Answer
+  said = outcome refused v
 
-    answers_it : (waited : Bool) (poster : Option ℕ) → answer_to waited poster a u ≡ changed (change g (over (heard_by waited poster a (deaf s)))) s
-    answers_it false poster = same_states u (changed (change g (over None)) s) count stand queue top
-    answers_it true None = same_states u (changed (change g (over None)) s) count stand queue top
+  abbrev hears : ℕ → Bool → Option Heard
+  hears p b = if b then None else Some (record { hearer = p; answer = said })
+
+  abbrev moved : ℕ → Handler → Handler
+  moved k x = takes_as (m.takes && k == g) (moved_at g m k x)
+
+  -- who is deaf is so then
+  deaf_there : (k : ℕ) (x : Handler) → is_deaf x ≡ true → answered said (moved k x) ≡ moved k x
+  deaf_there k x e =
+      deaf_hears refused v (moved k x)
+      (takes_deaf (m.takes && k == g) (moved_at g m k x) ∙ deaf_so (stand_for g k m.stand) (m.ends && is_among k m.frees) (for k m.sent) x ∙ e)
+
+  -- it is so in this state, but for the answer
+  module _ (s u : State) (count : u.count ≡ s.count) (queue : (k : ℕ) → u.rights.queue k ≡ (if is_among k m.frees then None else s.rights.queue k))
+      (top : (k : ℕ) → u.rights.top k ≡ s.rights.top k) (stand : (k : ℕ) → u.handlers k ≡ moved k (s.handlers k)) where
+    pub answers_it : (waited : Bool) (poster : Option ℕ) → answer_to waited poster said u ≡ changed (change g (answering (heard_by waited poster said (deaf s)))) s
+    answers_it false poster = same_states u (changed (change g (answering None)) s) count stand queue top
+    answers_it true None = same_states u (changed (change g (answering None)) s) count stand queue top
     answers_it true (Some p) = by (deaf s p) refl
       where
-        hears : Bool → Option Heard
-        hears b = if b then None else Some (record { hearer = p; answer = a })
-
-        deaf_there : deaf s p ≡ true → answered a (u.handlers p) ≡ u.handlers p
-        deaf_there e =
-            deaf_hears refused v (u.handlers p)
-            (ap is_deaf (stand p) ∙ deaf_so (stand_for g p (Some o)) (true && is_among p ks) None (s.handlers p) ∙ e)
-
-        put_so : (k : ℕ) → (k ≡ p) ⊎ (k ≡ p → ⊥) → answered a (u.handlers p) ≡ u.handlers p → (if k == p then answered a (u.handlers p) else u.handlers k) ≡ u.handlers k
+        put_so : (k : ℕ) → (k ≡ p) ⊎ (k ≡ p → ⊥) → answered said (u.handlers p) ≡ u.handlers p → (if k == p then answered said (u.handlers p) else u.handlers k) ≡ u.handlers k
         put_so k (inl same) e =
-            ap (λ (b : Bool). if b then answered a (u.handlers p) else u.handlers k) (eq-eqb k p same) ∙ e ∙ ap u.handlers (sym same)
-        put_so k (inr other) e = ap (λ (b : Bool). if b then answered a (u.handlers p) else u.handlers k) (ne_eqb k p other)
+            ap (λ (b : Bool). if b then answered said (u.handlers p) else u.handlers k) (eq-eqb k p same) ∙ e ∙ ap u.handlers (sym same)
+        put_so k (inr other) e = ap (λ (b : Bool). if b then answered said (u.handlers p) else u.handlers k) (ne_eqb k p other)
 
         put_heard : (k : ℕ) → (k ≡ p) ⊎ (k ≡ p → ⊥) →
-            (if k == p then answered a (u.handlers p) else u.handlers k) ≡ hears_as (if k == p then Some a else None) (moved_at g (over None) k (s.handlers k))
+            (if k == p then answered said (u.handlers p) else u.handlers k) ≡ hears_as (if k == p then Some said else None) (moved k (s.handlers k))
         put_heard k (inl same) =
-            ap (λ (b : Bool). if b then answered a (u.handlers p) else u.handlers k) (eq-eqb k p same)
-            ∙ ap (λ (i : ℕ). answered a (u.handlers i)) (sym same) ∙ ap (answered a) (stand k)
-            ∙ ap (λ (b : Bool). hears_as (if b then Some a else None) (moved_at g (over None) k (s.handlers k))) (sym (eq-eqb k p same))
+            ap (λ (b : Bool). if b then answered said (u.handlers p) else u.handlers k) (eq-eqb k p same)
+            ∙ ap (λ (i : ℕ). answered said (u.handlers i)) (sym same) ∙ ap (answered said) (stand k)
+            ∙ ap (λ (b : Bool). hears_as (if b then Some said else None) (moved k (s.handlers k))) (sym (eq-eqb k p same))
         put_heard k (inr other) =
-            ap (λ (b : Bool). if b then answered a (u.handlers p) else u.handlers k) (ne_eqb k p other) ∙ stand k
-            ∙ ap (λ (b : Bool). hears_as (if b then Some a else None) (moved_at g (over None) k (s.handlers k))) (sym (ne_eqb k p other))
+            ap (λ (b : Bool). if b then answered said (u.handlers p) else u.handlers k) (ne_eqb k p other) ∙ stand k
+            ∙ ap (λ (b : Bool). hears_as (if b then Some said else None) (moved k (s.handlers k))) (sym (ne_eqb k p other))
 
-        by : (b : Bool) → deaf s p ≡ b → put p (answered a (u.handlers p)) u ≡ changed (change g (over (hears (deaf s p)))) s
+        by : (b : Bool) → deaf s p ≡ b → put p (answered said (u.handlers p)) u ≡ changed (change g (answering (hears p (deaf s p)))) s
         by true e =
-            same_states (put p (answered a (u.handlers p)) u) u refl (λ k. put_so k (cases_eq k p) (deaf_there e)) (λ k. refl) (λ k. refl)
-            ∙ same_states u (changed (change g (over None)) s) count stand queue top
-            ∙ ap (λ (b : Bool). changed (change g (over (hears b))) s) (sym e)
+            same_states (put p (answered said (u.handlers p)) u) u refl
+            (λ k. put_so k (cases_eq k p) (ap (answered said) (stand p) ∙ deaf_there p (s.handlers p) e ∙ sym (stand p))) (λ k. refl) (λ k. refl)
+            ∙ same_states u (changed (change g (answering None)) s) count stand queue top
+            ∙ ap (λ (b : Bool). changed (change g (answering (hears p b))) s) (sym e)
         by false e =
-            same_states (put p (answered a (u.handlers p)) u) (changed (change g (over (hears false))) s) count (λ k. put_heard k (cases_eq k p)) queue top
-            ∙ ap (λ (b : Bool). changed (change g (over (hears b))) s) (sym e)
+            same_states (put p (answered said (u.handlers p)) u) (changed (change g (answering (hears p false))) s) count (λ k. put_heard k (cases_eq k p)) queue top
+            ∙ ap (λ (b : Bool). changed (change g (answering (hears p b))) s) (sym e)
 
-  -- it is so once the request is over
-  over_stands : (y : Handler) → y ≡ stands_as (Some o) (s.handlers g) → (k : ℕ) →
-      session_ended (is_among k ks) (if k == g then y else s.handlers k) ≡ moved_at g (over None) k (s.handlers k)
-  over_stands y same k =
-      ap (session_ended (is_among k ks)) (stands_so g s o y k (k == g) refl same)
-      ∙ ended_so (stand_for g k (Some o)) false (is_among k ks) None (s.handlers k)
+  -- Who got deaf meanwhile is as it is without the answer.
+  pub same_heard : (s t : State) (waited : Bool) (poster : Option ℕ) → ((p : ℕ) → waited ≡ true → poster ≡ Some p → deaf s p ≡ true → deaf t p ≡ true) →
+      changed (change g (answering (heard_by waited poster said (deaf t)))) t ≡ changed (change g (answering (heard_by waited poster said (deaf s)))) t
+  same_heard s t false poster stays = refl
+  same_heard s t true None stays = refl
+  same_heard s t true (Some p) stays = by (deaf s p) (deaf t p) refl refl
+    where
+      none_heard : deaf t p ≡ true → (k : ℕ) → (k ≡ p) ⊎ (k ≡ p → ⊥) → moved k (t.handlers k) ≡ hears_as (if k == p then Some said else None) (moved k (t.handlers k))
+      none_heard e k (inl same) =
+          sym (deaf_there k (t.handlers k) (ap (deaf t) same ∙ e))
+          ∙ ap (λ (b : Bool). hears_as (if b then Some said else None) (moved k (t.handlers k))) (sym (eq-eqb k p same))
+      none_heard e k (inr other) = ap (λ (b : Bool). hears_as (if b then Some said else None) (moved k (t.handlers k))) (sym (ne_eqb k p other))
+
+      by : (b c : Bool) → deaf s p ≡ b → deaf t p ≡ c → changed (change g (answering (hears p (deaf t p)))) t ≡ changed (change g (answering (hears p (deaf s p)))) t
+      by true c e f = ap (λ (b : Bool). changed (change g (answering (hears p b))) t) (stays p refl refl e ∙ sym e)
+      by false false e f = ap (λ (b : Bool). changed (change g (answering (hears p b))) t) (f ∙ sym e)
+      by false true e f =
+          ap (λ (b : Bool). changed (change g (answering (hears p b))) t) f
+          ∙ same_states (changed (change g (answering None)) t) (changed (change g (answering (hears p false))) t) refl (λ k. none_heard f k (cases_eq k p)) (λ k. refl) (λ k. refl)
+          ∙ ap (λ (b : Bool). changed (change g (answering (hears p b))) t) (sym e)
+
+-- its handler stands over this, and releases these
+abbrev over : Stand → List ℕ → Move
+over o ks = record { takes = false; stand = Some o; ends = true; frees = ks; sent = None; answers = None }
+
+-- it is so once the request is over
+over_stands : (g : ℕ) (s : State) (o : Stand) (ks : List ℕ) (y : Handler) → y ≡ stands_as (Some o) (s.handlers g) → (k : ℕ) →
+    session_ended (is_among k ks) (if k == g then y else s.handlers k) ≡ moved_at g (over o ks) k (s.handlers k)
+over_stands g s o ks y same k =
+    ap (session_ended (is_among k ks)) (stands_so g s o y k (k == g) refl same)
+    ∙ ended_so (stand_for g k (Some o)) false (is_among k ks) None (s.handlers k)
 
 -- ---- the move of a mover
 
@@ -339,6 +374,7 @@ module _ (g : ℕ) (s : State) (running : (s.handlers g).stage ≡ Runs) (tops :
   ends_so : (v : Option Value) (ks : List ℕ) (refused : Bool) (vs : List Service) → ends_plainly refused vs ≡ true →
       ends g v ks refused vs s
       ≡ changed (change g (record {
+        takes = false;
         stand = over_as (s.handlers g).entry vs;
         ends = true;
         frees = ks;
@@ -361,19 +397,19 @@ module _ (g : ℕ) (s : State) (running : (s.handlers g).stage ≡ Runs) (tops :
       refusing = release release_at.Refusal ks (put g x s)
 
       Ends : Bool → Type 0
-      Ends b = ends g v ks b (e ∷ es) s ≡ changed (change g (over g s o ks b v (heard_by e.posted.request.is_waited e.posted.request.poster (outcome b v) (deaf s)))) s
+      Ends b = ends g v ks b (e ∷ es) s ≡ changed (change g (record (over o ks) { answers = heard_by e.posted.request.is_waited e.posted.request.poster (outcome b v) (deaf s) })) s
 
       by : (b : Bool) → (is_none e.posted.passed && (not b || e.posted.request.is_waited)) ≡ true → Ends b
       by false plainly =
           let none = no_passed e.posted.passed (and_left (is_none e.posted.passed) true plainly) in
           ap (λ (q : Option Passed). answer_to e.posted.request.is_waited e.posted.request.poster (Replied v) (return_rights q exited)) none
-          ∙ answers_it g s o ks false v exited refl (λ k. refl) (λ k. refl) (over_stands g s o ks false v x refl) e.posted.request.is_waited e.posted.request.poster
+          ∙ answers_it g (over o ks) false v s exited refl (λ k. refl) (λ k. refl) (over_stands g s o ks x refl) e.posted.request.is_waited e.posted.request.poster
       by true plainly =
           let none = no_passed e.posted.passed (and_left (is_none e.posted.passed) e.posted.request.is_waited plainly) in
           let heard = and_right (is_none e.posted.passed) e.posted.request.is_waited plainly in
           ap (λ (b : Bool). finish e.posted Refused (release release_at.Refusal ks (put g (counted_refusal b x) s))) heard
           ∙ ap (λ (q : Option Passed). answer_to e.posted.request.is_waited e.posted.request.poster Refused (return_rights q refusing)) none
-          ∙ answers_it g s o ks true v refusing refl (λ k. refl) (λ k. refl) (over_stands g s o ks true v x refl) e.posted.request.is_waited e.posted.request.poster
+          ∙ answers_it g (over o ks) true v s refusing refl (λ k. refl) (λ k. refl) (over_stands g s o ks x refl) e.posted.request.is_waited e.posted.request.poster
 
   pub mover_moves : (most : ℕ) (w : Want) → is_mover g w s ≡ true → settled most g job.Go 1 w s ≡ changed (change g (move_in g w s)) s
   mover_moves most Continue e = same_states s (changed (change g no_move) s) refl plain (λ k. refl) (λ k. refl)
@@ -416,7 +452,7 @@ module _ (g : ℕ) (s : State) (running : (s.handlers g).stage ≡ Runs) (tops :
 only_last : (b : Bool) → (false || b) ≡ true → b ≡ true
 only_last b e = e
 
-only_first : (b : Bool) → (b || false) ≡ true → b ≡ true
+pub only_first : (b : Bool) → (b || false) ≡ true → b ≡ true
 only_first true e = refl
 only_first false e = true_false (sym e)
 
@@ -424,7 +460,7 @@ asked_its : (g : ℕ) (s : State) (k i : ℕ) → asks_free g i s ≡ true → (
 asked_its g s k i e is =
     ap s.rights.queue (eqb-true k i is) ∙ handler_is g (s.rights.queue i) (and_left (is_handler g (s.rights.queue i)) (is_free i s) e)
 
-pub are_own : (g : ℕ) (w : Want) (s : State) → is_mover g w s ≡ true → (k : ℕ) → is_safe (move_in g w s) k ≡ true → s.rights.queue k ≡ Some g
+pub are_own : (g : ℕ) (w : Want) (s : State) → is_mover g w s ≡ true → (k : ℕ) → is_safe g (move_in g w s) k ≡ true → s.rights.queue k ≡ Some g
 are_own g (Release ks) s e k i = handler_is g (s.rights.queue k) (all_among (λ (j : ℕ). is_handler g (s.rights.queue j)) ks.items k e (only_first (is_among k ks.items) i))
 are_own g (Wait ks) s e k i = handler_is g (s.rights.queue k) (all_among (λ (j : ℕ). is_handler g (s.rights.queue j)) ks.items k e (only_first (is_among k ks.items) i))
 are_own g Continue s e k i = true_false (sym i)
@@ -499,17 +535,17 @@ same_marks (k ∷ ks) m n same =
 first_safe : (k : ℕ) (ks : List ℕ) → is_among k ks ≡ true → (is_among k ks || false) ≡ true
 first_safe k ks e = ap (λ (b : Bool). b || false) e
 
-module _ (g h : ℕ) (w : Want) (s t : State) (same : Stay g h (is_safe (move_in g w s)) (is_closed (move_in g w s)) s t) (others : OthersStay h s t)
-    (other : is_target h (move_in g w s).sent ≡ false) (few : (k : ℕ) → is_safe (move_in g w s) k ≡ true → k < s.count) where
+module _ (g h : ℕ) (w : Want) (s t : State) (same : Stay g h (is_safe g (move_in g w s)) (is_closed g (move_in g w s)) s t) (others : OthersStay h s t)
+    (other : is_target h (move_in g w s).sent ≡ false) (few : (k : ℕ) → is_safe g (move_in g w s) k ≡ true → k < s.count) where
   -- the target is still free, and its own
-  asks_still : (k : ℕ) → is_safe (move_in g w s) k ≡ true → is_target k (move_in g w s).sent ≡ true → asks_free g k s ≡ true → asks_free g k t ≡ true
+  asks_still : (k : ℕ) → is_safe g (move_in g w s) k ≡ true → is_target k (move_in g w s).sent ≡ true → asks_free g k s ≡ true → asks_free g k t ≡ true
   asks_still k safe target e =
       let f = free_is k s (and_right (is_handler g (s.rights.queue k)) (is_free k s) e) in
       let apart : k ≡ h → ⊥ = λ i. true_false (sym target ∙ ap (λ (m : ℕ). is_target m (move_in g w s).sent) i ∙ other) in
       let stays = others.others k apart (few k safe) in
       ap (λ (o : Option ℕ). is_handler g o && is_free k t) (same.queue k safe)
       ∙ ap (λ (b : Bool). b && is_free k t) (and_left (is_handler g (s.rights.queue k)) (is_free k s) e)
-      ∙ is_so k t (record { stage = stays.0 ∙ f.stage; failure = stays.1 ∙ f.failure; queue = same.asked k target ∙ f.queue })
+      ∙ is_so k t (record { stage = stays.0 ∙ f.stage; failure = stays.1 ∙ f.failure; queue = same.asked k (or_right ((move_in g w s).takes && k == g) (is_target k (move_in g w s).sent) target) ∙ f.queue })
 
   itself : (k : ℕ) → (k == k) ≡ true
   itself k = eq-eqb k k refl
@@ -517,8 +553,8 @@ module _ (g h : ℕ) (w : Want) (s t : State) (same : Stay g h (is_safe (move_in
   pub still_mover : is_mover g w s ≡ true → is_mover g w t ≡ true
   still_mover = by w same asks_still
     where
-      by : (v : Want) → Stay g h (is_safe (move_in g v s)) (is_closed (move_in g v s)) s t →
-          ((k : ℕ) → is_safe (move_in g v s) k ≡ true → is_target k (move_in g v s).sent ≡ true → asks_free g k s ≡ true → asks_free g k t ≡ true) →
+      by : (v : Want) → Stay g h (is_safe g (move_in g v s)) (is_closed g (move_in g v s)) s t →
+          ((k : ℕ) → is_safe g (move_in g v s) k ≡ true → is_target k (move_in g v s).sent ≡ true → asks_free g k s ≡ true → asks_free g k t ≡ true) →
           is_mover g v s ≡ true → is_mover g v t ≡ true
       by Continue st asks e = refl
       by (Reserve ks) st asks e =
@@ -551,7 +587,7 @@ module _ (g h : ℕ) (w : Want) (s t : State) (same : Stay g h (is_safe (move_in
       ∙ ap (λ (vs : List Service). move_of w (s.handlers g).entry vs (counts t) (deaf t)) same.own.0
       ∙ by w same
     where
-      by : (v : Want) → Stay g h (is_safe (move_in g v s)) (is_closed (move_in g v s)) s t →
+      by : (v : Want) → Stay g h (is_safe g (move_in g v s)) (is_closed g (move_in g v s)) s t →
           move_of v (s.handlers g).entry (s.handlers g).services (counts t) (deaf t) ≡ move_of v (s.handlers g).entry (s.handlers g).services (counts s) (deaf t)
       by (Wait ks) st =
           ap (λ (m : List Marked). let o : Stand = record { stage = Reserves (s.handlers g).entry m; entry = (s.handlers g).entry; services = (s.handlers g).services } in
@@ -578,41 +614,8 @@ pub record WaitsFor (g : ℕ) (w : Want) (s : State) (p : ℕ) : Type 0 where
   pub waited : first.posted.request.is_waited ≡ true
   pub poster : first.posted.request.poster ≡ Some p
 
--- Who got deaf meanwhile is as it is without the answer.
+-- the move changes the same, though some got deaf meanwhile
 module _ (g : ℕ) (s t : State) where
-  module _ (o : Option Stand) (ks : List ℕ) (refused : Bool) (v : Option Value) where
-    abbrev said : Answer
-    said = outcome refused v
-
-    abbrev ending : Option Heard → Move
-    ending q = record { stand = o; ends = true; frees = ks; sent = None; answers = q }
-
-    same_heard : (waited : Bool) (poster : Option ℕ) → ((p : ℕ) → waited ≡ true → poster ≡ Some p → deaf s p ≡ true → deaf t p ≡ true) →
-        changed (change g (ending (heard_by waited poster said (deaf t)))) t ≡ changed (change g (ending (heard_by waited poster said (deaf s)))) t
-    same_heard false poster stays = refl
-    same_heard true None stays = refl
-    same_heard true (Some p) stays = by (deaf s p) (deaf t p) refl refl
-      where
-        hears : Bool → Option Heard
-        hears b = if b then None else Some (record { hearer = p; answer = said })
-
-        none_heard : deaf t p ≡ true → (k : ℕ) → (k ≡ p) ⊎ (k ≡ p → ⊥) →
-            moved_at g (ending None) k (t.handlers k) ≡ hears_as (if k == p then Some said else None) (moved_at g (ending None) k (t.handlers k))
-        none_heard e k (inl same) =
-            sym (deaf_hears refused v (moved_at g (ending None) k (t.handlers k))
-            (deaf_so (stand_for g k o) (true && is_among k ks) None (t.handlers k) ∙ ap (deaf t) same ∙ e))
-            ∙ ap (λ (b : Bool). hears_as (if b then Some said else None) (moved_at g (ending None) k (t.handlers k))) (sym (eq-eqb k p same))
-        none_heard e k (inr other) =
-            ap (λ (b : Bool). hears_as (if b then Some said else None) (moved_at g (ending None) k (t.handlers k))) (sym (ne_eqb k p other))
-
-        by : (b c : Bool) → deaf s p ≡ b → deaf t p ≡ c → changed (change g (ending (hears (deaf t p)))) t ≡ changed (change g (ending (hears (deaf s p)))) t
-        by true c e f = ap (λ (b : Bool). changed (change g (ending (hears b))) t) (stays p refl refl e ∙ sym e)
-        by false false e f = ap (λ (b : Bool). changed (change g (ending (hears b))) t) (f ∙ sym e)
-        by false true e f =
-            ap (λ (b : Bool). changed (change g (ending (hears b))) t) f
-            ∙ same_states (changed (change g (ending None)) t) (changed (change g (ending (hears false))) t) refl (λ k. none_heard f k (cases_eq k p)) (λ k. refl) (λ k. refl)
-            ∙ ap (λ (b : Bool). changed (change g (ending (hears b))) t) (sym e)
-
   pub same_changed : (w : Want) → ((p : ℕ) → WaitsFor g w s p → deaf s p ≡ true → deaf t p ≡ true) →
       changed (change g (move_of w (s.handlers g).entry (s.handlers g).services (counts s) (deaf t))) t ≡ changed (change g (move_in g w s)) t
   same_changed (Done v ks refused) stays = by (s.handlers g).services refl
@@ -622,7 +625,7 @@ module _ (g : ℕ) (s t : State) where
           ≡ changed (change g (move_of (Done v ks refused) (s.handlers g).entry vs (counts s) (deaf s))) t
       by [] is = refl
       by (e ∷ es) is =
-          same_heard (Some (record { stage = e.over; entry = (s.handlers g).entry; services = es })) ks.items refused v e.posted.request.is_waited e.posted.request.poster
+          same_heard g (over (record { stage = e.over; entry = (s.handlers g).entry; services = es }) ks.items) refused v s t e.posted.request.is_waited e.posted.request.poster
           (λ p waited poster. stays p (record { value = v; released = ks; refused = refused; first = e; rest = es; ends = refl; services = is; waited = waited; poster = poster }))
   same_changed (Wait ks) stays = refl
   same_changed (Ask r passes) stays = refl
@@ -634,7 +637,7 @@ module _ (g : ℕ) (s t : State) where
   same_changed (Fail why) stays = refl
 
 -- who is to hear the answer waits for it, and isn't deaf
-hearer_by : (waited : Bool) (poster : Option ℕ) (a : Answer) (deafs : ℕ → Bool) (k : ℕ) → is_hearer k (heard_by waited poster a deafs) ≡ true →
+pub hearer_by : (waited : Bool) (poster : Option ℕ) (a : Answer) (deafs : ℕ → Bool) (k : ℕ) → is_hearer k (heard_by waited poster a deafs) ≡ true →
     (waited ≡ true) × (poster ≡ Some k) × (deafs k ≡ false)
 hearer_by true (Some p) a deafs k i = by (deafs p) refl i
   where
@@ -661,22 +664,17 @@ hearer_waits g (Post r) s k i = true_false (sym i)
 hearer_waits g (Create class procedure actuals passes) s k i = true_false (sym i)
 hearer_waits g (Fail why) s k i = true_false (sym i)
 
--- ---- what another one reserves is nobody's
+-- ---- what another one reserves may be reserved
 
-free_of : (s : State) (ls : List ℕ) (mark : List Marked) (k : ℕ) → may_reserve (standing_in s) s.rights ls mark ≡ true → is_among k ls ≡ true → s.rights.queue k ≡ None
+free_of : (s : State) (ls : List ℕ) (mark : List Marked) (k : ℕ) → may_reserve (standing_in s) s.rights ls mark ≡ true → is_among k ls ≡ true →
+    may_be_reserved (standing_in s k) (s.rights.queue k) ≡ true
 free_of s ls mark k e i =
-    none_is (s.rights.queue k)
-    (and_right (is_idle (standing_in s k) && not (standing_in s k).has_requests) (is_none (s.rights.queue k))
-    (all_among (λ (j : ℕ). may_be_reserved (standing_in s j) (s.rights.queue j)) ls k
-    (and_left (list_all (λ (j : ℕ). may_be_reserved (standing_in s j) (s.rights.queue j)) ls) (mark_allows (λ (j : ℕ). (standing_in s j).sessions) mark) e) i))
-  where
-    none_is : (o : Option ℕ) → is_none o ≡ true → o ≡ None
-    none_is None e = refl
-    none_is (Some j) e = true_false (sym e)
+    all_among (λ (j : ℕ). may_be_reserved (standing_in s j) (s.rights.queue j)) ls k
+    (and_left (list_all (λ (j : ℕ). may_be_reserved (standing_in s j) (s.rights.queue j)) ls) (mark_allows (λ (j : ℕ). (standing_in s j).sessions) mark) e) i
 
 module _ (h : ℕ) (s : State) where
   abbrev pub GrantedFree : Job → Type 0
-  GrantedFree (job.Granted ls) = (k : ℕ) → is_among k ls.items ≡ true → s.rights.queue k ≡ None
+  GrantedFree (job.Granted ls) = (k : ℕ) → is_among k ls.items ≡ true → may_be_reserved (standing_in s k) (s.rights.queue k) ≡ true
   GrantedFree j = Unit {0}
 
   of_awaiting : (k : ℕ) (c : Bool) (p : Option Posted) (a : Option Answer) (j : Job) → job_awaiting k c p a ≡ Some j → GrantedFree j

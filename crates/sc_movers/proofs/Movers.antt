@@ -1,15 +1,14 @@
 -- Movers are movers: their turns commute with those of others.
-use Rattle.std.proofs.Common.{◌≡◌, ◌∙◌, ◌&&◌, ℕ, Bool, true, false, Option, Some, None, refl, sym, ap}
+use Rattle.std.proofs.Common.{◌≡◌, ◌∙◌, ◌==◌, ◌&&◌, ℕ, Bool, true, false, Option, Some, None, refl, sym, ap}
 use Rattle.std.specs.Prelude.{if◌then◌else◌, is_some}
 use Rattle.std.proofs.Math.Path.{fun_ext}
 use Rattle.std.proofs.lemmas.Bool.{ne_eqb}
 use Rattle.sc_lockpass.specs.declared.version.Version.{Version}
 use Rattle.sc_code.specs.declared.program.Image.{Image}
 use Rattle.sc_region.specs.declared.job.Job.{Job}
-use Rattle.sc_region.specs.declared.job.Job.TheVariants as job
 use Rattle.sc_lockpass.specs.Rights.{is_among}
 use Rattle.sc_handler.specs.Changes.{session_ended}
-use Rattle.sc_handler.specs.Handlers.{State}
+use Rattle.sc_handler.specs.Handlers.{Handler, State}
 use Rattle.sc_handler.specs.Canonical.{canon}
 use Rattle.sc_handler.specs.Picking.{job_of}
 use Rattle.sc_play.specs.Contents.{Contents, contents_at}
@@ -24,8 +23,8 @@ use Rattle.sc_movers.specs.Movers.{IsMover, IsMoverTurn, StaysSeen, TurnsAreMove
 use Rattle.sc_movers.specs.Returned.{AllReturnOwn, AllUnlentWait, IdleHasNoTop, IdleHaveNoTops, NoIdleIsPushed, ReturnsAreOwn, ReturnsOwn, UnlentWait, UnlentWaits}
 use Rattle.sc_movers.proofs.ChangedStates.{changed, true_false}
 use Rattle.sc_movers.proofs.Kept.{Goes, Idles, TurnCases, cases_turn, is_of, job_is, kept_machine, out_none, plays_on, turn_from, turn_of_job, whole_machine}
-use Rattle.sc_movers.proofs.MoveChanges.{AreIts, Move, change, failure_so, for, heard_at, hears_failure, hears_refused, hears_stage, moved_at, refused_so, sent_as, stage_so, stand_for, stands_as}
-use Rattle.sc_movers.proofs.MoverTurns.{after_own, after_state, are_its, before_own, both_kept, move, own_after, own_there, same_due, state_moved}
+use Rattle.sc_movers.proofs.MoveChanges.{AreThere, Move, change, failure_so, for, heard_at, hears_failure, hears_refused, hears_stage, moved_at, refused_so, sent_as, stage_so, stand_for, stands_as, takes_as, takes_failure, takes_refused, takes_stage}
+use Rattle.sc_movers.proofs.MoverTurns.{after_own, after_state, are_there, before_own, both_kept, move, own_after, own_there, same_due, state_moved}
 
 -- ---- movers
 
@@ -52,7 +51,7 @@ module _ (turn_alike : KeptAlikeTurnAlike) (open_of : OpeningsAreOf) (stay : Run
     after = o.after;
     played = o.played;
     kept_before = o.kept_is;
-    turn = turn_of_job g job.Go o.before o.after (out_none turn_alike open_of stay p v g o.before o.played) o.own.goes o.own.makes;
+    turn = turn_of_job g o.own.job o.before o.after (out_none turn_alike open_of stay p v g o.before o.played) o.own.due o.own.makes;
     kept_after = refl;
   }
 
@@ -61,16 +60,16 @@ module _ (turn_alike : KeptAlikeTurnAlike) (open_of : OpeningsAreOf) (stay : Run
   own_played g k o = plays_on turn_alike open_of stay p v g o.before o.after o.played (own_turn g k o).turn
 
   has : (g : ℕ) (k : PlainKept) → IsReached p v k → bad k ≡ false → IsMover p v g k → has_turn g k ≡ true
-  has g k r good o = ap is_some (sym (job_is turn_alike open_of stay p v g k o.before o.kept_is) ∙ o.own.goes)
+  has g k r good o = ap is_some (sym (job_is turn_alike open_of stay p v g k o.before o.kept_is) ∙ o.own.due)
 
-  are : (g : ℕ) (k : PlainKept) → (o : IsMover p v g k) → AreIts g (move g o.before o.after o.own) o.before.center.state
-  are g k o = are_its g o.before o.after o.own (is_of turn_alike open_of stay p v o.before o.played).counted.rights (unlent_wait o.before o.played)
+  are : (g : ℕ) (k : PlainKept) → (o : IsMover p v g k) → AreThere g (move g o.before o.after o.own) o.before.center.state
+  are g k o = are_there g o.before o.after o.own (is_of turn_alike open_of stay p v o.before o.played).counted.rights (unlent_wait o.before o.played)
 
   module _ (g h : ℕ) (k moved : PlainKept) (meet : Meets g h k moved) where
     abbrev o : IsMover p v g k
     o = meet.mover
 
-    abbrev own_are : AreIts g (move g o.before o.after o.own) o.before.center.state
+    abbrev own_are : AreThere g (move g o.before o.after o.own) o.before.center.state
     own_are = are g k o
 
     abbrev tops : IdleHasNoTop o.before.center.state
@@ -201,17 +200,19 @@ seen g x y tops own =
     let same = state_moved g x y own tops in
     let m : Move = move g x y own in
     let t : State = x.center.state in
+    let takes : ℕ → Bool = λ k. m.takes && k == g in
+    let at : ℕ → Handler = λ k. moved_at g m k (t.handlers k) in
     record {
       count = ap (λ (s : State). s.count) same;
       failure = λ k.
-          ap (λ (s : State). (s.handlers k).failure) same ∙ hears_failure (heard_at k m.answers) (moved_at g m k (t.handlers k))
+          ap (λ (s : State). (s.handlers k).failure) same ∙ hears_failure (heard_at k m.answers) (takes_as (takes k) (at k)) ∙ takes_failure (takes k) (at k)
           ∙ failure_so (stand_for g k m.stand) (m.ends && is_among k m.frees) (for k m.sent) (t.handlers k);
       refused = λ k.
-          ap (λ (s : State). (s.handlers k).refused) same ∙ hears_refused (heard_at k m.answers) (moved_at g m k (t.handlers k))
+          ap (λ (s : State). (s.handlers k).refused) same ∙ hears_refused (heard_at k m.answers) (takes_as (takes k) (at k)) ∙ takes_refused (takes k) (at k)
           ∙ refused_so (stand_for g k m.stand) (m.ends && is_among k m.frees) (for k m.sent) (t.handlers k);
       others = λ k apart.
           ap (λ (s : State). (s.handlers k).stage) same
-          ∙ hears_stage (heard_at k m.answers) (moved_at g m k (t.handlers k))
+          ∙ hears_stage (heard_at k m.answers) (takes_as (takes k) (at k)) ∙ takes_stage (takes k) (at k)
           ∙ ap (λ (b : Bool). (stands_as (if b then m.stand else None) (session_ended (m.ends && is_among k m.frees) (sent_as (for k m.sent) (t.handlers k)))).stage) (ne_eqb k g apart)
           ∙ stage_so (m.ends && is_among k m.frees) (for k m.sent) (t.handlers k);
     }
@@ -222,7 +223,9 @@ failed_by_state k l e = ap (λ (s : State). some_below s.count (λ h. is_some (s
 failed_by_change : (g : ℕ) (m : Move) (s : State) (c : ℕ → Contents) →
     has_failed (record { state = canon (changed (change g m) s); regions = c }) ≡ has_failed (record { state = canon s; regions = c })
 failed_by_change g m s c =
-    ap (some_below s.count) (fun_ext (λ (k : ℕ). ap is_some (hears_failure (heard_at k m.answers) (moved_at g m k (s.handlers k)) ∙ failure_so (stand_for g k m.stand) (m.ends && is_among k m.frees) (for k m.sent) (s.handlers k))))
+    ap (some_below s.count) (fun_ext (λ (k : ℕ). ap is_some (
+    hears_failure (heard_at k m.answers) (takes_as (m.takes && k == g) (moved_at g m k (s.handlers k))) ∙ takes_failure (m.takes && k == g) (moved_at g m k (s.handlers k))
+    ∙ failure_so (stand_for g k m.stand) (m.ends && is_among k m.frees) (for k m.sent) (s.handlers k))))
 
 pub turns_are_movers : KeptAlikeTurnAlike → OpeningsAreOf → RunsStayOf → RunsAreFunctional → AllReturnOwn → NoIdleIsPushed → AllUnlentWait → TurnsAreMovers
 turns_are_movers turn_alike open_of stay one_run return_own idle_pushed unlent_wait s root faultless well p v program fits =

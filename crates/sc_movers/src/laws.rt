@@ -87,9 +87,9 @@ pub fn who_waits_unlent_hears_nothing()
     sound_jobs_are_taken();
 }
 
-/// In the program of an accepted system the turns that ask nothing of other handlers, those that release what is their
-/// handler's own, those that ask a free handler, and the ends of requests with which nothing was passed are movers: they may be
-/// played at once, before any turn of others.
+/// In the program of an accepted system these turns are movers, which may be played at once, before any turn of others: those
+/// that ask nothing of other handlers, that release what is their handler's own, or that ask a free handler; the ends of
+/// requests with which nothing was passed; and those that take a request, if no other handler may post to theirs before.
 pub fn turns_are_movers()
     ensures { TurnsAreMovers }
 {
