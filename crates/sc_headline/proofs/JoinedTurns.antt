@@ -1,5 +1,5 @@
 -- A search that joins turns with others that may follow at once, beside the machine of what is kept.
-use Rattle.std.proofs.Common.{◌≡◌, ◌<◌, ◌++◌, ◌∙◌, ◌||◌, inl, inr, ℕ, zero, suc, Bool, true, false, List, [], ◌∷◌, Option, Some, None, get_or, is_some, refl, sym, ap, subst, arith}
+use Rattle.std.proofs.Common.{◌≡◌, ◌<◌, ◌++◌, ◌∙◌, ◌||◌, inl, inr, ℕ, Bool, true, false, List, [], ◌∷◌, Option, Some, None, get_or, is_some, refl, sym, ap, subst, arith}
 use Rattle.std.specs.List.{list_any, range_with_len}
 use Rattle.std.specs.Prelude.{map, slice_set}
 use Rattle.std.proofs.lemmas.Bool.{cases_lt}
@@ -12,7 +12,6 @@ use Rattle.sc_model.specs.declared.status.Status.{Status}
 use Rattle.sc_model.specs.declared.status.Status.TheVariants.{Free}
 use Rattle.sc_code.specs.declared.program.Image.{Image}
 use Rattle.sc_region.specs.declared.job.Job.{Job}
-use Rattle.sc_region.specs.declared.job.Job.TheVariants as job
 use Rattle.sc_handler.specs.Handlers.{HandlerStage, State}
 use Rattle.sc_handler.specs.Picking.{job_of, status_with}
 use Rattle.sc_counts.proofs.Jobs.{job_canon}
@@ -37,9 +36,8 @@ use Rattle.sc_search.specs.Aims.{AreStuck, HasFailed, HasRefused, IsMet, tells_f
 use Rattle.sc_search.specs.Closed.{IsAmong, IsClosed, IsTried}
 use Rattle.sc_search.specs.Joined.{FollowsAtOnce, GoesOn}
 use Rattle.sc_search.specs.Waiting.{AreMoving, IsAnewTurn, seeks_stuck}
-use Rattle.sc_search.proofs.TriedTurns.{plays_on}
 use Rattle.sc_search.proofs.Waits.{idle_job}
-use Rattle.sc_headline.proofs.Statuses.{busy_at, busy_needs, failed_alike, failures_alike, is_busy, is_waiting, none_busy, same_rule, waiting_is, waits_at}
+use Rattle.sc_headline.proofs.Statuses.{busy_at, busy_needs, failed_alike, failures_alike, is_busy, is_waiting, moves_under, none_busy, waiting_is, waits_at}
 
 abbrev state_of : PlainKept → State
 state_of k = k.state
@@ -142,13 +140,14 @@ module _ (alike : KeptAlikeReadAlike) (open_of : OpeningsAreOf) (stay : RunsStay
           before = x;
           after = record {
             most = x.most;
-            center = settles x.most h job.Go 1 wants.outcome.want (picked h job.Go x.center);
+            center = settles x.most h asks.job 1 wants.outcome.want (picked h asks.job x.center);
             regions = slice_set x.regions h wants.after;
           };
           played = played;
           kept_is = refl;
           own = record {
-            goes = sym (pick_is h x.center ((of_program x played).nobody_out h)) ∙ asks.goes;
+            job = asks.job;
+            due = sym (pick_is h x.center ((of_program x played).nobody_out h)) ∙ asks.due;
             makes = record {
               before = asks.region;
               after = wants.after;
@@ -157,7 +156,7 @@ module _ (alike : KeptAlikeReadAlike) (open_of : OpeningsAreOf) (stay : RunsStay
               regions = refl;
               most = refl;
             };
-            moves = same_rule h wants.outcome.want x.center.state ∙ wants.follows;
+            moves = moves_under h asks.job wants.outcome.want x.center.state asks.ready wants.follows;
           };
         }
 
@@ -172,7 +171,7 @@ module _ (alike : KeptAlikeReadAlike) (open_of : OpeningsAreOf) (stay : RunsStay
 
       -- it has a turn
       has_one : has_turn g (kept o.before) ≡ true
-      has_one = ap is_some (job_canon g o.before.center.state ∙ o.own.goes)
+      has_one = ap is_some (job_canon g o.before.center.state ∙ o.own.due)
 
       is_busy_there : busy_at g o.before ≡ true
       is_busy_there = by (busy_at g o.before) refl
@@ -232,11 +231,11 @@ module _ (alike : KeptAlikeReadAlike) (open_of : OpeningsAreOf) (stay : RunsStay
       abbrev Chain : PlainKept → Type 0
       Chain k = LeadsTo (Turn p v) never (IsMover p v) (IsAmong ks) k
 
-      leads_on : (h n : ℕ) (x y : PlainWorld) → IsPlayed p v x → GoesOn h n x y → Chain (kept y) → Chain (kept x)
-      leads_on h zero x y played same chain = subst (λ (w : PlainWorld). Chain (kept w)) same chain
-      leads_on h (suc n) x y played on chain =
-          let there = plays_on p v h n x on.0 played on.1 in
-          leads_on h n x on.0 played on.1 (Moved (kept on.0) h (kept y) (follows_mover h on.0 there on.2) (turn_kept h on.0 y there on.3) refl chain)
+      leads_on : (hs : List ℕ) (x y : PlainWorld) → IsPlayed p v x → GoesOn hs x y → Chain (kept y) → Chain (kept x)
+      leads_on [] x y played same chain = subst (λ (w : PlainWorld). Chain (kept w)) same chain
+      leads_on (h ∷ hs) x y played on chain =
+          let next : IsPlayed p v on.1 = (played.0 ++ h ∷ [], runs-more played.0 h (opened p v) x on.1 played.1 on.2) in
+          Moved (kept x) h (kept on.1) (follows_mover h x played on.0) (turn_kept h x on.1 played on.2) refl (leads_on hs on.1 y next on.3 chain)
 
       tried : (k : PlainKept) → IsAmong ks k → (h : ℕ) → IsTried p v closed.joined ks k h
       tried k among h = closed.tried among.number k among.stands h
@@ -258,7 +257,7 @@ module _ (alike : KeptAlikeReadAlike) (open_of : OpeningsAreOf) (stay : RunsStay
           let t = tried k among h in
           let hs = t.stands_in.handlers in
           let next : IsPlayed p v t.turn.next = (hs ++ h ∷ [], runs-more hs h (opened p v) t.before t.turn.next t.stands_in.runs t.turn.turn) in
-          leads_on h t.turn.on.turns t.turn.next t.after next t.turn.on.goes_on (Kept (kept t.after) t.among)
+          leads_on t.turn.on.handlers t.turn.next t.after next t.turn.on.goes_on (Kept (kept t.after) t.among)
 
       are_closed : AreClosed (Turn p v) has_turn never (IsReached p v) (IsMover p v) (kept (opened p v)) (IsAmong ks)
       are_closed = record {

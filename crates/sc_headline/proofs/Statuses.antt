@@ -1,5 +1,5 @@
 -- Statuses of handlers, and what they tell.
-use Rattle.std.proofs.Common.{◌≡◌, ◌<◌, ◌∙◌, ◌&&◌, ◌||◌, inl, inr, ℕ, zero, suc, Bool, true, false, List, [], ◌∷◌, Option, Some, None, get_or, is_some, refl, sym, ap, arith}
+use Rattle.std.proofs.Common.{◌≡◌, ◌<◌, ◌∙◌, ◌&&◌, ◌||◌, not, inl, inr, ℕ, zero, suc, Bool, true, false, List, [], ◌∷◌, Option, Some, None, get_or, is_some, refl, sym, ap, arith}
 use Rattle.std.specs.List.{list_any, range_with_len}
 use Rattle.std.specs.Prelude.{map}
 use Rattle.std.proofs.lemmas.Bool.{cases_lt}
@@ -8,19 +8,22 @@ use Rattle.std.proofs.lemmas.List.{get_or_past}
 use Rattle.sc_model.specs.declared.cause.Cause.{Cause}
 use Rattle.sc_model.specs.declared.status.Status.{Status}
 use Rattle.sc_model.specs.declared.status.Status.TheVariants.{Busy, Failed, Free, Waiting}
+use Rattle.sc_region.specs.declared.job.Job.{Job}
+use Rattle.sc_region.specs.declared.job.Job.TheVariants as job
 use Rattle.sc_region.specs.declared.job.Want.{Want}
 use Rattle.sc_region.specs.declared.job.Want.TheVariants as want
-use Rattle.sc_handler.specs.Handlers.{Awaits, HandlerStage, HasMade, Idle, Reserves, Runs, Service, State}
+use Rattle.sc_handler.specs.Fits.{is_none_of}
+use Rattle.sc_handler.specs.Handlers.{Awaits, HandlerStage, HasMade, Idle, Posted, Reserves, Runs, Service, State, has_frames}
 use Rattle.sc_handler.specs.Picking.{job_of, status_with}
 use Rattle.sc_request.specs.Logs.{status_in}
 use Rattle.sc_world.specs.Reports.{statuses}
 use Rattle.sc_world.specs.Worlds.{PlainWorld}
 use Rattle.sc_request.specs.Settling.{may_post_to_all}
 use Rattle.sc_movers.specs.Movers as movers
-use Rattle.sc_movers.specs.Movers.{is_mover}
+use Rattle.sc_movers.specs.Movers.{is_mover, is_mover_under, takes_first}
 use Rattle.sc_search.specs.declared.aims.Aim.TheVariants as aim
 use Rattle.sc_search.specs.Aims.{tells_failure}
-use Rattle.sc_search.specs.Joined.{ends_plainly, may_follow}
+use Rattle.sc_search.specs.Joined.{ends_plainly, goes_at_once, is_next_plain, is_ready, is_uncontested_by, may_follow, takes_at_once}
 
 -- ---- statuses
 
@@ -54,22 +57,60 @@ busy_needs None false (HasMade k) e = cc
 busy_needs None false (Reserves ks mark) e = cc
 busy_needs None false (Awaits k is_creation) e = cc
 
+-- ---- the rule of the search is that of movers
+
 same_ends : (refused : Bool) (vs : List Service) → movers.ends_plainly refused vs ≡ ends_plainly refused vs
 same_ends refused [] = refl
 same_ends refused (e ∷ es) = refl
 
--- the rule of the search is that of movers
-pub same_rule : (h : ℕ) (w : Want) (s : State) → is_mover h w s ≡ may_follow h w s
-same_rule h want.Continue s = refl
-same_rule h (want.Release ks) s = refl
-same_rule h (want.Wait ks) s = refl
-same_rule h (want.Reserve ks) s = refl
-same_rule h (want.Post r) s = refl
-same_rule h (want.Ask r true) s = refl
-same_rule h (want.Ask r false) s = refl
-same_rule h (want.Create class procedure actuals passes) s = refl
-same_rule h (want.Done v ks refused) s = ap (λ (b : Bool). may_post_to_all h ks.items s && b) (same_ends refused (s.handlers h).services)
-same_rule h (want.Fail why) s = refl
+same_goes : (h : ℕ) (w : Want) (s : State) → is_mover h w s ≡ goes_at_once h w s
+same_goes h want.Continue s = refl
+same_goes h (want.Release ks) s = refl
+same_goes h (want.Wait ks) s = refl
+same_goes h (want.Reserve ks) s = refl
+same_goes h (want.Post r) s = refl
+same_goes h (want.Ask r true) s = refl
+same_goes h (want.Ask r false) s = refl
+same_goes h (want.Create class procedure actuals passes) s = refl
+same_goes h (want.Done v ks refused) s = ap (λ (b : Bool). may_post_to_all h ks.items s && b) (same_ends refused (s.handlers h).services)
+same_goes h (want.Fail why) s = refl
+
+same_uncontested : (h : ℕ) (o : Option ℕ) (ps : List Posted) → movers.is_uncontested_by h o ps ≡ is_uncontested_by h o ps
+same_uncontested h None ps = refl
+same_uncontested h (Some p) ps = refl
+
+same_plain : (ps : List Posted) → movers.is_next_plain ps ≡ is_next_plain ps
+same_plain [] = refl
+same_plain (q ∷ qs) = refl
+
+same_takes : (h : ℕ) (w : Want) (s : State) → takes_first h w s ≡ takes_at_once h w s
+same_takes h want.Continue s = refl
+same_takes h (want.Release ks) s = refl
+same_takes h (want.Wait ks) s = refl
+same_takes h (want.Reserve ks) s = refl
+same_takes h (want.Post r) s = refl
+same_takes h (want.Ask r passes) s = refl
+same_takes h (want.Create class procedure actuals passes) s = refl
+same_takes h (want.Done v ks true) s = refl
+same_takes h (want.Done v ks false) s = ap (λ (b : Bool). is_none_of ks.items && b) (same_plain (s.handlers h).queue)
+same_takes h (want.Fail why) s = refl
+
+pub moves_under : (h : ℕ) (j : Job) (w : Want) (s : State) → is_ready h j s ≡ true → may_follow h j w s ≡ true → is_mover_under h j w s ≡ true
+moves_under h job.Go w s ready follows = same_goes h w s ∙ follows
+moves_under h (job.Take r) w s ready follows =
+    by (not (has_frames (s.handlers h).stage)) (movers.is_uncontested h s) (takes_first h w s)
+    (ap (λ (b : Bool). not (has_frames (s.handlers h).stage) && b) (same_uncontested h (s.rights.queue h) (s.handlers h).queue) ∙ ready)
+    (same_takes h w s ∙ follows)
+  where
+    by : (a b c : Bool) → (a && b) ≡ true → c ≡ true → (a && b && c) ≡ true
+    by true true c both e = e
+    by true false c both e = cc
+    by false b c both e = cc
+moves_under h (job.Reply v) w s ready follows = cc
+moves_under h job.Failed w s ready follows = cc
+moves_under h job.Refused w s ready follows = cc
+moves_under h (job.Granted ks) w s ready follows = cc
+moves_under h (job.Made k) w s ready follows = cc
 
 -- where none of the statuses passes a test that a busy one passes, no handler is busy
 pub none_busy : (P : Status → Bool) (ss : List Status) (h : ℕ) → list_any P ss ≡ false → P Busy ≡ true → is_busy (get_or ss h Free) ≡ false

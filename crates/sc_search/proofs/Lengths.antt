@@ -104,7 +104,7 @@ module _ (alike : KeptAlikeReadAlike) (open_of : OpeningsAreOf) (stay : RunsStay
             | inl none ↦ here none
             | inr job ↦
                 let e : Edge = is.has.edge in
-                let n = 1 + t.tried.turn.on.turns in
+                let n = 1 + length t.tried.turn.on.handlers in
                 let longer = way_more x.edges i 0 count sum is.has.place e is.has.at is.has.from_is way in
                 let to = t.tried.among.number in
                 let next : IsWay x.edges to 0 longer.count longer.turns = subst (λ (m : ℕ). IsWay x.edges m 0 longer.count longer.turns) is.has.to_is longer.way in
@@ -147,7 +147,7 @@ module _ (alike : KeptAlikeReadAlike) (open_of : OpeningsAreOf) (stay : RunsStay
         ap (λ (j : Option Job). is_some j) (sym (same_job t.handler t.before w t.played is_in.0 same)) ∙ t.has_job in
         let played : IsPlayed p v t.after = plays_joined p v joined t.handler t.before t.after t.played t.turn in
         let others = goes to e.to fewer more rest t.after (played, t.to) in
-        let n = 1 + t.turn.on.turns in
+        let n = 1 + length t.turn.on.handlers in
         let step : IsStep p v joined t.handler n w t.after =
         record { has_job = job; before = t.before; played = t.played; alike = same; turn = t.turn; count = refl } in
         record {

@@ -14,4 +14,3 @@ mod IdleHandlers
 mod Verdicts
 mod Rows
 mod Lengths
-mod Follows

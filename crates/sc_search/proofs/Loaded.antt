@@ -1,5 +1,5 @@
 -- Worlds that are loaded, and the worlds that were reached.
-use Rattle.std.proofs.Common.{◌≡◌, ◌⊎◌, ◌≤◌, ◌<◌, ◌+◌, ◌++◌, ◌∷◌, [], ◌∙◌, ℕ, zero, suc, true, List, Option, Some, None, get_or, is_some, length, slice_get, refl, sym, ap, subst, append_assoc}
+use Rattle.std.proofs.Common.{◌≡◌, ◌⊎◌, ◌≤◌, ◌<◌, ◌+◌, ◌++◌, ◌∷◌, [], ◌∙◌, ℕ, true, List, Option, Some, None, get_or, is_some, length, slice_get, refl, sym, ap, subst, append_assoc}
 use Rattle.std.proofs.lemmas.List.{append-nil}
 use Rattle.std.proofs.lemmas.Option.{get_or_from_slice_get}
 use Rattle.sc_lockpass.specs.Versions.{most_handlers}
@@ -7,6 +7,7 @@ use Rattle.sc_lockpass.specs.declared.version.Version.{Version}
 use Rattle.sc_model.specs.declared.status.Status.{Status}
 use Rattle.sc_code.specs.declared.program.Image.{Image}
 use Rattle.sc_region.specs.declared.job.Job.{Job}
+use Rattle.sc_handler.specs.Canonical.{canon}
 use Rattle.sc_request.specs.Logs.{pick_for}
 use Rattle.sc_play.specs.Regions.{PlainRegion}
 use Rattle.sc_world.specs.Free.{OpeningsAreLinked, RunsStayLinked}
@@ -24,7 +25,7 @@ use Rattle.sc_search.specs.Stops.{AreReached, MeetsAfter}
 use Rattle.sc_search.specs.Stored.{IsAlikeAfter, IsBacked}
 use Rattle.sc_search.specs.Views.{Met}
 use Rattle.sc_search.specs.Waiting.{IsPlayed}
-use Rattle.sc_search.proofs.Joins.{same_follow}
+use Rattle.sc_search.proofs.Joins.{goes_runs, same_follow, same_ready}
 use Rattle.sc_search.proofs.KeptStates.{met_alike}
 use Rattle.sc_search.proofs.Reasons.{there_is}
 use Rattle.sc_search.proofs.TriedTurns.{plays_on, tries, tries_none}
@@ -109,51 +110,51 @@ module _ (open_of : OpeningsAreOf) (stay_of : RunsStayOf) (p : Image) (v : Versi
     follows_alike : (h : ℕ) (x y : PlainWorld) → AreKeptAlike p (most_handlers v) x y → FollowsAtOnce h x → FollowsAtOnce h y
     follows_alike h x y alike asks =
         let wants = asks.wants in
+        let states : canon y.center.state ≡ canon x.center.state = ap (λ (k : PlainKept). k.state) (sym alike.same) in
         record {
-          goes = sym ((alike_read p (most_handlers v) x y alike).jobs h) ∙ asks.goes;
+          job = asks.job;
+          due = sym ((alike_read p (most_handlers v) x y alike).jobs h) ∙ asks.due;
+          ready = same_ready h asks.job y.center.state x.center.state states ∙ asks.ready;
           region = asks.region;
           stands = ap (λ (rs : List PlainRegion). slice_get rs h) (sym (regions_are p (most_handlers v) x y alike)) ∙ asks.stands;
           wants = record {
             after = wants.after;
             outcome = wants.outcome;
             plays = wants.plays;
-            follows =
-                same_follow h wants.outcome.want y.center.state x.center.state (ap (λ (k : PlainKept). k.state) (sym alike.same)) ∙ wants.follows;
+            follows = same_follow h asks.job wants.outcome.want y.center.state x.center.state states ∙ wants.follows;
           };
         }
 
     -- turns that follow at once stay in the program
-    of_on : (h n : ℕ) (x y : PlainWorld) → IsOf p (most_handlers v) x → GoesOn h n x y → IsOf p (most_handlers v) y
-    of_on h zero x y of same = subst (IsOf p (most_handlers v)) (sym same) of
-    of_on h (suc n) x y of on = stay_of p (most_handlers v) (h ∷ []) on.0 y (of_on h n x on.0 of on.1) (y, on.3, refl)
+    of_on : (hs : List ℕ) (x y : PlainWorld) → IsOf p (most_handlers v) x → GoesOn hs x y → IsOf p (most_handlers v) y
+    of_on hs x y of on = stay_of p (most_handlers v) hs x y of (goes_runs hs x y on)
 
     -- they go on alike from a world that was played
-    goes_alike : (h n : ℕ) (x y w : PlainWorld) → IsOf p (most_handlers v) x → IsPlayed p v w → kept w ≡ kept x → GoesOn h n x y → (z : PlainWorld) × GoesOn h n w z × (kept z ≡ kept y)
-    goes_alike h zero x y w of played same on = (w, refl, same ∙ ap kept (sym on))
-    goes_alike h (suc n) x y w of played same on =
-        let m = on.0 in
-        let before = goes_alike h n x m w of played same on.1 in
-        let there : IsPlayed p v before.0 = plays_on p v h n w before.0 played before.1 in
-        let alike : AreKeptAlike p (most_handlers v) m before.0 =
-        record { of = of_on h n x m of on.1; its = of_reached there.0 before.0 there.1; same = sym before.2 } in
-        let t = alike_turn p (most_handlers v) m before.0 alike h y on.3 in
-        (t.after, (before.0, before.1, follows_alike h m before.0 alike on.2, t.turn), t.kept)
+    goes_alike : (hs : List ℕ) (x y w : PlainWorld) → IsOf p (most_handlers v) x → IsPlayed p v w → kept w ≡ kept x → GoesOn hs x y → (z : PlainWorld) × GoesOn hs w z × (kept z ≡ kept y)
+    goes_alike [] x y w of played same on = (w, refl, same ∙ ap kept (sym on))
+    goes_alike (h ∷ hs) x y w of played same on =
+        let m = on.1 in
+        let alike : AreKeptAlike p (most_handlers v) x w = record { of = of; its = of_reached played.0 w played.1; same = sym same } in
+        let t = alike_turn p (most_handlers v) x w alike h m on.2 in
+        let there : IsPlayed p v t.after = (played.0 ++ h ∷ [], runs-more played.0 h (opened p v) w t.after played.1 t.turn) in
+        let rest = goes_alike hs m y t.after (stay_of p (most_handlers v) (h ∷ []) x m of (m, on.2, refl)) there t.kept on.3 in
+        (rest.0, (follows_alike h x w alike on.0, t.after, t.turn, rest.1), rest.2)
 
     -- a turn in a loaded world, joined with others, is tried
     pub tries_alike : (a : Aim) (joined : ℕ) (order : List ℕ) (number h counted : ℕ) (w m u : PlainWorld) (x y : Met) → IsOf p (most_handlers v) w →
         IsOf p (most_handlers v) m → IsAlikeAfter p v order w → slice_get x.states number ≡ Some (kept w) → is_some (pick_for h w.center) ≡ true → IsTurn h w m →
-        (on : GoesOnUpTo joined h m u) → 1 + on.turns ≤ counted → Keeps a u (Some number) counted x y → Tries p v a joined x y number h
+        (on : GoesOnUpTo joined m u) → 1 + length on.handlers ≤ counted → Keeps a u (Some number) counted x y → Tries p v a joined x y number h
     tries_alike a joined order number h counted w m u x y of its after at job turn on few keeps =
         let start : AreKeptAlike p (most_handlers v) w after.world = record { of = of; its = of_reached order after.world after.runs; same = sym after.alike } in
         let t = alike_turn p (most_handlers v) w after.world start h m turn in
         let has_job : is_some (pick_for h after.world.center) ≡ true = ap (λ (j : Option Job). is_some j) (sym ((alike_read p (most_handlers v) w after.world start).jobs h)) ∙ job in
         let next : IsPlayed p v t.after = (order ++ h ∷ [], runs-more order h (opened p v) after.world t.after after.runs t.turn) in
-        let last = goes_alike h on.turns m u t.after its next t.kept on.goes_on in
-        let there : IsPlayed p v last.0 = plays_on p v h on.turns t.after last.0 next last.1 in
+        let last = goes_alike on.handlers m u t.after its next t.kept on.goes_on in
+        let there : IsPlayed p v last.0 = plays_on p v on.handlers t.after last.0 next last.1 in
         let same : statuses last.0 ≡ statuses u =
-        (alike_read p (most_handlers v) last.0 u (record { of = of_reached there.0 last.0 there.1; its = of_on h on.turns m u its on.goes_on; same = last.2 })).statuses in
+        (alike_read p (most_handlers v) last.0 u (record { of = of_reached there.0 last.0 there.1; its = of_on on.handlers m u its on.goes_on; same = last.2 })).statuses in
         tries p v a joined order number h counted after.world last.0 x y after.runs (at ∙ ap (λ (z : PlainKept). Some z) (sym after.alike)) has_job
-        (record { next = t.after; turn = t.turn; on = record { turns = on.turns; few = on.few; goes_on = last.1 } })
+        (record { next = t.after; turn = t.turn; on = record { handlers = on.handlers; few = on.few; goes_on = last.1 } })
         few (keeps_alike a last.0 u (Some number) counted x y last.2 same keeps)
 
     -- without a job in a loaded world, none is tried

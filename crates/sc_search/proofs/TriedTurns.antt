@@ -11,7 +11,7 @@ use Rattle.sc_orders.specs.declared.edges.Edge.{Edge}
 use Rattle.sc_world.specs.Kept.{PlainKept, kept}
 use Rattle.sc_world.specs.Turning.{IsTurn, Runs, TurnsUnder}
 use Rattle.sc_world.specs.Worlds.{PlainWorld, opened}
-use Rattle.sc_world.proofs.Runs.{runs-more}
+use Rattle.sc_world.proofs.Runs.{runs-join, runs-more}
 use Rattle.sc_search.specs.declared.aims.Aim.{Aim}
 use Rattle.sc_search.specs.Closed.{IsAmong, IsClosed, IsUnmet}
 use Rattle.sc_search.specs.Aims.{IsMet}
@@ -19,6 +19,7 @@ use Rattle.sc_search.specs.Joined.{GoesOn, IsJoinedTurn}
 use Rattle.sc_search.specs.Steps.{AddsEdge, AreTurns, AreUnmet, Extends, IsCountedEdge, IsEdge, IsExplored, IsTriedAlong, IsTriedAt, Keeps, Opens, OpensAlone, Stands, Tries, TriesAll}
 use Rattle.sc_search.specs.Views.{Met, nothing_met}
 use Rattle.sc_search.specs.Waiting.{IsPlayed}
+use Rattle.sc_search.proofs.Joins.{goes_runs}
 use Rattle.sc_search.proofs.KeptStates.{get_before, get_either, get_last, same_some}
 
 -- an edge that is added
@@ -58,15 +59,12 @@ module _ (p : Image) (v : Version) (a : Aim) where
 
 module _ (p : Image) (v : Version) where
   -- they are turns, one after the other
-  pub plays_on : (h n : ℕ) (x y : PlainWorld) → IsPlayed p v x → GoesOn h n x y → IsPlayed p v y
-  plays_on h zero x y played same = subst (IsPlayed p v) (sym same) played
-  plays_on h (suc n) x y played on =
-      let before = plays_on h n x on.0 played on.1 in
-      (before.0 ++ h ∷ [], runs-more before.0 h (opened p v) on.0 y before.1 on.3)
+  pub plays_on : (hs : List ℕ) (x y : PlainWorld) → IsPlayed p v x → GoesOn hs x y → IsPlayed p v y
+  plays_on hs x y played on = (played.0 ++ hs, runs-join played.0 hs (opened p v) x y played.1 (goes_runs hs x y on))
 
   pub plays_joined : (joined h : ℕ) (x y : PlainWorld) → IsPlayed p v x → IsJoinedTurn joined h x y → IsPlayed p v y
   plays_joined joined h x y played t =
-      plays_on h t.on.turns t.next y (played.0 ++ h ∷ [], runs-more played.0 h (opened p v) x t.next played.1 t.turn) t.on.goes_on
+      plays_on t.on.handlers t.next y (played.0 ++ h ∷ [], runs-more played.0 h (opened p v) x t.next played.1 t.turn) t.on.goes_on
 
 module _ (p : Image) (v : Version) (a : Aim) (joined : ℕ) where
   -- ---- states behind others
@@ -162,8 +160,8 @@ module _ (p : Image) (v : Version) (a : Aim) (joined : ℕ) where
     edge = along t.edge;
   }
     where
-      along : ((t.tried.among.number ≡ number) × (pick_for h t.tried.before.center ≡ None)) ⊎ IsCountedEdge y.edges number t.tried.among.number (1 + t.tried.turn.on.turns) →
-          ((t.tried.among.number ≡ number) × (pick_for h t.tried.before.center ≡ None)) ⊎ IsCountedEdge z.edges number t.tried.among.number (1 + t.tried.turn.on.turns)
+      along : ((t.tried.among.number ≡ number) × (pick_for h t.tried.before.center ≡ None)) ⊎ IsCountedEdge y.edges number t.tried.among.number (1 + length t.tried.turn.on.handlers) →
+          ((t.tried.among.number ≡ number) × (pick_for h t.tried.before.center ≡ None)) ⊎ IsCountedEdge z.edges number t.tried.among.number (1 + length t.tried.turn.on.handlers)
       along (inl none) = inl none
       along (inr is) =
           let has = is.has in
@@ -175,7 +173,7 @@ module _ (p : Image) (v : Version) (a : Aim) (joined : ℕ) where
   -- ---- one turn
 
   pub tries : (hs : List ℕ) (number h turns : ℕ) (u w : PlainWorld) (x y : Met) → Runs hs (opened p v) u → slice_get x.states number ≡ Some (kept u) →
-      is_some (pick_for h u.center) ≡ true → (turn : IsJoinedTurn joined h u w) → 1 + turn.on.turns ≤ turns → Keeps a w (Some number) turns x y → Tries p v a joined x y number h
+      is_some (pick_for h u.center) ≡ true → (turn : IsJoinedTurn joined h u w) → 1 + length turn.on.handlers ≤ turns → Keeps a w (Some number) turns x y → Tries p v a joined x y number h
   tries hs number h turns u w x y runs at has_job turn few keeps = record {
     extends = extends_kept hs number h turns u w x y runs at has_job turn keeps;
     tried = λ k here. record {
@@ -186,7 +184,7 @@ module _ (p : Image) (v : Version) (a : Aim) (joined : ℕ) where
         turn = turn;
         among = keeps.among;
       };
-      edge = inr (adds_here number keeps.among.number (1 + turn.on.turns) turns x.edges y.edges few keeps.edge);
+      edge = inr (adds_here number keeps.among.number (1 + length turn.on.handlers) turns x.edges y.edges few keeps.edge);
     };
   }
 
@@ -200,7 +198,7 @@ module _ (p : Image) (v : Version) (a : Aim) (joined : ℕ) where
       before = w;
       after = w;
       stands_in = record { handlers = hs; runs = stands.runs; kept = same_some (kept w) k (sym stands.stands ∙ here) };
-      turn = record { next = w; turn = stays h w e; on = record { turns = 0; few = omega arith; goes_on = refl } };
+      turn = record { next = w; turn = stays h w e; on = record { handlers = []; few = omega arith; goes_on = refl } };
       among = record { number = number; stands = stands.stands };
     };
     edge = inl (refl, e);

@@ -37,7 +37,7 @@ use Rattle.sc_search.specs.Stops.{AreReached}
 use Rattle.sc_search.specs.Views.{Met}
 use Rattle.sc_search.specs.Waiting.{AreMoving, HasStuck, IsAnewTurn, IsLed, IsLeft, IsPlayed, IsSought, MayMove, SomeWaits, column, has_status, seeks_stuck}
 use Rattle.sc_search.proofs.KeptStates.{same_some}
-use Rattle.sc_search.proofs.TriedTurns.{none_past, plays_joined, plays_on}
+use Rattle.sc_search.proofs.TriedTurns.{none_past, plays_joined}
 
 -- ---- columns
 
@@ -64,27 +64,25 @@ module _ (alike : KeptAlikeReadAlike) (open_of : OpeningsAreOf) (stay : RunsStay
 
   -- a turn that is joined with no other
   single : (h : ℕ) (w u : PlainWorld) → IsJoinedTurn 0 h w u → IsTurn h w u
-  single h w u t = subst (IsTurn h w) (sym (by t.on.turns t.on.few t.on.goes_on)) t.turn
+  single h w u t = subst (IsTurn h w) (sym (by t.on.handlers t.on.few t.on.goes_on)) t.turn
     where
-      by : (n : ℕ) → n ≤ 0 → GoesOn h n t.next u → u ≡ t.next
-      by zero few same = same
-      by (suc n) few on = absurd (omega (arith, few))
+      by : (hs : List ℕ) → length hs ≤ 0 → GoesOn hs t.next u → u ≡ t.next
+      by [] few same = same
+      by (g ∷ gs) few on = absurd (omega (arith, few))
 
   -- turns that follow at once, each in a world that is played anew
-  anew_on : (h n : ℕ) (w u : PlainWorld) → IsPlayed p v w → GoesOn h n w u → (hs : List ℕ) × orders.Leads (IsAnewTurn p v) hs w u
-  anew_on h zero w u played same = ([], same)
-  anew_on h (suc n) w u played on =
-      let before = anew_on h n w on.0 played on.1 in
-      let last : IsAnewTurn p v h on.0 u = record { before = on.0; played = plays_on p v h n w on.0 played on.1; alike = refl; turn = on.3 } in
-      (before.0 ++ h ∷ [], leads_join (IsAnewTurn p v) before.0 (h ∷ []) w on.0 u before.1 (u, last, refl))
+  anew_on : (hs : List ℕ) (w u : PlainWorld) → IsPlayed p v w → GoesOn hs w u → orders.Leads (IsAnewTurn p v) hs w u
+  anew_on [] w u played same = same
+  anew_on (h ∷ hs) w u played on =
+      let next : IsPlayed p v on.1 = (played.0 ++ h ∷ [], runs-more played.0 h (opened p v) w on.1 played.1 on.2) in
+      (on.1, record { before = w; played = played; alike = refl; turn = on.2 }, anew_on hs on.1 u next on.3)
 
   -- a turn that is joined with others
   anew_joined : (joined h : ℕ) (before after w : PlainWorld) → IsPlayed p v before → kept before ≡ kept w → IsJoinedTurn joined h before after →
       (hs : List ℕ) × orders.Leads (IsAnewTurn p v) hs w after
   anew_joined joined h before after w played alike t =
       let next : IsPlayed p v t.next = (played.0 ++ h ∷ [], runs-more played.0 h (opened p v) before t.next played.1 t.turn) in
-      let rest = anew_on h t.on.turns t.next after next t.on.goes_on in
-      (h ∷ rest.0, (t.next, record { before = before; played = played; alike = alike; turn = t.turn }, rest.1))
+      (h ∷ t.on.handlers, (t.next, record { before = before; played = played; alike = alike; turn = t.turn }, anew_on t.on.handlers t.next after next t.on.goes_on))
 
   module _ (a : Aim) (joined : ℕ) (x : Met) (os : List (List ℕ)) (rows : List (List Status)) (turns : ℕ) (explored : IsExplored p v joined x)
       (reached : AreReached p v a x.states os (rows) turns) where

@@ -20,7 +20,7 @@ pub record IsStep (p : Image) (v : Version) (joined h turns : ℕ) (x y : PlainW
   pub played : IsPlayed p v before
   pub alike : kept before ≡ kept x
   pub turn : IsJoinedTurn joined h before y
-  pub count : turns ≡ 1 + turn.on.turns
+  pub count : turns ≡ 1 + length turn.on.handlers
 
 -- Such steps of these handlers, one after the other, lead from the first world to the second. They are this number of turns.
 pub data Steps (p : Image) (v : Version) (joined : ℕ) (y : PlainWorld) : List ℕ → ℕ → PlainWorld → Type 0 where

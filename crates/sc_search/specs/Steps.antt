@@ -54,11 +54,11 @@ pub record Stands (p : Image) (v : Version) (ks : List PlainKept) (number : ℕ)
 abbrev pub IsLedTo : Image → Version → List PlainKept → ℕ → List ℕ → Type 0
 IsLedTo p v ks number path = (w : PlainWorld) × Stands p v ks number path w
 
--- Turns of the handler that may follow at once, at most this number of them, lead from the first world to the second. They
--- are counted: the second list is longer than the first by as many or more.
-pub record GoesOnCounted (most h : ℕ) (first second : List ℕ) (x y : PlainWorld) : Type 0 where
-  pub goes : GoesOnUpTo most h x y
-  pub counted : length first + goes.turns ≤ length second
+-- Turns that may follow at once, at most this number of them, lead from the first world to the second. They are those by
+-- which the second list is longer.
+pub record GoesOnBy (most : ℕ) (first second : List ℕ) (x y : PlainWorld) : Type 0 where
+  pub goes : GoesOnUpTo most x y
+  pub all : second ≡ first ++ goes.handlers
 
 -- The edge is the turn of a handler with a job, joined with others, from a world in a state to one in another, or in the
 -- same.
@@ -92,7 +92,7 @@ pub record IsCountedEdge (edges : List Edge) (from to turns : ℕ) : Type 0 wher
 pub record IsTriedAlong (p : Image) (v : Version) (joined : ℕ) (x : Met) (number : ℕ) (k : PlainKept) (h : ℕ) : Type 0 where
   pub tried : IsTried p v joined x.states k h
   pub edge : ((tried.among.number ≡ number) × (pick_for h tried.before.center ≡ None))
-      ⊎ IsCountedEdge x.edges number tried.among.number (1 + tried.turn.on.turns)
+      ⊎ IsCountedEdge x.edges number tried.among.number (1 + length tried.turn.on.handlers)
 
 abbrev pub IsTriedAt : Image → Version → ℕ → Met → Met → ℕ → ℕ → Type 0
 IsTriedAt p v joined x y number h =

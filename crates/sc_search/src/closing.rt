@@ -1,7 +1,8 @@
 //! The search over all turns.
 //!
-//! A turn that asks nothing of other handlers, releases what is its handler's own, or asks a free handler may be joined with the one
-//! before it: it does the same before and after the turns of others. Only the state that joined turns lead to is kept.
+//! A turn that asks nothing of other handlers, releases what is its handler's own, asks a free handler, or takes a request where none can
+//! be posted may be joined with the one before it: it does the same before and after the turns of others. Only the state that joined turns
+//! lead to is kept.
 ghost use Rattle.std.specs.Prelude.{◌≡◌, ◌≤◌, ◌<◌, IfNone, IfOk, IfSome, length};
 ghost use Rattle.sc_world.specs.Views.{world_in};
 ghost use Rattle.sc_world.specs.Worlds.{opened};
@@ -25,8 +26,8 @@ use sc_world::laws::{
 };
 use std::alloc::AllocError;
 
-/// Plays each turn of each state, as long as what is kept is within the limits. It is joined with the handler's next turns, at
-/// most `joined` of them, as long as these may follow at once. Returns why it stopped before all was played.
+/// Plays each turn of each state, as long as what is kept is within the limits. It is joined with further ones, at most
+/// `joined` of them, as long as these may follow at once. Returns why it stopped before all was played.
 ///
 /// # Errors
 /// Memory ran out.

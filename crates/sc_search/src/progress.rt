@@ -10,7 +10,7 @@ ghost use Rattle.sc_search.specs.Aims.{IsMet};
 ghost use Rattle.sc_search.specs.Steps.{AddsEdge, Keeps};
 
 use crate::ends::{FoundEnd, push_outcome};
-use crate::following::follow;
+use crate::following::{Start, go_on};
 use crate::judging::{Kind, is_met, some_is};
 use crate::limits::Limits;
 use crate::memory::bytes_since;
@@ -78,9 +78,9 @@ pub(crate) struct Way<'w> {
 
 impl<'p> Progress<'p> {
     ghost use Rattle.sc_search.specs.Stored.{IsAlikeAfter, IsFrom, IsTupleOf, order_after};
-    ghost use Rattle.sc_search.specs.Steps.{GoesOnCounted};
+    ghost use Rattle.sc_search.specs.Steps.{GoesOnBy};
     ghost use Rattle.sc_search.specs.Memory.{bytes_of};
-    ghost use Rattle.sc_search.specs.Stops.{HasReached, Moves, StopsFor};
+    ghost use Rattle.sc_search.specs.Stops.{HasReached, StopsFor};
     ghost use Rattle.sc_search.specs.Views.{met_of, nothing_met, orders_of, states_of, tuples_in};
 
     /// Progress of a pass with nothing searched yet. The world is the opening.
@@ -221,8 +221,8 @@ impl<'p> Progress<'p> {
         Ok(turned)
     }
 
-    /// Makes further turns of a handler in the world, which began in the state with the number: at most `most`, as long as they
-    /// may follow at once. Adds them.
+    /// Makes further turns in the world after that of a handler, with which they began in the state of the number: at most `most`, as
+    /// long as they may follow at once. Adds them.
     ///
     /// # Errors
     /// Memory ran out.
@@ -239,11 +239,13 @@ impl<'p> Progress<'p> {
         ensures store { self.new.store ≡ self.old.store }
         ensures edges { self.new.edges ≡ self.old.edges }
         ensures reached { OnOk result (HasReached subject.entry.program.now.image subject.entry.version subject.entry.aim self.new) }
-        ensures moves { OnOk result (Moves turns.old.items turns.new.items (world_in self.old.world) (world_in self.new.world)) }
-        ensures goes { OnOk result (GoesOnCounted most handler turns.old.items turns.new.items (world_in self.old.world) (world_in self.new.world)) }
+        ensures goes { OnOk result (GoesOnBy most turns.old.items turns.new.items (world_in self.old.world) (world_in self.new.world)) }
     {
-        let begun = self.store.region(number, handler);
-        follow(subject.alloc, &mut self.world, begun, handler, most, turns)?;
+        let start = Start {
+            store: &self.store,
+            number,
+        };
+        go_on(subject.alloc, &mut self.world, start, handler, most, turns)?;
         Ok(())
     }
 

@@ -39,8 +39,8 @@ const MOST_JOINED: u32 = 1_000;
 /// keeps of them takes more bytes.
 ///
 /// First, orders that differ only in turns that touch nothing of others are played once. If nothing is found so, all
-/// are played. A turn that asks nothing of others but of a free handler, or releases what is its handler's own, then follows the one
-/// before it at once.
+/// are played. A turn that asks nothing of others but of a free handler, releases what is its handler's own, or takes a request where
+/// none can be posted, then follows the one before it at once.
 /// If memory runs out meanwhile, the verdict is what the first pass has found.
 ///
 /// # Errors

@@ -6,5 +6,5 @@ use Rattle.sc_search.proofs.joining.follows_at_once.Goals as goal
 
 pub returns-in-Some : goal.returns-in-Some
 returns-in-Some c =
-    follows_so c.args.handler (world_in c.args.world.now) c.in-Some.region.now c.wants_to_follow.result (center_of c.core-core.result.now) c.core-core.ensures.center
-    (c.goes_on.ensures c.if-not-goes_on.false) (sym c.in-Some.ensures) c.wants_to_follow.ensures
+    follows_so c.args.handler c.args.job.now (world_in c.args.world.now) c.in-Some.region.now c.wants_to_follow.result (center_of c.core.result.now) c.core.ensures.center
+    c.requires.due c.requires.ready (sym c.in-Some.ensures) c.wants_to_follow.ensures
